@@ -1,0 +1,41 @@
+-- The test of a content is the rule that its identifier asks of it: each identifier of a rule picks that rule's test. Assumes nothing.
+use Prim.Native.Nat.{ℕ}
+use mathlib.Core.Path.{_≡_, refl}
+use mathlib.Core.Bool.{Bool, true, false}
+use mathlib.Core.List.{List}
+use mathlib.Core.Logic.{_↔_}
+use lib.Dec.{T, eqb}
+use borrow.Author.Tests.{eqb-true}
+use Rattle.der.specs.Utf8.{utf8}
+use Rattle.der.specs.Content.{boolean, integer, bitString, null, objectIdentifier, Content, holds}
+use Rattle.der.proofs.Productions.{utf8-exact}
+
+-- a test that is asked of the number k alone, before another that is asked of any number
+asked : (id k : ℕ) (rule other : Bool) → (id ≡ k → T rule) → T other → T (elim (eqb id k) [ true ↦ rule | false ↦ other ])
+asked id k rule other here there = go (eqb id k) refl
+  where
+    go : (b : Bool) → eqb id k ≡ b → T (elim b [ true ↦ rule | false ↦ other ])
+    go true e = here (eqb-true id k e)
+    go false e = there
+
+-- a content passes the test of its identifier exactly when it keeps the rule
+pub content-exact : (id : ℕ) (content : List ℕ) → T (holds id content) ↔ Content id content
+unfolding holds
+content-exact id c = (
+  λ t. record {
+    ofBoolean = λ e. rw e at t;
+    ofInteger = λ e. rw e at t;
+    ofBitString = λ e. rw e at t;
+    ofNull = λ e. rw e at t;
+    ofObjectIdentifier = λ e. rw e at t;
+    ofEnumerated = λ e. rw e at t;
+    ofUtf8String = λ e. utf8-exact c .0 (rw e at t);
+  },
+  λ x. asked id 0x01 (boolean c) _ (x .ofBoolean)
+      (asked id 0x02 (integer c) _ (x .ofInteger)
+      (asked id 0x03 (bitString c) _ (x .ofBitString)
+      (asked id 0x05 (null c) _ (x .ofNull)
+      (asked id 0x06 (objectIdentifier c) _ (x .ofObjectIdentifier)
+      (asked id 0x0A (integer c) _ (x .ofEnumerated)
+      (asked id 0x0C (utf8 c) true (λ e. utf8-exact c .1 (x .ofUtf8String e)) tt)))))),
+)

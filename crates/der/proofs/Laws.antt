@@ -1,0 +1,40 @@
+-- The laws of the crate that the layer above cites, gathered. Assumes nothing.
+--     passed              a test that holds is true
+--     constructed-bit     bit 6 of the identifier says that the content is a list of elements
+--     value-large         three length octets or more, the first not 00, give 65,536 or more
+--     head-fits           a header has two octets at least, and it and its content fit
+--     head-encoded        the header of an encoding is read back, whatever stands behind the element
+--     head-octets         what is read as a header and its content is their encoding
+--     InOrder             an element's places lie in order: its first byte, its content, its end, its parent's end
+--     read-in-order       an element is read in order wherever an octet stands
+--     read-at             in an input that is not too long, an element is read from the octets up to its parent's end
+--     read-at-in-order    by places: an element is read in order
+--     read-moved          octets further on are read as the same element, further on (`further`)
+--     tree-end            no octets are read as no elements
+--     tree-enough         with at least as many levels and siblings as octets, `treeOf` is the tree
+--     tree-step           where an octet stands, the tree is the element that is read there (`elementAt`) and the tree behind it
+--     tree-parts          the same where the element, its content and the octets behind it are known
+--     tree-at             by places: the tree from p to e is the element that is read at p and the tree from its end to e
+--     tree-encoded        the encoding of an element, and octets behind it, are read as that element and those octets
+--     tree-encode         the encoding of well-formed elements is read as them
+--     tree-moved          octets further on are read as the same elements, further on (`moved`)
+--     encode-moved        elements further on have the same encoding
+--     well-formed-moved   well-formed elements are well-formed further on
+--     header-some         a header has an octet at least
+--     encode-none, encode-element    the encoding of no elements, and of an element and those behind it
+--     moved-none, moved-element      no elements further on, and an element and those behind it
+--     sequence-constructed, sequence-allowed    the identifier 30
+--     exact               a whole input's first element ends at e exactly where the octets up to e are an encoding (`Encoded`)
+--     walk-tree           the same of the tree that is read from those octets (`Checked`)
+--     number-zero         the input's number is 0 exactly where it starts with an encoding
+--     number-place        its number, if not 0, and its place are those of the first fault
+--     octets-take, octets-drop    a part of octets is octets
+--     take-drop, slice-slice, drop-slice, slice-middle    a part of a part of a list, by the places in the whole
+pub use Rattle.der.proofs.Parts.{octets-take, octets-drop, take-drop, slice-slice, drop-slice, slice-middle}
+pub use Rattle.der.proofs.Length.{value-large}
+pub use Rattle.der.proofs.Headers.{passed, constructed-bit, head-fits, head-encoded, head-octets}
+pub use Rattle.der.proofs.Readings.{InOrder, read-in-order, read-at, read-at-in-order, further, read-moved, tree-end, tree-enough}
+pub use Rattle.der.proofs.Readings.{elementAt, tree-step, tree-parts, tree-at, tree-encoded, tree-encode, tree-moved, encode-moved, well-formed-moved}
+pub use Rattle.der.proofs.Trees.{header-some, encode-none, encode-element, moved-none, moved-element, sequence-constructed, sequence-allowed}
+pub use Rattle.der.proofs.Exact.{Encoded, exact, Checked, walk-tree}
+pub use Rattle.der.proofs.FirstFault.{number-zero, number-place}

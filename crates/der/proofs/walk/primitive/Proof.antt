@@ -1,0 +1,25 @@
+-- `der::walk::primitive` meets its contract: the content's rule picks the case. Assumes nothing.
+use borrow.Author.Needs.{needs}
+use mathlib.Core.Path.{sym, _∙_}
+use Rattle.der.proofs.Steps.{value-kept, value-unkept}
+use Rattle.der.proofs.walk.primitive.Statement.{statement}
+use Rattle.der.proofs.walk.primitive.Tie as tie
+
+holds-requires : tie.Need-holds-requires
+holds-requires c κs = search needs
+
+cast-t9 : tie.Need-cast-t9
+cast-t9 c = search needs
+
+returns : tie.Need-returns
+returns c =
+    let a = c .before .before .before .args in
+    sym (value-kept (a .place) (a .end) (a .id) (a .content .now) (sym (c .before .holds .ensures) ∙ c .if1 .taken))
+
+returns-2 : tie.Need-returns-2
+returns-2 c =
+    let a = c .before .before .before .args in
+    sym (value-unkept (a .place) (a .end) (a .id) (a .content .now) (sym (c .before .holds .ensures) ∙ c .if1 .left))
+
+pub primitive-spec : {M : Type 1} → statement M
+primitive-spec = tie.close (tie.spec holds-requires cast-t9 returns returns-2)

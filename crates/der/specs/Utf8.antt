@@ -1,0 +1,125 @@
+-- UTF-8: RFC 3629's productions, the classes of octets that they need, and the check by those classes. Assumes nothing.
+use Prim.Native.Nat.{ℕ, zero, suc, _≤_, _<_}
+use mathlib.Core.Bool.{Bool, true, false, _&&_, _||_}
+use mathlib.Core.List.{List, [], _∷_, _++_}
+use mathlib.Core.Path.{_≡_}
+use lib.Dec.{leb, eqb}
+use lib.ListN.{getD}
+use Rattle.der.specs.declared.utf8.Step.{Step}
+use Rattle.der.specs.declared.utf8.Step.the-variants.{Next, Stop}
+
+-- lo to hi, as the RFC's %xlo-hi
+abbrev pub Within : ℕ → ℕ → ℕ → Type 0
+Within lo hi b = (lo ≤ b) × (b ≤ hi)
+
+-- UTF8-tail = %x80-BF
+abbrev pub Tail : ℕ → Type 0
+Tail b = Within 0x80 0xBF b
+
+-- UTF8-char = UTF8-1 / UTF8-2 / UTF8-3 / UTF8-4
+pub data Character : List ℕ → Type 0 where
+  -- UTF8-1 = %x00-7F
+  utf8-1 : {a : ℕ} → Within 0x00 0x7F a → Character (a ∷ [])
+  -- UTF8-2 = %xC2-DF UTF8-tail
+  utf8-2 : {a b : ℕ} → Within 0xC2 0xDF a → Tail b → Character (a ∷ b ∷ [])
+  -- UTF8-3 = %xE0 %xA0-BF UTF8-tail / %xE1-EC 2( UTF8-tail ) / %xED %x80-9F UTF8-tail / %xEE-EF 2( UTF8-tail )
+  utf8-3-E0 : {b c : ℕ} → Within 0xA0 0xBF b → Tail c → Character (0xE0 ∷ b ∷ c ∷ [])
+  utf8-3-E1 : {a b c : ℕ} → Within 0xE1 0xEC a → Tail b → Tail c → Character (a ∷ b ∷ c ∷ [])
+  utf8-3-ED : {b c : ℕ} → Within 0x80 0x9F b → Tail c → Character (0xED ∷ b ∷ c ∷ [])
+  utf8-3-EE : {a b c : ℕ} → Within 0xEE 0xEF a → Tail b → Tail c → Character (a ∷ b ∷ c ∷ [])
+  -- UTF8-4 = %xF0 %x90-BF 2( UTF8-tail ) / %xF1-F3 3( UTF8-tail ) / %xF4 %x80-8F 2( UTF8-tail )
+  utf8-4-F0 : {b c d : ℕ} → Within 0x90 0xBF b → Tail c → Tail d → Character (0xF0 ∷ b ∷ c ∷ d ∷ [])
+  utf8-4-F1 : {a b c d : ℕ} → Within 0xF1 0xF3 a → Tail b → Tail c → Tail d → Character (a ∷ b ∷ c ∷ d ∷ [])
+  utf8-4-F4 : {b c d : ℕ} → Within 0x80 0x8F b → Tail c → Tail d → Character (0xF4 ∷ b ∷ c ∷ d ∷ [])
+
+-- UTF8-octets = *( UTF8-char )
+pub data Utf8 : List ℕ → Type 0 where
+  none : Utf8 []
+  char : {c bs : List ℕ} → Character c → Utf8 bs → Utf8 (c ++ bs)
+
+-- lo to hi, as a test
+abbrev pub within : ℕ → ℕ → ℕ → Bool
+within lo hi b = leb lo b && leb b hi
+
+-- The class of an octet: 0 a whole character; 1 to 3 the three ranges of tails that the productions tell apart; 4 to 10 the leads
+-- that ask for different tails; 11 an octet that no production has.
+unfoldable pub classOf : ℕ → ℕ
+classOf b =
+    elim (leb b 0x7F) [
+      | true ↦ 0
+      | false ↦
+          elim (within 0x80 0x8F b) [
+            | true ↦ 1
+            | false ↦
+                elim (within 0x90 0x9F b) [
+                  | true ↦ 2
+                  | false ↦
+                      elim (within 0xA0 0xBF b) [
+                        | true ↦ 3
+                        | false ↦
+                            elim (within 0xC2 0xDF b) [
+                              | true ↦ 4
+                              | false ↦
+                                  elim (eqb b 0xE0) [
+                                    | true ↦ 5
+                                    | false ↦
+                                        elim (within 0xE1 0xEC b || within 0xEE 0xEF b) [
+                                          | true ↦ 6
+                                          | false ↦
+                                              elim (eqb b 0xED) [
+                                                | true ↦ 7
+                                                | false ↦
+                                                    elim (eqb b 0xF0) [
+                                                      | true ↦ 8
+                                                      | false ↦
+                                                          elim (within 0xF1 0xF3 b) [
+                                                            | true ↦ 9
+                                                            | false ↦
+                                                                elim (eqb b 0xF4) [ true ↦ 10 | false ↦ 11 ]
+                                                          ]
+                                                    ]
+                                              ]
+                                        ]
+                                  ]
+                            ]
+                      ]
+                ]
+          ]
+    ]
+
+-- a class that begins a character
+unfoldable pub leads : ℕ → Bool
+leads c = eqb c 0 || within 4 10 c
+
+-- how many tails follow a lead
+unfoldable pub tails : ℕ → ℕ
+tails c = elim (eqb c 0) [ true ↦ 0 | false ↦ elim (eqb c 4) [ true ↦ 1 | false ↦ elim (leb c 7) [ true ↦ 2 | false ↦ 3 ] ] ]
+
+-- the lowest and the highest class of the first tail: E0 wants A0-BF, F0 wants 90-BF, ED wants 80-9F, F4 wants 80-8F
+unfoldable pub lowest : ℕ → ℕ
+lowest c = elim (eqb c 5) [ true ↦ 3 | false ↦ elim (eqb c 8) [ true ↦ 2 | false ↦ 1 ] ]
+
+unfoldable pub highest : ℕ → ℕ
+highest c = elim (eqb c 7) [ true ↦ 2 | false ↦ elim (eqb c 10) [ true ↦ 1 | false ↦ 3 ] ]
+
+-- The check from within a character that wants so many tails more, the next of a class from low to high; at 0 a character begins.
+unfoldable pub utf8From : ℕ → ℕ → ℕ → List ℕ → Bool
+utf8From left low high [] = eqb left 0
+utf8From zero low high (b ∷ bs) =
+    let c = classOf b in
+    elim (leads c) [ true ↦ utf8From (tails c) (lowest c) (highest c) bs | false ↦ false ]
+utf8From (suc left) low high (b ∷ bs) =
+    elim (within low high (classOf b)) [ true ↦ utf8From left 1 3 bs | false ↦ false ]
+
+-- "UTF8String as in RFC 3629"
+unfoldable pub utf8 : List ℕ → Bool
+utf8 bs = utf8From 0 1 3 bs
+
+-- a table of the classes: at every octet stands the octet's class
+pub record Classes (table : List ℕ) : Type 0 where
+  pub entry : (b : ℕ) → b < 256 → getD table b 0 ≡ classOf b
+
+-- the check over the octets behind one that it made a step by
+abbrev pub after : Step → List ℕ → Bool
+after (Next left low high) bs = utf8From left low high bs
+after Stop bs = false

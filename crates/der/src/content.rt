@@ -1,0 +1,81 @@
+// The content rules, each on the content octets of one element.
+use crate::utf8;
+ghost use mathlib.Core.Path.{_≡_};
+ghost use Rattle.der.specs.Utf8.{Classes};
+ghost use Rattle.der.specs.Content as rule;
+
+// Whether the octets are the content of a BOOLEAN.
+pub fn boolean(content: &[u8]) -> bool
+    ensures { λ r. ⌜ r ≡ rule.boolean (now (content .entry)) ⌝ }
+{
+    if content.len() != 1 {
+        return false;
+    }
+    let octet = content[0];
+    (octet == 0x00) | (octet == 0xFF)
+}
+
+// Whether the octets are the content of an INTEGER or ENUMERATED.
+pub fn integer(content: &[u8]) -> bool
+    ensures { λ r. ⌜ r ≡ rule.integer (now (content .entry)) ⌝ }
+{
+    if content.len() < 2 {
+        return content.len() == 1;
+    }
+    let first = content[0];
+    let second = content[1];
+    !((first == 0x00) & (second < 0x80) | (first == 0xFF) & (0x80 <= second))
+}
+
+// Whether the octets are the content of a BIT STRING.
+pub fn bit_string(content: &[u8]) -> bool
+    ensures { λ r. ⌜ r ≡ rule.bitString (now (content .entry)) ⌝ }
+{
+    let count = content.len();
+    if count == 0 {
+        return false;
+    }
+    let unused = content[0];
+    if count == 1 {
+        return unused == 0;
+    }
+    let last = content[count - 1];
+    (unused <= 7) & ((unused as u32) <= u8::trailing_zeros(last))
+}
+
+// Whether the octets are the content of an OBJECT IDENTIFIER.
+pub fn object_identifier(content: &[u8]) -> bool
+    ensures { λ r. ⌜ r ≡ rule.objectIdentifier (now (content .entry)) ⌝ }
+{
+    if content.len() == 0 {
+        return false;
+    }
+    // The octet before, and at first one that ends a part.
+    let mut before: u8 = 0x00;
+    let mut i = 0;
+    while i < content.len() {
+        let octet = content[i];
+        if (before < 0x80) & (octet == 0x80) {
+            return false;
+        }
+        before = octet;
+        i += 1;
+    }
+    before < 0x80
+}
+
+// Whether the content of a primitive element keeps the rule that its identifier asks.
+pub(crate) fn holds(id: u8, content: &[u8], classes: &[u8; 256]) -> bool
+    requires { ⌜ Classes (now classes) ⌝ }
+    ensures { λ r. ⌜ r ≡ rule.holds id (now (content .entry)) ⌝ }
+{
+    match id {
+        0x01 => boolean(content),
+        0x02 | 0x0A => integer(content),
+        0x03 => bit_string(content),
+        0x05 => content.len() == 0,
+        0x06 => object_identifier(content),
+        0x0C => utf8::text(content, classes),
+        _ => true,
+    }
+}

@@ -1,0 +1,51 @@
+// The element at a place, for the layers above.
+use crate::header;
+use crate::header::Head;
+use crate::input::LONGEST;
+use crate::input::part;
+ghost use mathlib.Core.Path.{_≡_};
+ghost use Rattle.der.specs.Reading.{nothingAt, readAt};
+
+// An element: its identifier, the first byte of its content and the place past its end.
+pub struct Element {
+    pub identifier: u8,
+    pub content: usize,
+    pub end: usize,
+}
+
+// The element from `at` before `end`; where none stands, identifier 0 and an empty content at the end. Input longer than 65,535 bytes
+// has none.
+pub fn read_at(bytes: &[u8], at: usize, end: usize) -> Element
+    ensures { λ r. ⌜ r ≡ readAt (now (bytes .entry)) at end ⌝ }
+{
+    if LONGEST < bytes.len() {
+        return nothing_at(at);
+    }
+    let inside = part(bytes, at, end);
+    match header::read(inside) {
+        Head::Stands {
+            identifier,
+            octets,
+            length,
+        } => Element {
+            identifier,
+            content: at + octets,
+            end: at + octets + length,
+        },
+        Head::Broken {
+            number: _,
+            detail: _,
+        } => nothing_at(at + inside.len()),
+    }
+}
+
+// No element: an empty content at the place.
+fn nothing_at(at: usize) -> Element
+    ensures { λ r. ⌜ r ≡ nothingAt at ⌝ }
+{
+    Element {
+        identifier: 0,
+        content: at,
+        end: at,
+    }
+}
