@@ -1,0 +1,92 @@
+-- What the fields of the packed table's words say of the grammar's lines. A test that is computed at every line holds at the line of any
+-- number, since past the end stands the end line, which is also the first. So each field is one computed test. Assumes nothing.
+use Prim.Native.Nat.{ℕ, _<_, _^_}
+use mathlib.Core.Bool.{Bool, true}
+use mathlib.Core.List.{List}
+use mathlib.Core.Path.{_≡_, refl, ap, _∙_}
+use borrow.Author.Tests.{eqb-true, ltb-true}
+use lib.Dec.{eqb, ltb}
+use lib.ListN.{length, getD, List·getD-map}
+use Rattle.crmf.specs.Notation.{order, names}
+use Rattle.crmf.specs.Grammar.{content}
+use Rattle.crmf.specs.Table.{Line, endLine, lines, linesFrom, containerLines, partLines, wayLine, nextLine, formLines, passOf, insideLine, start, startsFrom, size, partSize}
+use Rattle.crmf.specs.Packed.{pack, packed, passCode, identifiersCode, judgeCode, markCode}
+use Rattle.crmf.specs.Packed.{passField, identifiersField, insideField, judgeField, kindField, itemField, markField, nextField}
+use Rattle.crmf.specs.Walk.{line}
+use Rattle.crmf.proofs.Tests.{all, all-first}
+
+-- the table, to be computed: whoever unfolds it unfolds all that the lines and their words are made of
+unfoldable pub computed : List ℕ
+unfolding packed pack passCode identifiersCode judgeCode markCode lines linesFrom containerLines partLines wayLine nextLine formLines passOf insideLine start startsFrom size partSize order content
+computed = packed
+
+-- a test that passes at every line of the table passes at the line of any number
+pub at-line : (f : Line → Bool) → all f lines ≡ true → (k : ℕ) → f (line k) ≡ true
+unfolding line lines
+at-line f = all-first f endLine (linesFrom 1 names)
+
+-- the word of any number is its line, packed
+pub word-at : (k : ℕ) → getD packed k 0 ≡ pack (line k)
+unfolding line computed
+word-at k = List·getD-map pack lines k endLine
+
+-- a field of a word is what the line says, if it is so at every line
+field-at : (f : ℕ → ℕ) (g : Line → ℕ) → all (λ x. eqb (f (pack x)) (g x)) lines ≡ true → (k : ℕ) → f (getD packed k 0) ≡ g (line k)
+field-at f g e k = ap f (word-at k) ∙ eqb-true _ _ (at-line (λ x. eqb (f (pack x)) (g x)) e k)
+
+pub pass-at : (k : ℕ) → passField (getD packed k 0) ≡ passCode (line k .pass)
+unfolding computed
+pass-at = field-at passField (λ x. passCode (x .pass)) refl
+
+pub identifiers-at : (k : ℕ) → identifiersField (getD packed k 0) ≡ identifiersCode (line k .identifiers)
+unfolding computed
+identifiers-at = field-at identifiersField (λ x. identifiersCode (x .identifiers)) refl
+
+pub inside-at : (k : ℕ) → insideField (getD packed k 0) ≡ line k .inside
+unfolding computed
+inside-at = field-at insideField (λ x. x .inside) refl
+
+pub judge-at : (k : ℕ) → judgeField (getD packed k 0) ≡ judgeCode (line k .judge)
+unfolding computed
+judge-at = field-at judgeField (λ x. judgeCode (x .judge)) refl
+
+pub kind-at : (k : ℕ) → kindField (getD packed k 0) ≡ line k .kind
+unfolding computed
+kind-at = field-at kindField (λ x. x .kind) refl
+
+pub item-at : (k : ℕ) → itemField (getD packed k 0) ≡ line k .item
+unfolding computed
+item-at = field-at itemField (λ x. x .item) refl
+
+pub mark-at : (k : ℕ) → markField (getD packed k 0) ≡ markCode (line k .mark)
+unfolding computed
+mark-at = field-at markField (λ x. markCode (x .mark)) refl
+
+pub next-at : (k : ℕ) → nextField (getD packed k 0) ≡ line k .next
+unfolding computed
+next-at = field-at nextField (λ x. x .next) refl
+
+-- a number of a line is below a bound, if it is so at every line
+small-at : (f : Line → ℕ) (n : ℕ) → all (λ x. ltb (f x) n) lines ≡ true → (k : ℕ) → f (line k) < n
+small-at f n e k = ltb-true _ _ (at-line (λ x. ltb (f x) n) e k)
+
+pub next-small : (k : ℕ) → line k .next < 146
+unfolding computed
+next-small = small-at (λ x. x .next) 146 refl
+
+pub inside-small : (k : ℕ) → line k .inside < 146
+unfolding computed
+inside-small = small-at (λ x. x .inside) 146 refl
+
+pub word-small : (k : ℕ) → getD packed k 0 < 2 ^ 64
+unfolding computed
+word-small k = rw word-at (small-at pack (2 ^ 64) refl k)
+
+-- the table has 146 lines, and as many words
+pub lines-count : length lines ≡ 146
+unfolding computed
+lines-count = refl
+
+pub words-count : length packed ≡ 146
+unfolding computed
+words-count = refl

@@ -1,0 +1,66 @@
+-- The laws of the crate that the layer above cites, gathered. Assumes nothing.
+--     accepts               the walk over a container passes exactly where its parts describe the elements, whichever forms may be read
+--     passes-accepts        `passes` says whether the walk that reads every form (`all`) passes; of a walk's answer `isPassed` says so
+--     deterministic         from any part of a container on, an identifier has at most one of the choices that can be reached
+--     trail-occurrences     the forms of one edition alone that the walk meets are those that the grammar's meaning gives, in that order
+--     walk-seen             what the walk has met of an edition (`firstSeen`, `seenOf`) is the first of its trail, unless one was known (`after`)
+--     marks-met             so it is the first that the meaning gives
+--     trail-ascends         in well-formed elements the places of a trail ascend (`Ascends`)
+--     occurrences-ascend    and so do those that the meaning gives
+--     first-least           so the first in a form that a test of its edition takes (`firstOf`) has the least place of them
+--     own-walk              a walk with any set of readable forms answers as the walk that reads every form, or breaks at the first form of its
+--                           trail that it doesn't read (`Follows`, `unread`)
+--     two-sets              where a walk with one set passes, a walk with another passes alike, or breaks at the first form it doesn't read
+--     own-alike             the walk of one edition (`Edition`) answers as the walk that reads every form, where that has met no form of the
+--                           other edition (`other`, `foreign`)
+--     own-stops             and else it breaks at the first such form
+--     own-passes            so it passes exactly where that passes and has met none
+--     inside-starts         every inside of the table is free or starts a container
+--     start-lives           where a container starts, it may end or an element is found (`Lives`)
+--     onward-lives          and so it is behind every element
+--     ways-lines            a value that selects has a line for each of its ways, and no more (`WayLines`)
+--     ways-parts            and as many names in the grammar
+--     kind-known            every row kind of the table is one of document 01's (`rowKinds`), and so is every item's (`item-known`)
+--     kind-given            each of document 01's kinds is given by some line
+--     rows-lines            the rows that are found by the lines are those of any derivation
+--     rows-same             so two derivations of one tree have the same rows, whichever forms each may read
+--     rows-count            the counting walk's count is the number of rows; of any derivation's, `walk-counts`
+--     row-zero              row 0 is the batch: kind 1, from byte 0 on, of its whole length, its own parent; there is one (`rows-some`)
+--     rows-ascend           rows ascend strictly by first byte
+--     row-parent            each other row's parent is an earlier row
+--     parent-container      each row's parent is a container (`container`)
+--     row-within            each row's bytes lie within its parent's (`Inner`)
+--     rows-moved            the same elements so many bytes further on (`matches-moved`) have the same rows, moved (`shift`)
+--     rows-of               of an accepted input, filling finds the rows of any derivation, as many as counting answers (`rows-counted`)
+--     filled-rows           with room for them the table holds these rows in its first numbers and stays in the others (`Holds`)
+--     filled-short          and with no room it stays as it is
+--     filled-whole          so it is with the rows that the lines find in any input
+--     batch-content         a batch is one element 30, whose content is its messages' octets, one behind the other (`BatchContent`)
+--     message-parts         each message consists of its certReq, proof and regInfo, and the certReq of its own fields (`MessageParts`)
+--     messages-match        each message and its fields are what the grammar says of them (`MessageMatches`); conversely, a batch around
+--                           fields that match as messages is in the grammar (`batch-of-matches`), and well-formed (`batch-of-formed`)
+--     messages-stand        each message and each of its fields stands at its place in the batch's octets (`MessageStands`)
+--     messages-moved        the messages of elements so many bytes further on are the messages, moved
+--     rows-long             what the counting walk has met of certReqIds of more than 8 content octets is the first row that is one
+--     walk-long             and so it is with the rows of any derivation
+--     long-none             where nothing was known, nothing is known exactly where no row is one
+pub use Rattle.crmf.proofs.Accepts.{accepts}
+pub use Rattle.crmf.proofs.EveryForm.{all, isPassed, passes-accepts}
+pub use Rattle.crmf.proofs.Choices.{Choice, taking, choosing, identifiersOf, choices, deterministic}
+pub use Rattle.crmf.proofs.FirstSeen.{Edition, first-edition, second-edition, firstSeen, after, seenOf, walk-seen}
+pub use Rattle.crmf.proofs.Marks.{trail-occurrences, marks-met}
+pub use Rattle.crmf.proofs.AscendingPlaces.{Ascends, trail-ascends, occurrences-ascend, first-least}
+pub use Rattle.crmf.proofs.ReadableSets.{firstOf, unread, Follows, own-walk, two-sets}
+pub use Rattle.crmf.proofs.OneEdition.{other, foreign, own-alike, own-stops, own-passes}
+pub use Rattle.crmf.proofs.TableChecks.{Lives, WayLines, rowKinds, inside-starts, start-lives, onward-lives, ways-lines, ways-parts, kind-known, item-known, kind-given}
+pub use Rattle.crmf.proofs.Containers.{container}
+pub use Rattle.crmf.proofs.RowsInPlace.{noRow}
+pub use Rattle.crmf.proofs.RowsOfLines.{rows-lines, rows-same, rows-count, walk-counts}
+pub use Rattle.crmf.proofs.RowLaws.{Inner, row-zero, rows-some, rows-ascend, row-parent, parent-container, row-within}
+pub use Rattle.crmf.proofs.RowsMoved.{shift, matches-moved, rows-moved}
+pub use Rattle.crmf.proofs.FilledRows.{Holds, rows-of, rows-counted, filled-rows, filled-short, filled-whole}
+pub use Rattle.crmf.proofs.FieldLaws.{FormedField, IfAny}
+pub use Rattle.crmf.proofs.FieldsMatch.{Holding}
+pub use Rattle.crmf.proofs.MessageLaws.{ProofMatches, raVerified, signature, keyEncipherment, keyAgreement, MessageMatches, MessageParts, BatchContent, MessageStands}
+pub use Rattle.crmf.proofs.MessageLaws.{batch-content, message-parts, messages-match, messages-formed, messages-stand, messages-moved, batch-of-matches, batch-of-formed, at-position}
+pub use Rattle.crmf.proofs.LongIds.{rows-long, walk-long, long-none}

@@ -1,0 +1,61 @@
+-- `crmf::fill::onward` meets its contract: the word's fields are the line's, and its code says whether the value selects. Assumes nothing.
+use borrow.Author.Needs.{needs}
+use Prim.Native.Nat.{ℕ, _+_}
+use mathlib.Core.Path.{_≡_, sym, ap, _∙_}
+use lib.ListN.{getD}
+use Rattle.crmf.specs.Packed.{packed, judgeCode, judgeField, nextField}
+use Rattle.crmf.specs.Walk.{line}
+use Rattle.crmf.proofs.Fields.{judge-at, next-at}
+use Rattle.crmf.proofs.Judging.{goes-on, goes-by}
+use Rattle.crmf.proofs.fill.onward.Statement.{statement}
+use Rattle.crmf.proofs.fill.onward.Tie as tie
+
+judge-of-requires : tie.Need-judge-of-requires
+judge-of-requires c κs = search needs
+
+next-of-requires : tie.Need-next-of-requires
+next-of-requires c κs = search needs
+
+returns : tie.Need-returns
+returns c = λ k e.
+    let j = line k .judge in
+    let coded : judgeCode j ≡ c .before .before .judge-of .result = sym (judge-at k) ∙ ap judgeField (sym e) ∙ sym (c .before .before .judge-of .ensures) in
+    let next : c .before .next-of .result ≡ line k .next = c .before .next-of .ensures ∙ ap nextField e ∙ next-at k in
+    let content = c .before .before .before .before .args .content .now in
+    next ∙ goes-on (line k .next) _ content (c .if1 .taken) j coded
+
+selected-requires : tie.Need-selected-requires
+selected-requires c κs = search needs
+
+add-word : tie.Need-add-word
+add-word c = search needs
+
+word-requires : tie.Need-word-requires
+word-requires c κs = search needs
+
+next-of-requires-2 : tie.Need-next-of-requires-2
+next-of-requires-2 c κs = search needs
+
+returns-2 : tie.Need-returns-2
+returns-2 c = λ k e.
+    let j = line k .judge in
+    let coded : judgeCode j ≡ c .before .before .before .before .before .judge-of .result = sym (judge-at k) ∙ ap judgeField (sym e) ∙ sym (c .before .before .before .before .before .judge-of .ensures) in
+    let next : c .before .before .before .before .next-of .result ≡ line k .next = c .before .before .before .before .next-of .ensures ∙ ap nextField e ∙ next-at k in
+    let content = c .before .before .before .before .before .before .before .args .content .now in
+    c .next-of2 .ensures
+    ∙ ap nextField (c .before .word .ensures ∙ ap (λ (n : ℕ). getD packed (n + c .before .before .selected .result) 0) next)
+    ∙ next-at (line k .next + c .before .before .selected .result)
+    ∙ goes-by (line k .next) _ content (c .before .before .before .if1 .left) _ (c .before .before .selected .ensures .0) j coded
+
+pub onward-spec : {M : Type 1} → statement M
+onward-spec =
+    tie.close
+    (tie.spec
+    judge-of-requires
+    next-of-requires
+    returns
+    selected-requires
+    add-word
+    word-requires
+    next-of-requires-2
+    returns-2)

@@ -1,0 +1,117 @@
+-- The rows as the walk over the lines finds them, for a tree that it passes. Assumes nothing.
+use Prim.Native.Nat.{ℕ, _+_, _-_, _*_, _≤_, _<_}
+use mathlib.Core.Bool.{Bool, true, false}
+use mathlib.Core.List.{List, [], _∷_, _++_}
+use lib.Dec.{eqb, leb}
+use lib.Seq.{slice}
+use lib.ListN.{length, take, drop}
+use mathlib.Core.Path.{_≡_}
+use Rattle.der.specs.Tree.{Tree, none, element}
+use Rattle.der.specs.Walk.{longest}
+use Rattle.der.specs.Reading.{tree}
+use Rattle.crmf.specs.declared.fill.Around.{Around}
+use Rattle.crmf.specs.declared.fill.Spot.{Spot}
+use Rattle.crmf.specs.declared.table.Found.the-variants.{At, Nowhere}
+use Rattle.crmf.specs.Value.{selected}
+use Rattle.crmf.specs.Notation.{Top}
+use Rattle.crmf.specs.Table.{Judge, keep, choose, Line, start}
+use Rattle.crmf.specs.Packed.{packed}
+use Rattle.crmf.specs.Walk.{line, seek, rowsOf as rowsGiven}
+use Rattle.crmf.specs.Rows.{Row, rowIf, parentIf, width, numbers}
+
+-- the line to go on with behind an element whose value is known to keep its rule
+unfoldable pub goes : Judge → ℕ → List ℕ → ℕ
+goes (keep r) next c = next
+goes (choose s) next c = line (next + selected s c) .next
+
+-- the rows from a line on, as `rows` has them from the parts
+unfoldable pub rowsFrom : ℕ → Tree → (n up place whole : ℕ) → List Row
+rowsFrom k none n up place whole = []
+rowsFrom k (element id p w c inside rest) n up place whole =
+    elim (seek k id) [
+      | Nowhere ↦ []
+      | At m ↦
+          let x = line m in
+          let item = rowIf (x .item) place whole up in
+          let above = parentIf (x .item) n up in
+          let own = rowIf (x .kind) p w above in
+          let next = n + length item in
+          let inner : List Row = elim (eqb (x .inside) 0) [
+            | true ↦ []
+            | false ↦ rowsFrom (x .inside) inside (next + length own) (parentIf (x .kind) next above) p w
+          ] in
+          item ++ (own ++ (inner ++ rowsFrom (goes (x .judge) (x .next) c) rest (next + length own + length inner) up place whole))
+    ]
+
+-- a list with others written over it from a place on
+abbrev pub over : List ℕ → ℕ → List ℕ → List ℕ
+over old at new = take at old ++ (new ++ drop (at + length new) old)
+
+-- Rows written into a table of numbers, the first as row n, as far as their numbers are below a limit.
+abbrev pub written : List ℕ → ℕ → ℕ → List Row → List ℕ
+written old n limit rs = over old (width * n) (numbers (take (limit - n) rs))
+
+-- whether a table has room for so many rows
+abbrev pub fits : ℕ → List ℕ → Bool
+fits count old = leb (width * count) (length old)
+
+-- the rows of a whole input, which is to be one batch; a longer input has none
+unfoldable pub rowsOf : List ℕ → List Row
+rowsOf s = elim (leb (length s) longest) [ true ↦ rowsFrom (start Top) (tree 0 s) 0 0 0 0 | false ↦ [] ]
+
+-- a table with the rows of an input written into it as far as their numbers are below a count; with no room for so many it stays
+unfoldable pub filled : List ℕ → ℕ → List ℕ → List ℕ
+filled s count old = elim (fits count old) [ true ↦ written old 0 count (rowsOf s) | false ↦ old ]
+
+-- What the inner functions are lent: a part of an input, the number of the next row, no more than two for each place before it, the lines,
+-- and a table with room up to the limit.
+pub record Room (bytes : List ℕ) (at end row limit : ℕ) (lines out : List ℕ) : Type 0 where
+  pub short : length bytes ≤ longest
+  pub order : at ≤ end
+  pub inside : end ≤ length bytes
+  pub few : row ≤ 2 * at
+  pub right : lines ≡ packed
+  pub room : width * limit ≤ length out
+
+-- the rows of a part of an input, from a line on
+abbrev pub rowsAt : List ℕ → ℕ → ℕ → ℕ → ℕ → Around → List Row
+rowsAt bytes at end state row around = rowsFrom state (tree at (slice at end bytes)) row (around .up) (around .place) (around .whole)
+
+-- Rows are written, and the next number is behind theirs.
+pub record Wrote (rs : List Row) (row limit : ℕ) (old : List ℕ) (next : ℕ) (new : List ℕ) : Type 0 where
+  pub next-row : next ≡ row + length rs
+  pub kept : new ≡ written old row limit rs
+
+-- the rows of a list of elements
+pub record Listed (bytes : List ℕ) (at end state row : ℕ) (around : Around) (limit : ℕ) (old : List ℕ) (next : ℕ) (new : List ℕ) : Type 0 where
+  pub wrote : Wrote (rowsAt bytes at end state row around) row limit old next new
+  pub few : next ≤ 2 * end
+
+-- the rows that an element in a line's form gives by itself, and the number of the row above its inside
+abbrev pub ownRows : Line → ℕ → ℕ → ℕ → Around → List Row
+ownRows x p w row around =
+    rowIf (x .item) (around .place) (around .whole) (around .up) ++ rowIf (x .kind) p w (parentIf (x .item) row (around .up))
+
+abbrev pub rowAbove : Line → ℕ → ℕ → ℕ
+rowAbove x row up = parentIf (x .kind) (row + rowsGiven (x .item)) (parentIf (x .item) row up)
+
+-- the rows inside an element in a line's form
+abbrev pub innerRows : ℕ → List ℕ → ℕ → ℕ → ℕ → Around → List Row
+innerRows k bytes at end row around = elim (eqb (line k .inside) 0) [ true ↦ [] | false ↦ rowsAt bytes at end (line k .inside) row around ]
+
+abbrev pub Inner : ℕ → List ℕ → ℕ → ℕ → ℕ → Around → ℕ → List ℕ → ℕ → List ℕ → Type 0
+Inner k bytes at end row around limit old next new = Wrote (innerRows k bytes at end row around) row limit old next new
+
+-- Some rows of a list of elements are written, and the list goes on behind them.
+pub record Going (bytes : List ℕ) (at end state row : ℕ) (around : Around) (limit : ℕ) (old : List ℕ) (r : Spot) (new : List ℕ) : Type 0 where
+  pub these : List Row
+  pub split : rowsAt bytes at end state row around ≡ these ++ rowsAt bytes (r .at) end (r .state) (r .row) around
+  pub wrote : Wrote these row limit old (r .row) new
+  pub past : at ≤ r .at
+  pub within : r .at ≤ end
+  pub few : r .row ≤ 2 * r .at
+
+-- the rows of one element
+pub record Shown (bytes : List ℕ) (at end state row : ℕ) (around : Around) (limit : ℕ) (old : List ℕ) (r : Spot) (new : List ℕ) : Type 0 where
+  pub going : Going bytes at end state row around limit old r new
+  pub forward : at < r .at

@@ -1,0 +1,13 @@
+-- The request grammar: its notation, document 01's lines, what they mean, and the walk over them.
+pub mod Value
+pub mod Notation
+pub mod Grammar
+pub mod Language
+pub mod Table
+pub mod Packed
+pub mod Walk
+pub mod Steps
+pub mod Rows
+pub mod Fill
+pub mod Fields
+pub mod Messages

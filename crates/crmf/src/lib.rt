@@ -1,0 +1,6 @@
+// The request grammar of RFC 2511 and RFC 4211 over DER elements: one table of lines, and a walk over it.
+pub mod fill;
+pub mod judge;
+pub mod table;
+pub mod value;
+pub mod walk;
