@@ -1,0 +1,16 @@
+"""The stored files of a program that reads cases by the crate `cases`."""
+
+TEXT = 65536  # characters of input that such a program reads
+ROOM = 70000  # octets of a case that it keeps
+
+
+def files(cases):
+    """From each case's octets, how they are written for the program, and the answer."""
+    stdin = "".join(written + "\n" for _, written, _ in cases)
+    stdout = "".join(answer + "\n" for _, _, answer in cases)
+    if len(stdin) > TEXT:
+        raise ValueError(f"the cases have {len(stdin)} characters")
+    for octets, written, _ in cases:
+        if len(octets) > ROOM:
+            raise ValueError(f"{len(octets)} octets: {written[:60]}")
+    return {"stdin": stdin.encode(), "stdout": stdout.encode()}

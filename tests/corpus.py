@@ -1,0 +1,54 @@
+"""The messages of independent encoders in corpus/, and the model held against what is to be answered for each."""
+
+import pathlib
+import re
+
+import grammar_model
+
+FOLDER = pathlib.Path(__file__).with_name("corpus") / "crmf"
+FILES = 64
+SHOWN = 60  # rows of a file that has them stored, at most
+
+LINE = re.compile(r"(\S+)\.der edition ([12]): number (\d+) place (\d+) count (\d+)(; verdict .*)?")
+
+
+def expected():
+    """The answers to be given: (name, edition) with (number, place, count)."""
+    found = {}
+    for line in (FOLDER / "expected.txt").read_text().splitlines():
+        name, edition, *answer = LINE.fullmatch(line).groups()[:5]
+        found[name, int(edition)] = tuple(map(int, answer))
+    return found
+
+
+def octets(name):
+    return (FOLDER / f"{name}.der").read_bytes()
+
+
+def rows(name):
+    return [tuple(map(int, line.split())) for line in (FOLDER / f"{name}.rows").read_text().splitlines()]
+
+
+def missing():
+    """What is not there that should be, or is there and shouldn't."""
+    names = {name for name, _ in expected()}
+    shown = {name for (name, _), (number, _, count) in expected().items() if number == 0 and count <= SHOWN}
+    should = {"expected.txt"} | {f"{name}.der" for name in names} | {f"{name}.rows" for name in shown}
+    there = {path.name for path in FOLDER.iterdir()}
+    found = [f"{name} is not there" for name in should - there] + [f"{name} is not expected" for name in there - should]
+    found += [f"{name}: not in both editions" for name in names if not {(name, 1), (name, 2)} <= expected().keys()]
+    return sorted(found) + ([] if len(names) == FILES else [f"{len(names)} files instead of {FILES}"])
+
+
+def disagreements():
+    """Where the model and the expected answers differ."""
+    if missing():
+        return missing()
+    found = []
+    for (name, edition), answer in expected().items():
+        number, place, read = grammar_model.read(edition, octets(name))
+        if (number, place, len(read)) != answer:
+            found.append(f"{name}, edition {edition}: {answer} expected, the model has {(number, place, len(read))}")
+        elif number == 0 and len(read) <= SHOWN and read != rows(name):
+            found.append(f"{name}, edition {edition}: other rows")
+    return found

@@ -1,0 +1,99 @@
+"""The stored files of the program crmf_cases, built from the table crmf_cases.txt, and the table held against the model."""
+
+import functools
+import pathlib
+import re
+
+import cases
+import grammar_model
+import nest_model
+
+TABLE = pathlib.Path(__file__).with_name("crmf_cases.txt")
+TOKEN = re.compile(r'"[^"]*"|\*[0-9]+|[A-Za-z0-9]+\{?|[_}]|\S')
+ANSWER = re.compile(r"(.*\S) -> ((?:0 \d+|8@\d+ [1-4])(?: (?:-|D[123]@\d+)){2})")
+
+
+@functools.cache
+def table():
+    """The names with what they stand for, and the cases, as (batch as written, answer)."""
+    names, found = {}, []
+    for number, line in enumerate(TABLE.read_text().splitlines(), 1):
+        line = line.partition("#")[0].strip()
+        case, name = ANSWER.fullmatch(line), re.fullmatch(r"([a-z0-9]+(?:\{_\})?) = (.*)", line)
+        if case:
+            found.append((case[1], case[2]))
+        elif name:
+            names[name[1]] = name[2]
+        elif line:
+            raise ValueError(f"{TABLE.name}:{number}: neither a case nor a name: {line}")
+    return names, found
+
+
+def element(identifier, content):
+    """Octets and how they are written for the program, of an element around such a content."""
+    size = len(content[0])
+    number = size.to_bytes((size.bit_length() + 7) // 8, "big")
+    header = identifier + (bytes([size]) if size < 128 else bytes([0x80 + len(number)]) + number)
+    return header + content[0], header.hex().upper() + content[1]
+
+
+def sequence(tokens, within):
+    """What the tokens up to a closing brace stand for; `within` is what _ stands for."""
+    parts = []
+    while tokens and tokens[0] != "}":
+        token = tokens.pop(0)
+        if token[0] == "*":
+            octets = parts.pop()[0]
+            parts.append((octets * int(token[1:]), f" {octets.hex().upper()}{token} "))
+        elif token == "_":
+            parts.append(within)
+        elif token[0] == '"':
+            parts.append((token[1:-1].encode(), token[1:-1].encode().hex().upper()))
+        elif token[-1] == "{":
+            inside = sequence(tokens, within)
+            if tokens.pop(0) != "}":
+                raise ValueError("a brace stays open")
+            name = table()[0].get(token + "_}")
+            parts.append(built(name, inside) if name else element(bytes.fromhex(token[:-1]), inside))
+        else:
+            name = table()[0].get(token)
+            parts.append(built(name) if name else (bytes.fromhex(token), token))
+    return b"".join(octets for octets, _ in parts), "".join(text for _, text in parts)
+
+
+def built(written, within=None):
+    """The octets of a batch, and how the program reads them."""
+    tokens = TOKEN.findall(written)
+    octets, text = sequence(tokens, within)
+    if tokens:
+        raise ValueError(f"a brace too many: {written}")
+    return octets, " ".join(text.split())
+
+
+def files():
+    """What the crate's folder has to hold."""
+    return cases.files([(*built(batch), answer) for batch, answer in table()[1]])
+
+
+def first(differences, edition):
+    """The first form of an edition alone, as an answer shows it."""
+    return next((f"D{number}@{place}" for place, alone, number in differences if alone == edition), "-")
+
+
+def modelled(octets):
+    """The answer of the model."""
+    stop, met = grammar_model.walk(octets, {1, 2})
+    said = "8@{} {}".format(*stop) if stop else f"0 {len(met.rows)}"
+    return f"{said} {first(met.differences, 1)} {first(met.differences, 2)}"
+
+
+def disagreements():
+    """The cases at which the model answers something else than the table, or whose nest isn't sound."""
+    found = []
+    for batch, answer in table()[1]:
+        octets = built(batch)[0]
+        if nest_model.nest(octets)[0]:
+            found.append(f"{batch[:100]}: the nest has a fault")
+        elif modelled(octets) != answer:
+            found.append(f"{batch[:100]}: the table has {answer}, the model {modelled(octets)}")
+    return found

@@ -1,0 +1,390 @@
+"""A model of document 01's sections "The grammar" and "Rows" and of its order for reading, written from that document alone.
+
+`walk` is the walk of one edition, or of both editions' forms at once, over bytes whose nest is sound. `read` is the reading of a
+whole batch in an edition.
+"""
+
+import datetime
+import re
+
+import nest_model
+
+GENERAL_NAME = (0xA0, 0x81, 0x82, 0xA3, 0xA4, 0xA5, 0x86, 0x87, 0x88)
+ANY = range(256)
+CONTROL, INFO = bytes.fromhex("2B06010505070501"), bytes.fromhex("2B06010505070502")
+
+# The details of request A9
+FITS_NO_PART, PART_MISSING, VALUE, LIST_OR_LOCATION = 1, 2, 3, 4
+
+
+class Break(Exception):
+    """The walk's stop: the element that is the place, and the detail."""
+
+    def __init__(self, element, detail):
+        super().__init__(element.place, detail)
+
+
+class Element:
+    """An element of a sound nest, with the elements inside it."""
+
+    def __init__(self, octets, place, end):
+        header, size, _ = nest_model.length(octets[place:end])
+        self.place, self.whole, self.identifier = place, header + size, octets[place]
+        self.content = octets[place + header:place + header + size]
+        self.inside = []
+        inner = place + header
+        while self.identifier & 0x20 and inner < place + self.whole:
+            self.inside.append(Element(octets, inner, place + self.whole))
+            inner += self.inside[-1].whole
+
+
+class Parts:
+    """The elements inside a container, taken from left to right; a part is chosen by identifier alone."""
+
+    def __init__(self, container):
+        self.container, self.left = container, list(container.inside)
+
+    def next_is(self, identifiers):
+        return bool(self.left) and self.left[0].identifier in identifiers
+
+    def may(self, *identifiers):
+        return self.left.pop(0) if self.next_is(identifiers) else None
+
+    def must(self, *identifiers):
+        if not self.left:
+            raise Break(self.container, PART_MISSING)
+        if not self.next_is(identifiers):
+            raise Break(self.left[0], FITS_NO_PART)
+        return self.left.pop(0)
+
+    def end(self):
+        if self.left:
+            raise Break(self.left[0], FITS_NO_PART)
+
+
+def hold(element, rule):
+    """The element is the place where its value breaks its rule."""
+    if not rule:
+        raise Break(element, VALUE)
+
+
+def typed(element, identifier):
+    """An implicitly tagged element keeps the content rule of the type with that identifier."""
+    hold(element, nest_model.content_rule(identifier, element.content))
+
+
+def integer_to(element, most):
+    typed(element, 0x02)
+    hold(element, 0 <= int.from_bytes(element.content, "big", signed=True) <= most)
+
+
+class Walk:
+    """Walks a batch. `rows` and `differences` have what was met: (kind, place, whole, parent) and (place, edition, difference)."""
+
+    def __init__(self, editions):
+        self.editions, self.rows, self.differences, self.ids = editions, [], [], []
+
+    def row(self, kind, element, parent):
+        self.rows.append((kind, element.place, element.whole, parent))
+        return len(self.rows) - 1
+
+    def alone(self, edition, difference, element):
+        """The element stands in a form that one edition alone allows."""
+        if edition not in self.editions:
+            raise Break(element, LIST_OR_LOCATION if difference == 3 else FITS_NO_PART)
+        self.differences.append((element.place, edition, difference))
+
+    # "Batch 30: message+. Message 30: certReq, proof?, regInfo?."
+    def batch(self, element):
+        if element.identifier != 0x30:
+            raise Break(element, FITS_NO_PART)
+        row = self.row(1, element, 0)
+        parts = Parts(element)
+        self.message(parts.must(0x30), row)
+        while parts.next_is([0x30]):
+            self.message(parts.must(0x30), row)
+        parts.end()
+
+    def message(self, element, parent):
+        row = self.row(2, element, parent)
+        parts = Parts(element)
+        self.cert_req(parts.must(0x30), row)
+        proof = parts.may(0x80, 0xA1, 0xA2, 0xA3)
+        if proof:
+            self.proof(proof, row)
+        info = parts.may(0x30)
+        if info:
+            self.items(info, row, 70, self.info)
+        parts.end()
+
+    # "certReq 30: certReqId 02, template 30, controls 30?."
+    def cert_req(self, element, parent):
+        row = self.row(3, element, parent)
+        parts = Parts(element)
+        number = parts.must(0x02)
+        self.row(4, number, row)
+        self.ids.append(number)
+        self.template(parts.must(0x30), row)
+        controls = parts.may(0x30)
+        if controls:
+            self.items(controls, row, 30, self.control)
+        parts.end()
+
+    # "Template, each optional, in order"
+    def template(self, element, parent):
+        row = self.row(5, element, parent)
+        parts = Parts(element)
+        fields = [
+            (0x80, lambda field, own: typed(field, 0x02)),
+            (0x81, lambda field, own: typed(field, 0x02)),
+            (0xA2, lambda field, own: self.alg_id(field)),
+            (0xA3, lambda field, own: self.wrapped_name(field)),
+            (0xA4, self.validity),
+            (0xA5, lambda field, own: self.wrapped_name(field)),
+            (0xA6, lambda field, own: self.alg_id_and_bits(field)),
+            (0x87, lambda field, own: typed(field, 0x03)),
+            (0x88, lambda field, own: typed(field, 0x03)),
+            (0xA9, self.extensions),
+        ]
+        for identifier, judge in fields:
+            field = parts.may(identifier)
+            if field:
+                judge(field, self.row(10 + identifier % 16, field, row))
+        parts.end()
+
+    # "Validity: notBefore A0 (Time)?, notAfter A1 (Time)?, at least one."
+    def validity(self, element, own):
+        parts = Parts(element)
+        if not parts.left:
+            raise Break(element, PART_MISSING)
+        for kind, identifier in ((20, 0xA0), (21, 0xA1)):
+            wrapper = parts.may(identifier)
+            if wrapper:
+                self.row(kind, wrapper, own)
+                inner = Parts(wrapper)
+                time = inner.must(0x17, 0x18)
+                hold(time, is_time(time))
+                inner.end()
+        parts.end()
+
+    # a wrapper around one element that is free inside
+    def wrapped(self, element, *identifiers):
+        parts = Parts(element)
+        parts.must(*identifiers)
+        parts.end()
+
+    # "AlgId 30: 06, any?."
+    def alg_id(self, element):
+        parts = Parts(element)
+        parts.must(0x06)
+        parts.may(*ANY)
+        parts.end()
+
+    # "Spki 30: AlgId, 03." and "PkMac 30: AlgId, 03."
+    def alg_id_and_bits(self, element):
+        parts = Parts(element)
+        self.alg_id(parts.must(0x30))
+        parts.must(0x03)
+        parts.end()
+
+    # "Name 30: (31: (30: 06, any)+)*."
+    def wrapped_name(self, element):
+        parts = Parts(element)
+        rdns = Parts(parts.must(0x30))
+        while rdns.next_is([0x31]):
+            rdn = Parts(rdns.must(0x31))
+            self.attribute(rdn.must(0x30))
+            while rdn.next_is([0x30]):
+                self.attribute(rdn.must(0x30))
+            rdn.end()
+        rdns.end()
+        parts.end()
+
+    def attribute(self, element):
+        parts = Parts(element)
+        parts.must(0x06)
+        parts.must(*ANY)
+        parts.end()
+
+    # "Extensions: Extension+." "Extension 30: 06, 01?, 04, and a BOOLEAN present must be FF."
+    def extensions(self, element, own):
+        parts = Parts(element)
+        while True:
+            extension = parts.must(0x30)
+            self.row(22, extension, own)
+            inner = Parts(extension)
+            inner.must(0x06)
+            critical = inner.may(0x01)
+            if critical:
+                hold(critical, critical.content == b"\xff")
+            inner.must(0x04)
+            inner.end()
+            if not parts.next_is([0x30]):
+                return parts.end()
+
+    # "Proof: raVerified 80 empty; signature A1: poposkInput A0?, AlgId, 03; keyEncipherment A2 or keyAgreement A3 around one choice"
+    def proof(self, element, parent):
+        if element.identifier == 0x80:
+            self.row(50, element, parent)
+            return hold(element, element.content == b"")
+        row = self.row({0xA1: 51, 0xA2: 52, 0xA3: 53}[element.identifier], element, parent)
+        if element.identifier != 0xA1:
+            return self.choice(element, row)
+        parts = Parts(element)
+        signed = parts.may(0xA0)
+        if signed:
+            self.row(54, signed, row)
+            self.poposk_input(signed)
+        algorithm = parts.must(0x30)
+        self.row(55, algorithm, row)
+        self.alg_id(algorithm)
+        self.row(56, parts.must(0x03), row)
+        parts.end()
+
+    # "poposkInput: sender A0 (GeneralName) or PkMac, then Spki."
+    def poposk_input(self, element):
+        parts = Parts(element)
+        author = parts.must(0xA0, 0x30)
+        if author.identifier == 0xA0:
+            self.wrapped(author, *GENERAL_NAME)
+        else:
+            self.alg_id_and_bits(author)
+        self.alg_id_and_bits(parts.must(0x30))
+        parts.end()
+
+    # "one choice: 80 BIT STRING; 81 INTEGER 0 or 1; 82 BIT STRING; A3 PkMac content; A4 any nest."
+    # "(D1) choices A3 and A4 are edition 2 only; the place is the choice's."
+    def choice(self, element, own):
+        parts = Parts(element)
+        chosen = parts.must(0x80, 0x81, 0x82, 0xA3, 0xA4)
+        if chosen.identifier in (0xA3, 0xA4):
+            self.alone(2, 1, chosen)
+        self.row(60 + chosen.identifier % 16, chosen, own)
+        if chosen.identifier == 0x81:
+            integer_to(chosen, 1)
+        elif chosen.identifier == 0xA3:
+            self.alg_id_and_bits(chosen)
+        elif chosen.identifier != 0xA4:
+            typed(chosen, 0x03)
+        parts.end()
+
+    # "Controls and regInfo 30: item+. Item 30: type 06, any value."
+    def items(self, element, parent, kind, judge):
+        row = self.row(kind, element, parent)
+        parts = Parts(element)
+        while True:
+            item = parts.must(0x30)
+            inner = Parts(item)
+            name = inner.must(0x06).content
+            judge(item, name, inner, row)
+            inner.end()
+            if not parts.next_is([0x30]):
+                return parts.end()
+
+    # "Type octets 2B 06 01 05 05 07 05 01 n in controls, n of 1 to 6, fix the value"
+    def control(self, item, name, inner, parent):
+        known = name[-1] if name[:-1] == CONTROL and 1 <= name[-1] <= 6 else 0
+        fixed = {0: ANY, 1: [0x0C], 2: [0x0C], 4: [0xA0, 0x81, 0x82]}.get(known, [0x30])
+        value = inner.must(*fixed)
+        self.row(40 + known if known else 31, item, parent)
+        if known == 3:
+            self.publication(value)
+        elif known == 4 and value.identifier == 0xA0:  # "A0 around one 30 or A0"
+            self.wrapped(value, 0x30, 0xA0)
+        elif known == 4 and value.identifier == 0x82:
+            typed(value, 0x01)
+        elif known == 5:  # "30: GeneralName, 02"
+            parts = Parts(value)
+            parts.must(*GENERAL_NAME)
+            parts.must(0x02)
+            parts.end()
+        elif known == 6:
+            self.alg_id_and_bits(value)
+
+    # "30: 02 (0 or 1), (30: (30: 02 (0 to 3), GeneralName?)+)?, the list only with 1."
+    # "(D3) a location beside method 0 is edition 1 only; the place is the location's."
+    def publication(self, element):
+        parts = Parts(element)
+        action = parts.must(0x02)
+        integer_to(action, 1)
+        infos = parts.may(0x30)
+        if infos:
+            inner = Parts(infos)
+            while True:
+                info = Parts(inner.must(0x30))
+                method = info.must(0x02)
+                integer_to(method, 3)
+                location = info.may(*GENERAL_NAME)
+                if location and method.content == b"\x00":
+                    self.alone(1, 3, location)
+                info.end()
+                if not inner.next_is([0x30]):
+                    break
+            inner.end()
+            if action.content == b"\x00":  # "judged after its inside"
+                raise Break(infos, LIST_OR_LOCATION)
+        parts.end()
+
+    # "In regInfo 2B 06 01 05 05 07 05 02 n: 1: pairs; 2: a certReq."
+    # "(D2) pairs are 04 in edition 1, 0C in edition 2; the place is the value's."
+    def info(self, item, name, inner, parent):
+        if name == INFO + b"\x01":
+            value = inner.must(0x04, 0x0C)
+            edition = 1 if value.identifier == 0x04 else 2
+            self.alone(edition, 2, value)
+            self.row(71 + edition, item, parent)
+        elif name == INFO + b"\x02":
+            value = inner.must(0x30)
+            self.cert_req(value, self.row(74, item, parent))
+        else:
+            inner.must(*ANY)
+            self.row(71, item, parent)
+
+
+def is_time(element):
+    """YYMMDDHHMMSSZ or YYYYMMDDHHMMSSZ, a real moment. The calendar repeats itself every 400 years."""
+    digits = 2 if element.identifier == 0x17 else 4
+    match = re.fullmatch(rb"([0-9]{%d})" % digits + rb"([0-9]{2})" * 5 + rb"Z", element.content)
+    if not match:
+        return False
+    year, *rest = map(int, match.groups())
+    if digits == 2:
+        year += 1900 if year >= 50 else 2000
+    try:
+        datetime.datetime(2000 + year % 400, *rest)
+    except ValueError:
+        return False
+    return True
+
+
+def walk(octets, editions):
+    """The walk over the first element of octets whose nest is sound, with the forms of these editions alone readable.
+
+    Answers the break, as (place, detail), or None where the batch is in the grammar; and the Walk, which has the rows and differences.
+    """
+    met = Walk(editions)
+    try:
+        met.batch(Element(octets, 0, len(octets)))
+    except Break as stop:
+        return stop.args, met
+    return None, met
+
+
+def read(edition, octets):
+    """The reading of a batch: (number, place, rows); a refusal has no rows. 11 needs a table and isn't here."""
+    if edition not in (1, 2):
+        return 13, 0, []
+    number, place, *_ = nest_model.nest(octets)
+    if number:
+        return number, place, []
+    if place < len(octets):
+        return 7, place, []
+    stop, own = walk(octets, {edition})
+    if stop:
+        wrong, other = walk(octets, {3 - edition})
+        differences = [place for place, _, _ in other.differences]
+        return (8, stop[0], []) if wrong else (9, min(differences), [])
+    for number in own.ids:
+        if len(number.content) > 8:
+            return 10, number.place, []
+    return 0, 0, own.rows

@@ -1,0 +1,111 @@
+"""A model of document 01's section "The nest of elements", written from that document alone.
+
+It takes the text at its word: every rule is judged by itself, as far as there are octets to judge, and of all the faults the one
+with the least first byte is answered, and within one element the first in the document's order. The answer is
+(number, place, detail), or (0, end) where there is no fault: end is the place past the first element. The detail of 2 is
+1 identifier missing, 2 length octets missing, 3 content past the end; that of 5 is the tag number; else 0.
+"""
+
+LONGEST = 65535
+DEEPEST = 20
+PRIMITIVE_TYPES = {1, 2, 3, 4, 5, 6, 10, 12, *range(18, 29), 30}
+CONSTRUCTED_TYPES = {16, 17}
+
+# "within one element in this order": each fault with its number and its detail (None: the tag number)
+ORDER = [
+    ("too deep", 6, 0),
+    ("no identifier", 2, 1),
+    ("identifier", 3, 0),
+    ("no length", 2, 2),
+    ("length", 4, 0),
+    ("past the end", 2, 3),
+    ("content", 5, None),
+]
+
+
+def nest(octets):
+    if len(octets) > LONGEST:
+        return (1, 0, 0)
+    faults = set()
+    end = element(octets, 0, len(octets), 1, faults)
+    if not faults:
+        return (0, end)
+    place = min(place for place, _ in faults)
+    number, detail = next((number, detail) for name, number, detail in ORDER if (place, name) in faults)
+    return (number, place, octets[place] % 32 if detail is None else detail)
+
+
+def element(octets, place, parent_end, depth, faults):
+    """Adds the faults of an element and of those inside it, as (first byte, name); answers its end, or None where it has a fault."""
+    own = octets[place:parent_end]
+    broken = set()
+    if depth > DEEPEST:
+        broken.add("too deep")
+    if len(own) == 0:
+        broken.add("no identifier")
+    elif not allowed(own[0]):
+        broken.add("identifier")
+    if len(own) == 1:
+        broken.add("no length")
+    elif len(own) > 1:
+        header, size, wrong = length(own)
+        if wrong:
+            broken.add("length")
+        if size is None:
+            broken.add("no length")
+        elif header + size > len(own):
+            broken.add("past the end")
+        if size is not None and not content_rule(own[0], own[header:header + size]):
+            broken.add("content")
+    faults |= {(place, name) for name in broken}
+    if broken:
+        return None
+    inner, end = place + header, place + header + size
+    while own[0] & 0x20 and inner is not None and inner < end:
+        inner = element(octets, inner, end, depth + 1, faults)
+    return end
+
+
+def allowed(identifier):
+    tag, constructed, universal = identifier & 0x1F, identifier & 0x20, identifier & 0xC0 == 0
+    return tag < 31 and (not universal or tag in (CONSTRUCTED_TYPES if constructed else PRIMITIVE_TYPES))
+
+
+def length(own):
+    """The octets before the content, its length (None where length octets are missing), and whether 4 is to be said."""
+    first = own[1]
+    if first < 0x80:
+        return 2, first, False
+    if first in (0x80, 0xFF):
+        return 2, 0, True
+    count = first & 0x7F
+    number = own[2:2 + count]
+    wrong = number[:1] == b"\x00" or count == 1 and number < b"\x80"
+    return 2 + count, int.from_bytes(number, "big") if len(number) == count else None, wrong
+
+
+def bits(octets):
+    return "".join(f"{octet:08b}" for octet in octets)
+
+
+def content_rule(identifier, content):
+    """Whether an element's content keeps its type's rule; most types have none."""
+    if identifier == 0x01:
+        return content in (b"\x00", b"\xff")
+    if identifier in (0x02, 0x0A):
+        return len(content) == 1 or len(content) > 1 and len(set(bits(content)[:9])) == 2
+    if identifier == 0x03:
+        if len(content) < 2:
+            return content == b"\x00"
+        return content[0] <= 7 and bits(content).endswith("0" * content[0])
+    if identifier == 0x05:
+        return content == b""
+    if identifier == 0x06:
+        starts = [i for i in range(len(content)) if i == 0 or content[i - 1] < 0x80]
+        return content != b"" and content[-1] < 0x80 and all(content[i] != 0x80 for i in starts)
+    if identifier == 0x0C:
+        try:
+            content.decode("utf-8", "strict")
+        except UnicodeDecodeError:
+            return False
+    return True
