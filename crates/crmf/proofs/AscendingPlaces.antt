@@ -11,7 +11,7 @@ use lib.Dec.{eqb}
 use lib.ListN.{length, length-append}
 use Rattle.der.specs.Identifier.{constructed}
 use Rattle.der.specs.Tree.{Tree, none, element, header, encode, WellFormed}
-use Rattle.der.proofs.Laws.{header-some, encode-none, encode-element}
+use Rattle.der.proofs.Laws.{header-some, encode-none, encode-length}
 use Rattle.crmf.specs.Notation.{Mark, both, alone, Inside, Part}
 use Rattle.crmf.specs.Language.{Matches, end, pass, take, choose, Within, unseen, parts, Occurrence, occurs, occurrences, occurrencesIn}
 use Rattle.crmf.specs.Walk.{line, trail}
@@ -70,11 +70,6 @@ occurs-ascend : (m : Mark) (p : ℕ) → Ascends p (suc p) (occurs m p)
 occurs-ascend both p = tt
 occurs-ascend (alone e d) p = (omega arith, omega arith, tt)
 
--- an element's encoding: its header, its content and what stands behind it
-encode-length : (id first whole : ℕ) (c : List ℕ) (inside rest : Tree)
-    → length (encode (element id first whole c inside rest)) ≡ length (header id c) + length c + length (encode rest)
-encode-length id first whole c inside rest = simp (encode-element, length-append)
-
 module _ (left place id first whole : ℕ) (c : List ℕ) (inside rest : Tree) (formed : WellFormed (suc left) place (element id first whole c inside rest)) where
   -- the elements inside a well-formed element are well-formed behind its header, and fit into its content
   formed-inside : WellFormed left (place + length (header id c)) inside × (length (encode inside) ≤ length c)
@@ -91,7 +86,8 @@ module _ (left place id first whole : ℕ) (c : List ℕ) (inside rest : Tree) (
       → Ascends place (place + length (encode (element id first whole c inside rest))) (here ++ (inner ++ later))
   element-ascends here inner later at-it in-it behind =
       let h = length (header id c) in
-      let size : whole ≡ h + length c = formed .0 .sized ∙ length-append (header id c) c in
+      let sized = formed .0 .sized in
+      let size = length-append (header id c) c in
       let octet = header-some id c in
       let long = encode-length id first whole c inside rest in
       let fits = formed-inside .1 in

@@ -12,13 +12,10 @@ use Rattle.crmf.specs.Notation.{among, Name, names, Inside, free, holds,
 use Rattle.crmf.specs.Grammar.{content}
 use Rattle.crmf.specs.Language.{behind, OneOf, first, later}
 use Rattle.crmf.specs.Value.{Selector}
+use Rattle.crmf.specs.Rows.{container}
 use Rattle.crmf.proofs.Names.{at-each}
 use Rattle.crmf.proofs.Tests.{all, all-getElem}
 use Rattle.crmf.proofs.Choices.{never-both}
-
--- the kinds of containers' rows
-unfoldable pub container : ℕ → Bool
-container = among (1 ∷ 2 ∷ 3 ∷ 5 ∷ 14 ∷ 19 ∷ 30 ∷ 51 ∷ 52 ∷ 53 ∷ 70 ∷ 74 ∷ [])
 
 -- whether the row that the rows behind it have for their parent is a container's: the element's own, if it has one
 abbrev pub bearsIf : ℕ → Bool → Bool
@@ -38,21 +35,21 @@ allForms test [] = true
 allForms test (f ∷ fs) = test f && allForms test fs
 
 -- no row stands in what a form, some parts and a container describe, where q says so of the containers below
-quietIn : (Name → Bool) → Inside → Bool
+unfoldable pub quietIn : (Name → Bool) → Inside → Bool
 quietIn q free = true
 quietIn q (holds n) = q n
 
-quietParts : (Name → Bool) → List Part → Bool
+unfoldable pub quietParts : (Name → Bool) → List Part → Bool
 quietParts q [] = true
 quietParts q (part o fs ∷ ps) = allForms (λ f. eqb (f .kind) 0 && (eqb (f .item) 0 && quietIn q (f .inside))) fs && quietParts q ps
 quietParts q (select id s ns ∷ ps) = all q ns && quietParts q ps
 
-quietTo : ℕ → Name → Bool
+unfoldable pub quietTo : ℕ → Name → Bool
 quietTo zero n = false
 quietTo (suc d) n = quietParts (quietTo d) (content n)
 
 -- No row stands in the container: no container without rows is more than eight deep.
-pub quiet : Name → Bool
+unfoldable pub quiet : Name → Bool
 quiet n = quietTo 8 n
 
 -- an element of some parts may give the element around it a row, which stands before any other of that element's

@@ -12,7 +12,7 @@ use lib.ListN.{length, length-append, length-take, length-drop, take, drop, getD
 use lib.Seq.{take-append-seam, take-take, take-add, drop-drop}
 use Rattle.der.specs.Identifier.{constructed}
 use Rattle.der.specs.Tree.{Tree, none, element, header, encode, Formed, WellFormed, moved}
-use Rattle.der.proofs.Laws.{encode-none, encode-element, encode-moved, moved-none, moved-element, well-formed-moved}
+use Rattle.der.proofs.Laws.{encode-none, encode-element, encode-length, encode-moved, moved-none, moved-element, well-formed-moved}
 use Rattle.der.proofs.Parts.{append-parts}
 use Rattle.crmf.specs.Notation.{among}
 use Rattle.crmf.specs.Fields.{Field, fields, chain, octets, start, finish, Runs, Consists, StandsAt, missing, nth, seek, child, listed, movedField}
@@ -72,7 +72,7 @@ fields-run left p none w = omega (arith, ap length encode-none)
 fields-run zero p (element id first whole c inside rest) w = absurd w
 fields-run (suc left) p (element id first whole c inside rest) w =
     let size : p + whole + length (encode rest) ≡ p + length (encode (element id first whole c inside rest))
-    = omega (arith, w .0 .sized, length-append (header id c ++ c) (encode rest), ap length (encode-element id first whole c inside rest)) in
+    = omega (arith, w .0 .sized, encode-length id first whole c inside rest) in
     (w .0 .placed, w .0 .sized, subst (λ (e : ℕ). Runs (p + whole) e (fields rest)) size (fields-run (suc left) (p + whole) rest (w .1)))
 
 -- well-formed fields that stand one behind the other are well-formed elements

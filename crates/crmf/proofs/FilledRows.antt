@@ -48,6 +48,12 @@ written-all old count rs counted room =
       sized = ap length whole ∙ length-over old 0 (numbers rs) (omega arith);
     }
 
+-- Rows written over a table's first numbers, where there is room for them.
+pub over-holds : (old : List ℕ) (rs : List Row) → width * length rs ≤ length old → Holds rs (length rs) old (over old 0 (numbers rs))
+over-holds old rs room =
+    let all = written-all old (length rs) rs refl room in
+    subst (Holds rs (length rs) old) (all .whole) all
+
 module _ (s : List ℕ) (short : length s ≤ longest) {R : ℕ → Bool} (m : Matches R (content Top) (tree 0 s)) where
   -- The rows that filling finds in a batch are those of any derivation.
   pub rows-of : rowsOf s ≡ batchRows m

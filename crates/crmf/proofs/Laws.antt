@@ -15,6 +15,8 @@
 --                           other edition (`other`, `foreign`)
 --     own-stops             and else it breaks at the first such form
 --     own-passes            so it passes exactly where that passes and has met none
+--     own-difference        in what is in one edition's grammar every difference that occurs is that edition's own
+--     other-walk            so the other edition's walk passes alike where none occurs, and otherwise stops at the first (`StopsAt`)
 --     inside-starts         every inside of the table is free or starts a container
 --     start-lives           where a container starts, it may end or an element is found (`Lives`)
 --     onward-lives          and so it is behind every element
@@ -28,39 +30,84 @@
 --     row-zero              row 0 is the batch: kind 1, from byte 0 on, of its whole length, its own parent; there is one (`rows-some`)
 --     rows-ascend           rows ascend strictly by first byte
 --     row-parent            each other row's parent is an earlier row
---     parent-container      each row's parent is a container (`container`)
+--     parent-container      each row's parent is a container
 --     row-within            each row's bytes lie within its parent's (`Inner`)
 --     rows-moved            the same elements so many bytes further on (`matches-moved`) have the same rows, moved (`shift`)
+--     rows-pieces           the rows of elements that stand in some octets show the derivation's pieces (`pieces`) of them
+--     batch-pieces          and so do the rows of a batch of its own octets
 --     rows-of               of an accepted input, filling finds the rows of any derivation, as many as counting answers (`rows-counted`)
 --     filled-rows           with room for them the table holds these rows in its first numbers and stays in the others (`Holds`)
+--     over-holds            so it is with any rows that are written over its first numbers
 --     filled-short          and with no room it stays as it is
 --     filled-whole          so it is with the rows that the lines find in any input
+--     assembly              a batch is the assembly of the pieces that its rows show of it
+--     rows-few              its rows are at most half as many as its octets
+--     pieces-short          none of its pieces is longer than it
+--     pieces-octets         the assembly of what rows show of octets is octets, where nothing is too long
+--     row-ends              the rows of a batch lie within it
 --     batch-content         a batch is one element 30, whose content is its messages' octets, one behind the other (`BatchContent`)
 --     message-parts         each message consists of its certReq, proof and regInfo, and the certReq of its own fields (`MessageParts`)
 --     messages-match        each message and its fields are what the grammar says of them (`MessageMatches`); conversely, a batch around
 --                           fields that match as messages is in the grammar (`batch-of-matches`), and well-formed (`batch-of-formed`)
 --     messages-stand        each message and each of its fields stands at its place in the batch's octets (`MessageStands`)
 --     messages-moved        the messages of elements so many bytes further on are the messages, moved
+--     proof-child-stands    so does a field inside a message's proof
+--     stands-part           a field that stands at its place lies within the bytes, and its octets are that part of them
+--     fields-at             between two places of some bytes, the fields are the one that is read first (`fieldAt`) and those behind it; from an
+--                           end on there are none (`fields-end`); and where there is a first, it is that one (`fields-begin`, `Begins`)
+--     inside-fields         those inside a constructed field are the ones between its content's first place and its end
+--     seek-none, seek-here, seek-next    the search for an identifier, field by field; what is found has it (`child-identified`)
+--     batch-at              the input's one element is read at its first byte
+--     messages-inside       its messages are those of the fields inside it, and each has its field as its own (`message-field`)
+--     proof-cases           a proof's identifier is one of the four
+--     fields-read           the fields of the octets from p to e are the field that is read at p (`fieldRead`) and those behind it; where no
+--                           octet stands there are none (`fields-past`), and inside a SEQUENCE they are those of its content (`sequence-read`)
+--     batch-read            so the messages of a batch are those of the fields that are read from its content on
+--     id-read               and a message's certReqId is what is read first inside what is read first inside it (`IdRead`, `first-read`)
+--     ids-some              a message's certReqId has an octet of content at least, and, where no row is a long one, at most 8 (`ids-eight`)
+--     messages-few          a batch has two octets and 9 for each of its messages at least
 --     rows-long             what the counting walk has met of certReqIds of more than 8 content octets is the first row that is one
 --     walk-long             and so it is with the rows of any derivation
 --     long-none             where nothing was known, nothing is known exactly where no row is one
+--     count-whole           of an input that is not too long, counting is the walk over its tree that reads every form (`rows-whole` of rows)
+--     whole-count           the rows that the lines find in it are as many as were counted
+--     whole-long            and their first long certReqId is the one that was met
+--     numbers-row           the definitions of rows' numbers and of pieces, one step at a time: `pieces-row`, `own-container`, `own-leaf`,
+--                           `whole-container`, `whole-leaf`, `children-piece`, `assembled-piece`, `within-piece`; and where there is
+--                           nothing, `numbers-none`, `pieces-none`, `children-none`, `assembled-none`, `within-none`
+--     container-kinds       which kinds are containers', their identifiers (`identifier-of`) and types (`implied-type`, `implied-none`)
+--     children-bound        where no piece is longer than a limit, a piece's children have together at most so much for each piece
+--     same-more             the first octets of two lists and one more are compared; with none, `same-none`; of other lengths, `other-length`
 pub use Rattle.crmf.proofs.Accepts.{accepts}
-pub use Rattle.crmf.proofs.EveryForm.{all, isPassed, passes-accepts}
+pub use Rattle.crmf.proofs.EveryForm.{all, isPassed, walk-passes, passes-accepts}
 pub use Rattle.crmf.proofs.Choices.{Choice, taking, choosing, identifiersOf, choices, deterministic}
 pub use Rattle.crmf.proofs.FirstSeen.{Edition, first-edition, second-edition, firstSeen, after, seenOf, walk-seen}
 pub use Rattle.crmf.proofs.Marks.{trail-occurrences, marks-met}
-pub use Rattle.crmf.proofs.AscendingPlaces.{Ascends, trail-ascends, occurrences-ascend, first-least}
+pub use Rattle.crmf.proofs.AscendingPlaces.{Ascends, ascends-least, trail-ascends, occurrences-ascend, first-least}
 pub use Rattle.crmf.proofs.ReadableSets.{firstOf, unread, Follows, own-walk, two-sets}
 pub use Rattle.crmf.proofs.OneEdition.{other, foreign, own-alike, own-stops, own-passes}
+pub use Rattle.crmf.proofs.Differences.{StopsAt, own-difference, other-walk}
 pub use Rattle.crmf.proofs.TableChecks.{Lives, WayLines, rowKinds, inside-starts, start-lives, onward-lives, ways-lines, ways-parts, kind-known, item-known, kind-given}
-pub use Rattle.crmf.proofs.Containers.{container}
 pub use Rattle.crmf.proofs.RowsInPlace.{noRow}
 pub use Rattle.crmf.proofs.RowsOfLines.{rows-lines, rows-same, rows-count, walk-counts}
 pub use Rattle.crmf.proofs.RowLaws.{Inner, row-zero, rows-some, rows-ascend, row-parent, parent-container, row-within}
 pub use Rattle.crmf.proofs.RowsMoved.{shift, matches-moved, rows-moved}
-pub use Rattle.crmf.proofs.FilledRows.{Holds, rows-of, rows-counted, filled-rows, filled-short, filled-whole}
+pub use Rattle.crmf.proofs.PiecesOf.{pieceIf, pieces, piecesIn}
+pub use Rattle.crmf.proofs.ShownPieces.{pieces-length, rows-pieces, batch-pieces}
+pub use Rattle.crmf.proofs.FilledRows.{Holds, over-holds, rows-of, rows-counted, filled-rows, filled-short, filled-whole}
 pub use Rattle.crmf.proofs.FieldLaws.{FormedField, IfAny}
+pub use Rattle.crmf.proofs.FieldSteps.{fieldAt, Begins, fields-end, fields-at, fields-begin, inside-fields, seek-none, seek-here, seek-next, child-identified, batch-at, messages-inside, message-field, proof-cases, proof-child-stands, stands-part}
 pub use Rattle.crmf.proofs.FieldsMatch.{Holding}
 pub use Rattle.crmf.proofs.MessageLaws.{ProofMatches, raVerified, signature, keyEncipherment, keyAgreement, MessageMatches, MessageParts, BatchContent, MessageStands}
 pub use Rattle.crmf.proofs.MessageLaws.{batch-content, message-parts, messages-match, messages-formed, messages-stand, messages-moved, batch-of-matches, batch-of-formed, at-position}
+pub use Rattle.crmf.proofs.Assembly.{assembly, rows-few, pieces-short}
+pub use Rattle.crmf.proofs.AssembledOctets.{pieces-octets, row-ends}
+pub use Rattle.crmf.proofs.Writing.{numbers-length}
+pub use Rattle.crmf.proofs.MessageSteps.{fieldRead, fields-past, fields-read, sequence-read, first-read, IdRead, id-read, batch-read}
+pub use Rattle.crmf.proofs.MessageSizes.{ids-some, ids-eight, messages-few}
 pub use Rattle.crmf.proofs.LongIds.{rows-long, walk-long, long-none}
+pub use Rattle.crmf.proofs.WholeInput.{count-whole, rows-whole, whole-count, whole-long}
+pub use Rattle.crmf.proofs.ValueRules.{other-length, same-none, same-more, same-octets, same-itself}
+pub use Rattle.crmf.proofs.PieceLaws.{container-kinds, identifier-of, implied-type, implied-none, pieces-none, pieces-row, own-container, own-leaf}
+pub use Rattle.crmf.proofs.PieceLaws.{whole-container, whole-leaf, children-none, children-piece, assembled-none, assembled-piece}
+pub use Rattle.crmf.proofs.PieceLaws.{within-none, within-piece, children-bound, numbers-none, numbers-row}

@@ -9,15 +9,15 @@ use lib.ListN.{length, getD, take as upto, length-append, length-take}
 use lib.Seq.{getD-take}
 use Rattle.der.specs.Identifier.{constructed}
 use Rattle.der.specs.Tree.{Tree, none, element, header, encode, WellFormed}
-use Rattle.der.proofs.Laws.{header-some, encode-none, encode-element}
+use Rattle.der.proofs.Laws.{header-some, encode-none, encode-length}
 use Rattle.crmf.specs.Value.{selected}
 use Rattle.crmf.specs.Notation.{among, Top, Batch, Inside, Form, once, Part, part, holding, row}
 use Rattle.crmf.specs.Grammar.{content}
 use Rattle.crmf.specs.Language.{behind, OneOf, first, Matches, end, pass, take, choose, Within, unseen, parts}
-use Rattle.crmf.specs.Rows.{Row, rows, rowsIn, batchRows}
+use Rattle.crmf.specs.Rows.{Row, container, rows, rowsIn, batchRows}
 use Rattle.crmf.proofs.Choices.{never-both}
 use Rattle.crmf.proofs.RowsOfLines.{rowsOne}
-use Rattle.crmf.proofs.Containers.{container, bearsIf, early, earlyIn, givesItem, right, rightIn, item-given, right-content, right-way, right-part}
+use Rattle.crmf.proofs.Containers.{bearsIf, early, earlyIn, givesItem, right, rightIn, item-given, right-content, right-way, right-part}
 use Rattle.crmf.proofs.RowsInPlace.{noRow, before-at, Fit, Fits, fits-at, Laid, Room, room-less, Early, early-less, one-laid}
 
 -- one of two holds where the second does
@@ -30,45 +30,52 @@ or-first : (a b : Bool) → a ≡ true → (a || b) ≡ true
 or-first true b e = refl
 or-first false b e = never-both false e refl
 
--- What a well-formed element says of its places: where it stands, where its inside starts and ends, and the elements behind it.
-record Standing (left q id p w : ℕ) (c : List ℕ) (inside rest : Tree) : Type 0 where
-  at : p ≡ q
-  deeper : ℕ
-  within : WellFormed deeper (p + length (header id c)) inside
-  starts : p < p + length (header id c)
-  holds : p + length (header id c) + length (encode inside) ≤ p + w
-  further : WellFormed left (p + w) rest
-  ends : p + w + length (encode rest) ≡ q + length (encode (element id p w c inside rest))
+-- What a well-formed element says of its places: where it stands, where its inside starts and ends, and the elements behind it. Its content
+-- begins with the elements inside: nothing is beyond them where it is constructed, and there are none where it is primitive.
+pub record Standing (left q id p w : ℕ) (c : List ℕ) (inside rest : Tree) : Type 0 where
+  pub at : p ≡ q
+  pub sized : w ≡ length (header id c ++ c)
+  pub deeper : ℕ
+  pub within : WellFormed deeper (p + length (header id c)) inside
+  pub beyond : List ℕ
+  pub filled : c ≡ encode inside ++ beyond
+  pub starts : p < p + length (header id c)
+  pub holds : p + length (header id c) + length (encode inside) ≤ p + w
+  pub further : WellFormed left (p + w) rest
+  pub ends : p + w + length (encode rest) ≡ q + length (encode (element id p w c inside rest))
 
 module _ (q id p w : ℕ) (c : List ℕ) (inside rest : Tree) where
-  -- it does where its inside is well-formed and fits into its content
+  -- it does where its inside is well-formed and its content begins with that
   stands-at : (left deeper : ℕ) → p ≡ q → w ≡ length (header id c ++ c) → WellFormed deeper (q + length (header id c)) inside
-      → length (encode inside) ≤ length c → WellFormed left (q + w) rest → Standing left q id p w c inside rest
-  stands-at left deeper at sized within fits further =
-      let octets = length-append (header id c) c in
+      → (beyond : List ℕ) → c ≡ encode inside ++ beyond → WellFormed left (q + w) rest → Standing left q id p w c inside rest
+  stands-at left deeper at sized within beyond filled further =
       record {
         at = at;
+        sized = sized;
         deeper = deeper;
         within = rw at within;
+        beyond = beyond;
+        filled = filled;
         starts = omega (arith, header-some id c);
-        holds = omega (arith, octets);
+        holds = omega (arith, length-append (header id c) c, ap length filled, length-append (encode inside) beyond);
         further = rw at further;
-        ends = omega (arith, length-append (header id c ++ c) (encode rest), ap length (encode-element id p w c inside rest));
+        ends = omega (arith, encode-length id p w c inside rest);
       }
 
   -- so any well-formed element does
-  standing : (left : ℕ) → WellFormed left q (element id p w c inside rest) → Standing left q id p w c inside rest
+  pub standing : (left : ℕ) → WellFormed left q (element id p w c inside rest) → Standing left q id p w c inside rest
   standing zero wf = absurd wf
   standing (suc left) wf = go (constructed id) refl
     where
       go : (b : Bool) → constructed id ≡ b → Standing (suc left) q id p w c inside rest
       go true e =
           let (octets, deeper) = wf .0 .filled e in
-          stands-at (suc left) left (wf .0 .placed) (wf .0 .sized) deeper (omega (arith, ap length octets)) (wf .1)
+          stands-at (suc left) left (wf .0 .placed) (wf .0 .sized) deeper [] (octets ∙ sym (append-nil (encode inside))) (wf .1)
       go false e =
           let empty = wf .0 .valued e .0 in
           let nothing : WellFormed left (q + length (header id c)) inside = rw empty tt in
-          stands-at (suc left) left (wf .0 .placed) (wf .0 .sized) nothing (rw empty (omega (arith, ap length encode-none))) (wf .1)
+          let none-inside : encode inside ≡ [] = ap encode empty ∙ encode-none in
+          stands-at (suc left) left (wf .0 .placed) (wf .0 .sized) nothing c (rw none-inside) (wf .1)
 
 mutual
   unfolding rows rowsIn rowsOne early earlyIn rightIn
@@ -131,7 +138,7 @@ record Batched (rs : List Row) (w : ℕ) : Type 0 where
   fits : Fits (batchRow w ∷ []) more
 
 -- the one form of a list
-only-form : {f g : Form} → OneOf f (g ∷ []) → f ≡ g
+pub only-form : {f g : Form} → OneOf f (g ∷ []) → f ≡ g
 only-form first = refl
 
 -- no parts describe no elements, which have no rows
@@ -140,7 +147,7 @@ unfolding rows
 nothing-left end n up place whole = (refl, refl)
 
 -- the batch's form
-abbrev batchForm : Form
+abbrev pub batchForm : Form
 batchForm = row 1 (holding 0x30 Batch)
 
 -- the rows of the batch's element begin so

@@ -2,6 +2,7 @@
 use Prim.Native.Nat.{ℕ}
 use mathlib.Core.Path.{_≡_, refl}
 use mathlib.Core.List.{List, [], _∷_, _++_, map}
+use Rattle.der.specs.Each.{Each}
 use Rattle.der.specs.Identifier.{constructed, universal, primitiveType, constructedType, universalType, allowed}
 use Rattle.der.specs.Length.{valueFrom, shortest, longForm, lengthOf, base256}
 use Rattle.der.specs.Header.{sizedBy, headOf}
@@ -26,9 +27,9 @@ each bs t = record { octets = bs; table = t }
 abbrev batch : ℕ → List ℕ
 batch bs = base256 128 bs
 
--- the example with the definition's own rows
-abbrev answered : Example → Example
-answered e = each (e .octets) (numbers (rowsOf (batch (e .octets))))
+-- the rows have these numbers
+abbrev Shows : Example → Type 0
+Shows e = numbers (rowsOf (batch (e .octets))) ≡ e .table
 
 -- the rows of a message at 2 with an empty template, where it and the batch have such whole lengths
 abbrev first : ℕ → ℕ → List ℕ
@@ -63,12 +64,13 @@ examples =
     (first 23 9 ++ (2 ∷ 11 ∷ 12 ∷ 0 ∷ 3 ∷ 13 ∷ 10 ∷ 5 ∷ 4 ∷ 15 ∷ 3 ∷ 6 ∷ 5 ∷ 18 ∷ 5 ∷ 6 ∷ 10 ∷ 20 ∷ 3 ∷ 8 ∷ []))
     ∷ []
 
-worked : map answered examples ≡ examples
+-- every example has such rows
+worked : Each Shows examples
 unfolding constructed universal primitiveType constructedType universalType allowed valueFrom shortest longForm lengthOf base256 sizedBy headOf
     given read treeOf tree same number typeNumber selected among named order content
     partSize size startsFrom start insideLine passOf formLines nextLine wayLine partLines containerLines linesFrom lines
     line seekIn seek goes rowsFrom rowsOf numbers
-worked = refl
+worked = (refl, (refl, (refl, (refl, (refl, (refl, (refl, (refl, tt))))))))
 
 -- a table of one number, so many times, and behind it others
 abbrev before : List ℕ → List ℕ

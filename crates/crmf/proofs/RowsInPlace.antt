@@ -9,9 +9,9 @@ use mathlib.Core.List.{List, [], _∷_, _++_, append-nil, append-assoc}
 use lib.Dec.{eqb}
 use lib.ListN.{length, getD, take, length-append, List·getD-append}
 use lib.Seq.{getD-at}
-use Rattle.crmf.specs.Rows.{Row, rowIf, parentIf}
+use Rattle.crmf.specs.Rows.{Row, container, rowIf, parentIf}
 use Rattle.crmf.proofs.RowsOfLines.{rowsOne, row-none, row-own, parent-none, parent-own}
-use Rattle.crmf.proofs.Containers.{container, bearsIf, bears-none, bears-own, or-second}
+use Rattle.crmf.proofs.Containers.{bearsIf, bears-none, bears-own, or-second}
 
 -- where there is no row
 abbrev pub noRow : Row

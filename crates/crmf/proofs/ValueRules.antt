@@ -1,13 +1,13 @@
 -- What the value rules say of octets at places: bounds of the numbers that they read, and a comparison of lists octet by octet.
 -- Assumes nothing.
-use Prim.Native.Nat.{ℕ, suc, _+_, _-_, _*_, _≤_, _<_}
+use Prim.Native.Nat.{ℕ, zero, suc, _+_, _-_, _*_, _≤_, _<_}
 use mathlib.Core.Bool.{Bool, true, false, _&&_, and-eq-true-iff, and-false, and-true, and-assoc}
 use mathlib.Core.List.{List, [], _∷_}
-use mathlib.Core.Path.{_≡_, refl, ap, _∙_}
-use borrow.Author.Tests.{leb-true, eq-eqb}
+use mathlib.Core.Path.{_≡_, refl, sym, ap, ap₂, _∙_}
+use borrow.Author.Tests.{leb-true, eqb-true, eq-eqb}
 use native.Mathlib.Omega.{arith}
 use lib.Dec.{leb, eqb, lit<}
-use lib.ListN.{length, getD, drop, drop-of-length-le}
+use lib.ListN.{length, getD, take, drop, drop-of-length-le}
 use lib.Seq.{drop-cons}
 use Rattle.crmf.specs.Value.{same, digit, isUpTo, number, pairAt, typeNumber, Selector, action, method, controlType, infoType, selected}
 
@@ -72,6 +72,21 @@ other-length [] (b ∷ bs) h = refl
 other-length (a ∷ more) [] h = refl
 other-length (a ∷ more) (b ∷ bs) h = rw (other-length more bs (λ e. h (ap suc e))) (and-false (eqb a b))
 
+-- the first octets and one more are compared
+pub same-more : (a b : List ℕ) (i : ℕ) → i < length a → i < length b
+    → same (take (suc i) a) (take (suc i) b) ≡ same (take i a) (take i b) && eqb (getD a i 0) (getD b i 0)
+unfolding same
+same-more [] b i l m = absurd (omega arith)
+same-more (x ∷ a) [] i l m = absurd (omega arith)
+same-more (x ∷ a) (y ∷ b) zero l m = and-true (eqb x y)
+same-more (x ∷ a) (y ∷ b) (suc i) l m =
+    rw (same-more a b i (omega arith) (omega arith)) (sym (and-assoc (eqb x y) (same (take i a) (take i b)) (eqb (getD a i 0) (getD b i 0))))
+
+-- nothing to compare is the same
+pub same-none : same [] [] ≡ true
+unfolding same
+same-none = refl
+
 -- the octet at i is compared, and then those behind it
 same-next : (c : List ℕ) (i b : ℕ) (bs : List ℕ) → i < length c → same (drop i c) (b ∷ bs) ≡ eqb (getD c i 0) b && same (drop (suc i) c) bs
 unfolding same
@@ -111,3 +126,18 @@ module _ (c : List ℕ) (h : length c ≡ 9) where
         eq-eqb (getD c 8 0) (getD c 8 0) refl,
       )
       (simp (and-assoc, and-true))
+
+-- Lists are compared as the same exactly where they are.
+pub same-octets : (a b : List ℕ) → same a b ≡ true → a ≡ b
+unfolding same
+same-octets [] [] is = refl
+same-octets [] (y ∷ b) is = let z : _≡_ {A = ℕ} 0 1 = cc in absurd (omega arith)
+same-octets (x ∷ a) [] is = let z : _≡_ {A = ℕ} 0 1 = cc in absurd (omega arith)
+same-octets (x ∷ a) (y ∷ b) is =
+    let both = and-eq-true-iff (eqb x y) (same a b) .0 is in
+    ap₂ (λ (n : ℕ) (l : List ℕ). n ∷ l) (eqb-true x y (both .0)) (same-octets a b (both .1))
+
+pub same-itself : (a : List ℕ) → same a a ≡ true
+unfolding same
+same-itself [] = refl
+same-itself (x ∷ a) = and-eq-true-iff (eqb x x) (same a a) .1 (eq-eqb x x refl, same-itself a)

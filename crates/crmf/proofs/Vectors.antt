@@ -4,6 +4,7 @@ use mathlib.Core.Path.{_≡_, refl}
 use mathlib.Core.Bool.{Bool, true}
 use mathlib.Core.List.{List, [], _∷_, map}
 use lib.Dec.{eqb}
+use Rattle.der.specs.Each.{Each, _&_}
 use Rattle.der.specs.Identifier.{constructed, universal, primitiveType, constructedType, universalType, allowed}
 use Rattle.der.specs.Length.{valueFrom, shortest, longForm, lengthOf, base256}
 use Rattle.der.specs.Header.{sizedBy, headOf}
@@ -44,11 +45,11 @@ longer w p s = record { count = s .count; one = s .one; «one_at» = s .«one_at
 abbrev rows : ℕ → Seen
 rows n = seen n 0 0 0 0
 
--- the example with the walk's own answers
-abbrev answered : Example → Example
-answered e =
+-- the three walks answer so
+abbrev Walks : Example → Type 0
+Walks e =
     let walked : (ℕ → Bool) → Walked = λ R. walk R (rows 0) (start Top) 0 (tree 0 (base256 128 (e .octets))) in
-    each (e .octets) (walked (λ n. true)) (walked (eqb 1)) (walked (eqb 2))
+    (walked (λ n. true) ≡ e .all) × (walked (eqb 1) ≡ e .one) × (walked (eqb 2) ≡ e .two)
 
 abbrev examples : List Example
 examples =
@@ -108,13 +109,21 @@ examples =
     ∷ alike 0x301E301C301A0201003015A413A011180F30303030303232393030303030305A (Passed (rows 7))
     ∷ []
 
-worked : map answered examples ≡ examples
+-- every example is walked so
+worked : Each Walks examples
 unfolding constructed universal primitiveType constructedType universalType allowed valueFrom shortest longForm lengthOf base256 sizedBy headOf
     boolean integer lastOf bitString given read treeOf tree
     same isEmpty isUpTo number isTrue pairAt leap daysIn isMoment century isUtcTime isGeneralizedTime keeps typeNumber selected among named order content
     partSize size startsFrom start insideLine passOf formLines nextLine wayLine partLines containerLines linesFrom lines
     line seekIn seek closedIn closed judged noted lengthy met walk
-worked = refl
+worked =
+    (refl, refl, refl) & (refl, refl, refl) & (refl, refl, refl) & (refl, refl, refl) & (refl, refl, refl) & (refl, refl, refl)
+    & (refl, refl, refl) & (refl, refl, refl) & (refl, refl, refl) & (refl, refl, refl) & (refl, refl, refl) & (refl, refl, refl)
+    & (refl, refl, refl) & (refl, refl, refl) & (refl, refl, refl) & (refl, refl, refl) & (refl, refl, refl) & (refl, refl, refl)
+    & (refl, refl, refl) & (refl, refl, refl) & (refl, refl, refl) & (refl, refl, refl) & (refl, refl, refl) & (refl, refl, refl)
+    & (refl, refl, refl) & (refl, refl, refl) & (refl, refl, refl) & (refl, refl, refl) & (refl, refl, refl) & (refl, refl, refl)
+    & (refl, refl, refl) & (refl, refl, refl) & (refl, refl, refl)
+    & tt
 
 -- the two-digit years on both sides of the centuries' border
 centuries : map century (0 ∷ 49 ∷ 50 ∷ 99 ∷ []) ≡ 2000 ∷ 2049 ∷ 1950 ∷ 1999 ∷ []

@@ -8,6 +8,7 @@ pub mod Packed
 pub mod Walk
 pub mod Steps
 pub mod Rows
+pub mod Pieces
 pub mod Fill
 pub mod Fields
 pub mod Messages

@@ -5,7 +5,7 @@ use mathlib.Core.List.{List, [], _∷_, _++_}
 use lib.Dec.{ltb, eqb}
 use lib.ListN.{length}
 use Rattle.der.specs.Tree.{Tree, none, element}
-use Rattle.crmf.specs.Notation.{Inside, Form, Part, Top}
+use Rattle.crmf.specs.Notation.{among, Inside, Form, Part, Top}
 use Rattle.crmf.specs.Grammar.{content}
 use Rattle.crmf.specs.Language.{Matches, end, pass, take, choose, Within, unseen, parts}
 
@@ -19,6 +19,11 @@ pub record Row : Type 0 where
 -- the numbers of a row
 abbrev pub width : ℕ
 width = 4
+
+-- "Containers: batch 1, message 2, certReq 3, template 5, validity 14, extensions 19, controls 30, signature 51, keyEncipherment 52,
+-- keyAgreement 53, regInfo 70, carried certReq item 74"
+unfoldable pub container : ℕ → Bool
+container = among (1 ∷ 2 ∷ 3 ∷ 5 ∷ 14 ∷ 19 ∷ 30 ∷ 51 ∷ 52 ∷ 53 ∷ 70 ∷ 74 ∷ [])
 
 -- the row of an element that has a kind; a kind of 0 is none
 abbrev pub rowIf : ℕ → ℕ → ℕ → ℕ → List Row

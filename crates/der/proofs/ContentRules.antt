@@ -1,10 +1,12 @@
 -- The test of a content is the rule that its identifier asks of it: each identifier of a rule picks that rule's test. Assumes nothing.
-use Prim.Native.Nat.{ℕ}
+use Prim.Native.Nat.{ℕ, _≤_}
+use native.Mathlib.Omega.{arith}
 use mathlib.Core.Path.{_≡_, refl}
 use mathlib.Core.Bool.{Bool, true, false}
-use mathlib.Core.List.{List}
+use mathlib.Core.List.{List, [], _∷_}
 use mathlib.Core.Logic.{_↔_}
 use lib.Dec.{T, eqb}
+use lib.ListN.{length}
 use borrow.Author.Tests.{eqb-true}
 use Rattle.der.specs.Utf8.{utf8}
 use Rattle.der.specs.Content.{boolean, integer, bitString, null, objectIdentifier, Content, holds}
@@ -39,3 +41,9 @@ content-exact id c = (
       (asked id 0x0A (integer c) _ (x .ofEnumerated)
       (asked id 0x0C (utf8 c) true (λ e. utf8-exact c .1 (x .ofUtf8String e)) tt)))))),
 )
+
+-- an INTEGER has an octet at least
+pub integer-some : (content : List ℕ) → T (integer content) → 1 ≤ length content
+unfolding integer
+integer-some [] t = absurd t
+integer-some (b ∷ content) t = omega arith

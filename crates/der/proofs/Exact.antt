@@ -25,12 +25,7 @@ use Rattle.der.proofs.Parts.{octets-drop, octets-part, take-middle, app
 use Rattle.der.proofs.Progress.{Ended, list-along, element-deep, element-end, element-progress, elements-next}
 use Rattle.der.proofs.Readings.{tree-encode}
 use Rattle.der.proofs.Steps.{element-inside, element-value, value-kept, list-empty, end-fault, walk-whole}
-
--- an element's encoding and that of the elements behind it
-encode-length : (id first whole : ℕ) (content : List ℕ) (inside rest : Tree)
-    → length (encode (element id first whole content inside rest)) ≡ length (header id content ++ content) + length (encode rest)
-unfolding encode
-encode-length id first whole content inside rest = length-append (header id content ++ content) (encode rest)
+use Rattle.der.proofs.Trees.{encode-length}
 
 -- the trees of two lists of elements, one behind the other
 pub joined : Tree → Tree → Tree

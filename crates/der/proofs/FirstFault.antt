@@ -269,18 +269,18 @@ least-place left p bs number at detail f = omega (arith, placed left p bs number
 pub fault-named : (left p : ℕ) (bs : List ℕ) (number at detail : ℕ) → First left p bs number at detail → Named (getD bs (at - p) 0) number detail
 fault-named left p bs number at detail f = placed left p bs number at detail f .named
 
--- so it is not 0
-fault-some : (left p : ℕ) (bs : List ℕ) (number at detail : ℕ) → First left p bs number at detail → 0 < number
+-- so it is from 2 to 6
+fault-some : (left p : ℕ) (bs : List ℕ) (number at detail : ℕ) → First left p bs number at detail → (2 ≤ number) × (number ≤ 6)
 fault-some left p bs number at detail f = go (fault-named left p bs number at detail f)
   where
-    go : {id n d : ℕ} → Named id n d → 0 < n
-    go Named.noIdentifier = omega arith
-    go Named.noLength = omega arith
-    go Named.pastEnd = omega arith
-    go Named.identifier = omega arith
-    go Named.length = omega arith
-    go Named.content = omega arith
-    go Named.depth = omega arith
+    go : {id n d : ℕ} → Named id n d → (2 ≤ n) × (n ≤ 6)
+    go Named.noIdentifier = (omega arith, omega arith)
+    go Named.noLength = (omega arith, omega arith)
+    go Named.pastEnd = (omega arith, omega arith)
+    go Named.identifier = (omega arith, omega arith)
+    go Named.length = (omega arith, omega arith)
+    go Named.content = (omega arith, omega arith)
+    go Named.depth = (omega arith, omega arith)
 
 -- Document 01's number is 0 exactly where the input is not too long and starts with the encoding of a well-formed tree of a single element.
 pub number-zero : (s : List ℕ) → Octets s → numberOf (walkAt s 0 (length s)) ≡ 0 ↔ (length s ≤ longest) × ((e : ℕ) × Encoded s e)
@@ -295,6 +295,10 @@ number-zero s o = (short (leb (length s) longest) refl, λ (l, (e, k)). rw (exac
     short true t z = let l = leb-true (length s) longest t in (l, found l (walkAt s 0 (length s)) refl z)
     short false t z = absurd (omega (arith, rw (walk-long s 0 (length s) (leb-false (length s) longest t)) at z))
 
+-- A fault of an input that is not too long has a number from 2 to 6.
+pub fault-number : (s : List ℕ) → Octets s → length s ≤ longest → (n q k : ℕ) → walkAt s 0 (length s) ≡ Fault n q k → (2 ≤ n) × (n ≤ 6)
+fault-number s o l n q k faulty = fault-some depth 0 s n q k (walk-fault s o l n q k .0 faulty)
+
 -- Document 01's number and place of an input that is not too long, where the number is not 0, are those of the first fault.
 pub number-place : (s : List ℕ) → Octets s → length s ≤ longest → (n q : ℕ)
     → (numberOf (walkAt s 0 (length s)) ≡ n) × (placeOf (walkAt s 0 (length s)) ≡ q) × (0 < n) ↔ ((detail : ℕ) × First depth 0 s n q detail)
@@ -303,7 +307,7 @@ number-place s o l n q = (
   λ (m, p, some). found (walkAt s 0 (length s)) refl m p some,
   λ (k, f).
       let faulty = walk-fault s o l n q k .1 f in
-      (rw faulty, rw faulty, fault-some depth 0 s n q k f),
+      (rw faulty, rw faulty, omega (arith, fault-some depth 0 s n q k f)),
 )
   where
     found : (r : Nest) → walkAt s 0 (length s) ≡ r → numberOf r ≡ n → placeOf r ≡ q → 0 < n → (detail : ℕ) × First depth 0 s n q detail

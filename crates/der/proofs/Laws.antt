@@ -1,7 +1,11 @@
 -- The laws of the crate that the layer above cites, gathered. Assumes nothing.
 --     passed              a test that holds is true
 --     constructed-bit     bit 6 of the identifier says that the content is a list of elements
+--     shortest-small, shortest-one, shortest-two    the length octets of a number below 128, 256 and 65,536
+--     value-none, value-more, value-last    the number that no octets give, an octet and those behind it, and the last octet
+--     value-below         octets are digits to the base 256
 --     value-large         three length octets or more, the first not 00, give 65,536 or more
+--     integer-some        an INTEGER has an octet at least
 --     head-fits           a header has two octets at least, and it and its content fit
 --     head-encoded        the header of an encoding is read back, whatever stands behind the element
 --     head-octets         what is read as a header and its content is their encoding
@@ -9,6 +13,8 @@
 --     read-in-order       an element is read in order wherever an octet stands
 --     read-at             in an input that is not too long, an element is read from the octets up to its parent's end
 --     read-at-in-order    by places: an element is read in order
+--     read-at-end         behind its parent's end none is read
+--     read-at-within      by places, whether one is read or none: content and end lie in order between them
 --     read-moved          octets further on are read as the same element, further on (`further`)
 --     tree-end            no octets are read as no elements
 --     tree-enough         with at least as many levels and siblings as octets, `treeOf` is the tree
@@ -20,21 +26,25 @@
 --     tree-moved          octets further on are read as the same elements, further on (`moved`)
 --     encode-moved        elements further on have the same encoding
 --     well-formed-moved   well-formed elements are well-formed further on
---     header-some         a header has an octet at least
---     encode-none, encode-element    the encoding of no elements, and of an element and those behind it
+--     header-some         a header has an octet at least, and in fact two (`header-two`): the identifier and the shortest length (`header-octets`,
+--                         `length-some`)
+--     encode-none, encode-element, encode-length    the encoding of no elements, and of an element and those behind it, with its length
 --     moved-none, moved-element      no elements further on, and an element and those behind it
---     sequence-constructed, sequence-allowed    the identifier 30
+--     sequence-constructed, sequence-allowed    the identifier 30; `integer-primitive` the identifier 02
 --     exact               a whole input's first element ends at e exactly where the octets up to e are an encoding (`Encoded`)
 --     walk-tree           the same of the tree that is read from those octets (`Checked`)
 --     number-zero         the input's number is 0 exactly where it starts with an encoding
+--     fault-number        a fault's number is from 2 to 6
 --     number-place        its number, if not 0, and its place are those of the first fault
 --     octets-take, octets-drop    a part of octets is octets
 --     take-drop, slice-slice, drop-slice, slice-middle    a part of a part of a list, by the places in the whole
-pub use Rattle.der.proofs.Parts.{octets-take, octets-drop, take-drop, slice-slice, drop-slice, slice-middle}
-pub use Rattle.der.proofs.Length.{value-large}
+--     slice-none          a part that starts at its end or behind it is empty
+pub use Rattle.der.proofs.Parts.{octets-take, octets-drop, take-drop, slice-slice, drop-slice, slice-middle, slice-none}
+pub use Rattle.der.proofs.Length.{value-none, value-more, value-last, value-below, shortest-small, shortest-one, shortest-two, value-large}
+pub use Rattle.der.proofs.ContentRules.{integer-some}
 pub use Rattle.der.proofs.Headers.{passed, constructed-bit, head-fits, head-encoded, head-octets}
-pub use Rattle.der.proofs.Readings.{InOrder, read-in-order, read-at, read-at-in-order, further, read-moved, tree-end, tree-enough}
+pub use Rattle.der.proofs.Readings.{InOrder, read-in-order, read-at, read-at-end, read-at-in-order, read-at-within, further, read-moved, tree-end, tree-enough}
 pub use Rattle.der.proofs.Readings.{elementAt, tree-step, tree-parts, tree-at, tree-encoded, tree-encode, tree-moved, encode-moved, well-formed-moved}
-pub use Rattle.der.proofs.Trees.{header-some, encode-none, encode-element, moved-none, moved-element, sequence-constructed, sequence-allowed}
+pub use Rattle.der.proofs.Trees.{header-some, header-two, header-octets, length-some, encode-none, encode-element, encode-length, moved-none, moved-element, sequence-constructed, sequence-allowed, integer-primitive}
 pub use Rattle.der.proofs.Exact.{Encoded, exact, Checked, walk-tree}
-pub use Rattle.der.proofs.FirstFault.{number-zero, number-place}
+pub use Rattle.der.proofs.FirstFault.{number-zero, fault-number, number-place}

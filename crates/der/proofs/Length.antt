@@ -1,8 +1,9 @@
 -- The laws of length octets: below 65,536 they are one, two or three, the shortest are read back, and what is read is the shortest. Assumes nothing.
-use Prim.Native.Nat.{ℕ, zero, suc, _+_, _-_, _*_, _/_, _%_, _≤_, _<_}
+use Prim.Native.Nat.{ℕ, zero, suc, _+_, _-_, _*_, _/_, _%_, _^_, _≤_, _<_}
 use mathlib.Core.Path.{_≡_, refl, sym, ap, _∙_}
 use mathlib.Core.Bool.{Bool, true, false, _&&_}
 use mathlib.Core.List.{List, [], _∷_, _++_}
+use native.Mathlib.Nat.{mul-assoc, mul-le-mul-right, pow-succ', lt-of-lt-of-le}
 use native.Mathlib.Omega.{arith}
 use lib.Dec.{leb, ltb}
 use lib.ListN.{length, take}
@@ -54,6 +55,30 @@ pub shortest-two : (n : ℕ) → 256 ≤ n → n ≤ 65535 → lengthOctets n �
 shortest-two zero low high = absurd (omega arith)
 shortest-two (suc zero) low high = absurd (omega arith)
 shortest-two (suc (suc k)) low high = long-octets (suc (suc k)) _ (omega arith) (base-two k (suc (suc k)) low high)
+
+-- no octets give the number before them
+pub value-none : (n : ℕ) → valueFrom n [] ≡ n
+unfolding valueFrom
+value-none n = refl
+
+-- an octet gives the number that those behind it follow
+pub value-more : (n b : ℕ) (bs : List ℕ) → valueFrom n (b ∷ bs) ≡ valueFrom (n * 256 + b) bs
+unfolding valueFrom
+value-more n b bs = refl
+
+-- the last octet is added to 256 times what those before it give
+pub value-last : (n : ℕ) (bs : List ℕ) (b : ℕ) → valueFrom n (bs ++ (b ∷ [])) ≡ valueFrom n bs * 256 + b
+unfolding valueFrom
+value-last n [] b = refl
+value-last n (c ∷ bs) b = value-last (n * 256 + c) bs b
+
+-- octets are digits to the base 256
+pub value-below : (n : ℕ) (bs : List ℕ) → Octets bs → valueFrom n bs < suc n * 256 ^ length bs
+unfolding valueFrom
+value-below n [] o = omega arith
+value-below n (b ∷ bs) o =
+    let more : suc (n * 256 + b) * 256 ^ length bs ≤ suc n * 256 * 256 ^ length bs = mul-le-mul-right (256 ^ length bs) (omega (arith, o 0)) in
+    lt-of-lt-of-le (value-below (n * 256 + b) bs (λ i. o (suc i))) (rw (pow-succ' 256 (length bs), ← mul-assoc (suc n) 256 (256 ^ length bs)) more)
 
 -- more octets give no less
 value-grows : (n : ℕ) (bs : List ℕ) → n ≤ valueFrom n bs

@@ -2,11 +2,12 @@
 -- Assumes nothing.
 use Prim.Native.Nat.{ℕ, zero, suc, _+_, _-_, _≤_, _<_}
 use mathlib.Core.Path.{_≡_, refl, sym, ap, ap₂, _∙_}
+use mathlib.Core.Logic.{_⊎_, inl, inr}
 use mathlib.Core.Bool.{Bool, true, false}
 use mathlib.Core.List.{List, [], _∷_, _++_}
-use native.Mathlib.Nat.{add-assoc}
+use native.Mathlib.Nat.{add-assoc, eq-or-lt-of-le}
 use native.Mathlib.Omega.{arith}
-use lib.Dec.{T}
+use lib.Dec.{T, leb}
 use lib.ListN.{length, drop, length-append, length-take, length-drop}
 use lib.Seq.{slice, length-slice, drop-at}
 use borrow.Author.Tests.{le-leb, lt-leb}
@@ -18,7 +19,7 @@ use Rattle.der.specs.Header.{headOf}
 use Rattle.der.specs.Tree.{Tree, none, element, header, encode, Formed, WellFormed, moved}
 use Rattle.der.specs.Walk.{longest}
 use Rattle.der.specs.Reading.{nothingAt, given, read, readAt, treeOf, tree}
-use Rattle.der.proofs.Parts.{slice-slice, drop-slice, slice-middle}
+use Rattle.der.proofs.Parts.{slice-slice, drop-slice, slice-middle, slice-none}
 use Rattle.der.proofs.Headers.{head-fits, head-encoded}
 
 -- An element's places lie in order from its first byte to its parent's end: its content starts behind its first byte, so the element is not empty.
@@ -107,6 +108,20 @@ pub read-at : (s : List ℕ) (p e : ℕ) → length s ≤ 65535 → readAt s p e
 unfolding readAt
 read-at s p e h = rw (readAt, le-leb (length s) 65535 h)
 
+-- where no octet stands, no element does
+read-none : (p : ℕ) → read p [] ≡ nothingAt p
+unfolding read given headOf
+read-none p = ap nothingAt (omega arith)
+
+-- behind its parent's end no element stands
+pub read-at-end : (s : List ℕ) (p e : ℕ) → e ≤ p → readAt s p e ≡ nothingAt p
+unfolding readAt
+read-at-end s p e past = by-length (leb (length s) longest)
+  where
+    by-length : (b : Bool) → elim b as (λ x. Element) [ true ↦ read p (slice p e s) | false ↦ nothingAt p ] ≡ nothingAt p
+    by-length true = ap (read p) (slice-none p e s (omega arith)) ∙ read-none p
+    by-length false = refl
+
 -- a header that stands gives its element
 pub read-stands : (p : ℕ) (bs : List ℕ) (id h n : ℕ) → headOf bs ≡ Stands id h n
     → read p bs ≡ record { identifier = id; content = p + h; end = p + h + n }
@@ -144,6 +159,15 @@ module _ (s : List ℕ) (p e : ℕ) (some : p < e) (fits : e ≤ length s) (high
       tree-parts p (slice p e s) _ _ x part-some (sym (read-at s p e high))
       (slice-slice p e (x .content) (x .end) s (omega arith) (omega arith) (omega arith))
       (drop-slice p e (x .end) s (omega arith))
+
+-- by places, whether an element is read or none: its content and its end lie in order between them
+pub read-at-within : (s : List ℕ) (p e : ℕ) → p ≤ e → e ≤ length s → length s ≤ 65535 → let x = readAt s p e in
+    (p ≤ x .content) × (x .content ≤ x .end) × (x .end ≤ e)
+read-at-within s p e order fits high = by-room (eq-or-lt-of-le order)
+  where
+    by-room : (p ≡ e) ⊎ (p < e) → let x = readAt s p e in (p ≤ x .content) × (x .content ≤ x .end) × (x .end ≤ e)
+    by-room (inl same) = rw (read-at-end s p e (omega arith)) (omega arith)
+    by-room (inr some) = let o = read-at-in-order s p e some fits high in omega arith
 
 -- the encoding of an element, and octets behind it, are read as that element and those octets
 pub tree-encoded : (p id : ℕ) (c more : List ℕ) → T (allowed id) → length c ≤ 65535 → tree p ((header id c ++ c) ++ more)

@@ -1,18 +1,38 @@
--- What the encoding of elements and moving them say of no elements and of an element with others behind it, and the identifier 30. Assumes nothing.
+-- A header's octets, what the encoding of elements and moving them say of no elements and of an element with others behind it, and the
+-- identifiers 30 and 02. Assumes nothing.
 use Prim.Native.Nat.{ℕ, _+_, _≤_}
 use native.Mathlib.Omega.{arith}
-use mathlib.Core.Path.{_≡_, refl}
-use mathlib.Core.Bool.{true}
-use mathlib.Core.List.{List, [], _++_}
-use lib.Dec.{T}
-use lib.ListN.{length}
+use mathlib.Core.Path.{_≡_, refl, ap}
+use mathlib.Core.Bool.{Bool, true, false}
+use mathlib.Core.List.{List, [], _∷_, _++_}
+use lib.Dec.{T, ltb}
+use lib.ListN.{length, length-append}
 use Rattle.der.specs.Identifier.{constructed, universal, constructedType, universalType, allowed}
+use Rattle.der.specs.Length.{base256, lengthOctets}
 use Rattle.der.specs.Tree.{Tree, none, element, header, encode, moved}
 
 -- a header has an octet at least
 pub header-some : (id : ℕ) (c : List ℕ) → 1 ≤ length (header id c)
 unfolding header
 header-some id c = omega arith
+
+-- its octets: the identifier and the shortest length
+pub header-octets : (id : ℕ) (c : List ℕ) → header id c ≡ id ∷ lengthOctets (length c)
+unfolding header
+header-octets id c = refl
+
+-- there is a length octet at least
+pub length-some : (n : ℕ) → 1 ≤ length (lengthOctets n)
+unfolding lengthOctets
+length-some n = go (ltb n 0x80)
+  where
+    go : (b : Bool) → 1 ≤ length {A = ℕ} (elim b as (λ x. List ℕ) [ true ↦ n ∷ [] | false ↦ (0x80 + length (base256 n n)) ∷ base256 n n ])
+    go true = omega arith
+    go false = omega arith
+
+-- so a header has two octets at least
+pub header-two : (id : ℕ) (c : List ℕ) → 2 ≤ length (header id c)
+header-two id c = omega (arith, ap length (header-octets id c), length-some (length c))
 
 -- the encoding of no elements
 pub encode-none : encode none ≡ []
@@ -24,6 +44,12 @@ pub encode-element : (id first whole : ℕ) (c : List ℕ) (inside rest : Tree)
     → encode (element id first whole c inside rest) ≡ (header id c ++ c) ++ encode rest
 unfolding encode
 encode-element id first whole c inside rest = refl
+
+-- and its length
+pub encode-length : (id first whole : ℕ) (c : List ℕ) (inside rest : Tree)
+    → length (encode (element id first whole c inside rest)) ≡ length (header id c ++ c) + length (encode rest)
+unfolding encode
+encode-length id first whole c inside rest = length-append (header id c ++ c) (encode rest)
 
 -- no elements, further on
 pub moved-none : (d : ℕ) → moved d none ≡ none
@@ -41,7 +67,12 @@ pub sequence-constructed : constructed 0x30 ≡ true
 unfolding constructed
 sequence-constructed = refl
 
--- and its identifier is allowed
+-- an INTEGER is not
+pub integer-primitive : constructed 0x02 ≡ false
+unfolding constructed
+integer-primitive = refl
+
+-- the identifier of a SEQUENCE is allowed
 pub sequence-allowed : T (allowed 0x30)
 unfolding constructed universal constructedType universalType allowed
 sequence-allowed = tt

@@ -9,3 +9,4 @@ pub mod Walk
 pub mod Tree
 pub mod Reading
 pub mod Fault
+pub mod Each

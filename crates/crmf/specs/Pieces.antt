@@ -1,0 +1,78 @@
+-- What a row shows of a batch beside its place, and the octets that such pieces are together. Assumes nothing.
+use Prim.Native.Nat.{ℕ, suc, _+_}
+use mathlib.Core.Bool.{Bool, true, false, _&&_}
+use mathlib.Core.List.{List, [], _∷_, _++_}
+use lib.Dec.{eqb, leb}
+use lib.ListN.{length}
+use lib.Seq.{slice}
+use Rattle.der.specs.Length.{lengthOctets}
+use Rattle.crmf.specs.Rows.{Row, container}
+
+-- A piece of a batch: "kinds and parents" and, "in each leaf, the same length and the bytes"; of a container no octets.
+pub record Piece : Type 0 where
+  pub kind : ℕ
+  pub parent : ℕ
+  pub octets : List ℕ
+
+-- the piece that a row shows of some bytes: "containers' place and length are ignored"
+abbrev pub pieceOf : List ℕ → Row → Piece
+pieceOf s r = record {
+  kind = r .kind;
+  parent = r .parent;
+  octets = elim (container (r .kind)) [ true ↦ [] | false ↦ slice (r .first) (r .first + r .whole) s ];
+}
+
+unfoldable pub piecesOf : List ℕ → List Row → List Piece
+piecesOf s [] = []
+piecesOf s (r ∷ rs) = pieceOf s r ∷ piecesOf s rs
+
+-- the identifier of a container: "validity A4", "extensions A9", "signature A1", "keyEncipherment A2 or keyAgreement A3", and 30 of the others
+unfoldable pub identifierOf : ℕ → ℕ
+identifierOf kind =
+    elim (eqb kind 14) [
+      | true ↦ 0xA4
+      | false ↦ elim (eqb kind 19) [
+        | true ↦ 0xA9
+        | false ↦ elim (eqb kind 51) [
+          | true ↦ 0xA1
+          | false ↦ elim (eqb kind 52) [ true ↦ 0xA2 | false ↦ elim (eqb kind 53) [ true ↦ 0xA3 | false ↦ 0x30 ] ]
+        ]
+      ]
+    ]
+
+-- "its type is implied": the octets before the child of a 74
+unfoldable pub implied : ℕ → List ℕ
+implied kind =
+    elim (eqb kind 74) [
+      | true ↦ 0x06 ∷ 0x09 ∷ 0x2B ∷ 0x06 ∷ 0x01 ∷ 0x05 ∷ 0x05 ∷ 0x07 ∷ 0x05 ∷ 0x02 ∷ 0x02 ∷ []
+      | false ↦ []
+    ]
+
+-- The octets that a piece adds where its children have so many together: a leaf's are its own; a container's are its identifier, the shortest
+-- length and the implied type, and its children's stand behind them.
+unfoldable pub own : Piece → ℕ → List ℕ
+own x inner =
+    elim (container (x .kind)) [
+      | true ↦ identifierOf (x .kind) ∷ (lengthOctets (length (implied (x .kind)) + inner) ++ implied (x .kind))
+      | false ↦ x .octets
+    ]
+
+-- its whole length
+unfoldable pub wholeOf : Piece → ℕ → ℕ
+wholeOf x inner = length (own x inner) + elim (container (x .kind)) [ true ↦ inner | false ↦ 0 ]
+
+-- how many octets the children of piece k have together, of the pieces from number n on
+unfoldable pub childrenOf : ℕ → ℕ → List Piece → ℕ
+childrenOf k n [] = 0
+childrenOf k n (x ∷ xs) =
+    elim (eqb (x .parent) k) [ true ↦ wholeOf x (childrenOf n (suc n) xs) | false ↦ 0 ] + childrenOf k (suc n) xs
+
+-- The octets of pieces, the first of them number n, one behind the other.
+unfoldable pub assembled : ℕ → List Piece → List ℕ
+assembled n [] = []
+assembled n (x ∷ xs) = own x (childrenOf n (suc n) xs) ++ assembled (suc n) xs
+
+-- whether none of them is longer than a limit
+unfoldable pub within : ℕ → ℕ → List Piece → Bool
+within limit n [] = true
+within limit n (x ∷ xs) = leb (wholeOf x (childrenOf n (suc n) xs)) limit && within limit (suc n) xs
