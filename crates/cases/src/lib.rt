@@ -1,9 +1,12 @@
-// Reads the cases of a test program, and prints what both programs print alike.
+// Reads the cases of a test program, and prints what the programs print alike.
 //
 // A case is a line of octets in hex (upper case), in tokens parted by a space; `0500*3` stands for the token's octets three times. A
 // program gives `read` its text, one character after the other, and judges the octets in the room at the end of each line. Of a
 // case longer than the room the first octets are kept.
 use libc::STDOUT_FILENO;
+ghost use mathlib.Core.Path.{_≡_};
+ghost use Prim.Native.Nat.{_-_, _%_};
+ghost use Rattle.cases.specs.Reading.{kept, more, again, copied, tokenAt, ended, digitOf, lengthened, counted as countedBy, spelled as spelledBy, readOne};
 
 pub const ROOM: usize = 70000;
 
@@ -23,12 +26,16 @@ pub struct Case {
 }
 
 // A case of which nothing is read yet.
-pub fn start() -> Case {
+pub fn start() -> Case
+    ensures { λ r. ⌜ r ≡ tokenAt 0 ⌝ }
+{
     token_at(0)
 }
 
 // Nothing read yet of a token that begins behind so many octets.
-fn token_at(octets: usize) -> Case {
+fn token_at(octets: usize) -> Case
+    ensures { λ r. ⌜ r ≡ tokenAt octets ⌝ }
+{
     Case {
         octets: octets,
         whole: false,
@@ -40,7 +47,9 @@ fn token_at(octets: usize) -> Case {
 }
 
 // Puts an octet into the room and answers how many stand there then; a full room stays as it is.
-fn put(room: &mut [u8; ROOM], octets: usize, octet: u8) -> usize {
+fn put(room: &mut [u8; ROOM], octets: usize, octet: u8) -> usize
+    ensures { λ r. ⌜ kept (now (room .exit)) r ≡ more (kept (now (room .entry)) octets) octet ⌝ }
+{
     if octets >= ROOM {
         return octets;
     }
@@ -48,20 +57,32 @@ fn put(room: &mut [u8; ROOM], octets: usize, octet: u8) -> usize {
     octets + 1
 }
 
+// Puts the octet at a place of the room, if there is such a place, behind those that stand there.
+fn put_again(room: &mut [u8; ROOM], i: usize, octets: usize) -> usize
+    ensures { λ r. ⌜ kept (now (room .exit)) r ≡ again i (kept (now (room .entry)) octets) ⌝ }
+{
+    if i >= ROOM {
+        return octets;
+    }
+    let octet = room[i];
+    put(room, octets, octet)
+}
+
 // Puts the octets between two places of the room behind those that stand there.
-fn append(room: &mut [u8; ROOM], from: usize, to: usize, octets: usize) -> usize {
+fn append(room: &mut [u8; ROOM], from: usize, to: usize, octets: usize) -> usize
+    ensures { λ r. ⌜ kept (now (room .exit)) r ≡ copied (to - from) from (kept (now (room .entry)) octets) ⌝ }
+{
     let mut end = octets;
     for i in from..to {
-        if i < ROOM {
-            let octet = room[i];
-            end = put(room, end, octet);
-        }
+        end = put_again(room, i, end);
     }
     end
 }
 
 // Ends a token: its octets stand as often as its count says.
-fn closed(case: Case, room: &mut [u8; ROOM]) -> Case {
+fn closed(case: Case, room: &mut [u8; ROOM]) -> Case
+    ensures { λ r. ⌜ (r ≡ tokenAt (ended case (now (room .entry)) .octets)) × (now (room .exit) ≡ ended case (now (room .entry)) .room) ⌝ }
+{
     let mut end = case.octets;
     for turn in 1..case.times {
         end = append(room, case.token, case.octets, end);
@@ -70,7 +91,9 @@ fn closed(case: Case, room: &mut [u8; ROOM]) -> Case {
 }
 
 // The value of a digit; 0 for any other character.
-fn digit(c: u8) -> u8 {
+pub fn digit(c: u8) -> u8
+    ensures { λ r. ⌜ r ≡ digitOf c ⌝ }
+{
     match c {
         b'0'..=b'9' => c - b'0',
         b'A'..=b'F' => c - b'A' + 10,
@@ -78,8 +101,25 @@ fn digit(c: u8) -> u8 {
     }
 }
 
+// A number with one digit more in decimal; the largest number where that is larger.
+pub fn decimal(number: usize, c: u8) -> usize
+    ensures { λ r. ⌜ r ≡ lengthened number (digitOf c % 10) ⌝ }
+{
+    if number > 1844674407370955161 {
+        return usize::MAX;
+    }
+    let tens = number * 10;
+    let ones = (digit(c) % 10) as usize;
+    if usize::MAX - tens < ones {
+        return usize::MAX;
+    }
+    tens + ones
+}
+
 // A further digit of the token's count.
-fn counted(case: Case, digit: u8) -> Case {
+fn counted(case: Case, digit: u8) -> Case
+    ensures { λ r. ⌜ r ≡ countedBy case digit ⌝ }
+{
     let mut next = case;
     if next.times <= ROOM {
         next.times = next.times * 10 + digit as usize;
@@ -88,7 +128,9 @@ fn counted(case: Case, digit: u8) -> Case {
 }
 
 // A further digit of the token's octets.
-fn spelled(case: Case, digit: u8, room: &mut [u8; ROOM]) -> Case {
+fn spelled(case: Case, digit: u8, room: &mut [u8; ROOM]) -> Case
+    ensures { λ r. ⌜ (r ≡ spelledBy case digit (now (room .entry)) .0) × (now (room .exit) ≡ spelledBy case digit (now (room .entry)) .1) ⌝ }
+{
     let mut next = case;
     if next.high == 16 {
         next.high = digit;
@@ -100,7 +142,9 @@ fn spelled(case: Case, digit: u8, room: &mut [u8; ROOM]) -> Case {
 }
 
 // Reads one character more; behind a whole case the next one starts.
-pub fn read(case: Case, c: u8, room: &mut [u8; ROOM]) -> Case {
+pub fn read(case: Case, c: u8, room: &mut [u8; ROOM]) -> Case
+    ensures { λ r. ⌜ (r ≡ readOne case c (now (room .entry)) .0) × (now (room .exit) ≡ readOne case c (now (room .entry)) .1) ⌝ }
+{
     if c == b' ' {
         return closed(case, room);
     }
@@ -127,11 +171,32 @@ pub fn print_number(n: usize) {
     io::print_decimal(STDOUT_FILENO, n as u64);
 }
 
-// Prints a fault: NUMBER@PLACE DETAIL.
-pub fn print_fault(number: usize, place: usize, detail: usize) {
+// Prints a refusal: NUMBER@PLACE.
+pub fn print_refusal(number: usize, place: usize) {
     print_number(number);
     io::write_all(STDOUT_FILENO, b"@");
     print_number(place);
+}
+
+// Prints an answer: `0 COUNT` or NUMBER@PLACE, with `and not 0 but N` where the third number, which should be 0, isn't.
+pub fn print_answer(number: usize, place: usize, count: usize) {
+    let mut other = count;
+    if number == 0 {
+        io::write_all(STDOUT_FILENO, b"0 ");
+        print_number(count);
+        other = place;
+    } else {
+        print_refusal(number, place);
+    }
+    if other != 0 {
+        io::write_all(STDOUT_FILENO, b" and not 0 but ");
+        print_number(other);
+    }
+}
+
+// Prints a fault: NUMBER@PLACE DETAIL.
+pub fn print_fault(number: usize, place: usize, detail: usize) {
+    print_refusal(number, place);
     io::write_all(STDOUT_FILENO, b" ");
     print_number(detail);
 }

@@ -1,23 +1,23 @@
--- `cases::append` is safe and ends. The measure is what is left to copy, and nothing has to hold from turn to turn. Assumes nothing.
-use Prim.Native.Nat.{_-_}
+-- `cases::append` meets its contract: what is left to put, behind what is put, is the whole. The measure is what is left. Assumes nothing.
+use Prim.Native.Nat.{_+_, _-_}
 use borrow.Author.Needs.{needs}
+use mathlib.Core.Path.{_≡_, refl, sym, ap, _∙_}
+use Rattle.cases.specs.Reading.{kept, copied}
+use Rattle.cases.proofs.Steps.{copied-next, copied-done}
 use Rattle.cases.proofs.append.Statement.{statement}
 use Rattle.cases.proofs.append.Tie as tie
 
 abbrev Inv-loop : tie.InvT-loop
-Inv-loop room₀ from to octets end₀ i₀ room end i = Unit {0}
+Inv-loop room₀ from to octets end₀ i₀ room end i = copied (to - i) i (kept room end) ≡ copied (to - from) from (kept room₀ octets)
 
 abbrev μ-loop : tie.MeasureT-loop
 μ-loop room₀ from to octets end₀ i₀ room end i = to - i
 
 loop-holds : tie.Need-loop-holds Inv-loop μ-loop
-loop-holds c = tt
+loop-holds c = refl
 
-element-copy-out-octet : tie.Need-element-copy-out-octet Inv-loop μ-loop
-element-copy-out-octet c = search needs
-
-put-requires : tie.Need-put-requires Inv-loop μ-loop
-put-requires c κs = tt
+put-again-requires : tie.Need-put-again-requires Inv-loop μ-loop
+put-again-requires c κs = tt
 
 add-i : tie.Need-add-i Inv-loop μ-loop
 add-i c = search needs
@@ -26,10 +26,14 @@ loop-less : tie.Need-loop-less Inv-loop μ-loop
 loop-less c = search needs
 
 loop-again : tie.Need-loop-again Inv-loop μ-loop
-loop-again c = tt
+loop-again c =
+    let a = c .before .before .before .before .args in
+    let i = c .before .before .before .loop .i in
+    ap (copied (a .to - (i + 1)) (i + 1)) (c .put-again .ensures) ∙ sym (copied-next _ _ _ (c .before .before .loop-test .taken))
+    ∙ c .before .before .before .loop .inv
 
 returns : tie.Need-returns Inv-loop μ-loop
-returns c = tt
+returns c = sym (copied-done _ _ _ (c .loop-test .left)) ∙ c .before .loop .inv
 
 pub append-spec : {M : Type 1} → statement M
 append-spec =
@@ -38,8 +42,7 @@ append-spec =
     Inv-loop
     μ-loop
     loop-holds
-    element-copy-out-octet
-    put-requires
+    put-again-requires
     add-i
     loop-less
     loop-again

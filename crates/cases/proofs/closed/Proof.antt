@@ -1,17 +1,23 @@
--- `cases::closed` is safe and ends. The measure is the turns that are left, and nothing has to hold from turn to turn. Assumes nothing.
-use Prim.Native.Nat.{_-_}
+-- `cases::closed` meets its contract: the times that are left, behind those that stand there, are all. The measure is the times that are left.
+-- Assumes nothing.
+use Prim.Native.Nat.{_+_, _-_}
 use borrow.Author.Needs.{needs}
+use mathlib.Core.Path.{_≡_, refl, sym, ap, _∙_}
+use Rattle.cases.specs.Reading.{Kept, kept, repeated, tokenAt, ended}
+use Rattle.cases.proofs.Steps.{repeated-next, repeated-done}
 use Rattle.cases.proofs.closed.Statement.{statement}
 use Rattle.cases.proofs.closed.Tie as tie
 
 abbrev Inv-loop : tie.InvT-loop
-Inv-loop case room₀ end₀ turn₀ turn-end room end turn = Unit {0}
+Inv-loop case room₀ end₀ turn₀ turn-end room end turn =
+    repeated (turn-end - turn) (case .token) (case .octets - case .token) (kept room end) ≡ ended case room₀
 
 abbrev μ-loop : tie.MeasureT-loop
 μ-loop case room₀ end₀ turn₀ turn-end room end turn = turn-end - turn
 
 loop-holds : tie.Need-loop-holds Inv-loop μ-loop
-loop-holds c = tt
+unfolding ended
+loop-holds c = refl
 
 append-requires : tie.Need-append-requires Inv-loop μ-loop
 append-requires c κs = tt
@@ -23,13 +29,19 @@ loop-less : tie.Need-loop-less Inv-loop μ-loop
 loop-less c = search needs
 
 loop-again : tie.Need-loop-again Inv-loop μ-loop
-loop-again c = tt
+loop-again c =
+    let a = c .before .before .before .before .args in
+    let left = a .case .times - (c .before .before .before .loop .turn + 1) in
+    ap (repeated left (a .case .token) (a .case .octets - a .case .token)) (c .append .ensures)
+    ∙ sym (repeated-next _ _ _ _ _ (c .before .before .loop-test .taken)) ∙ c .before .before .before .loop .inv
 
 token-at-requires : tie.Need-token-at-requires Inv-loop μ-loop
 token-at-requires c κs = tt
 
 returns : tie.Need-returns Inv-loop μ-loop
-returns c = tt
+returns c =
+    let all = sym (repeated-done _ _ _ _ _ (c .before .loop-test .left)) ∙ c .before .before .loop .inv in
+    (c .token-at .ensures ∙ ap (λ (k : Kept). tokenAt (k .octets)) all, ap (λ (k : Kept). k .room) all)
 
 pub closed-spec : {M : Type 1} → statement M
 closed-spec =

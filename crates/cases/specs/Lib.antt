@@ -1,0 +1,2 @@
+-- What reading a case, one character after the other, leaves.
+pub mod Reading

@@ -1,0 +1,30 @@
+-- The answer as one walk over every form gives it: what it has met of the opposite edition's forms decides. Assumes nothing.
+use Prim.Native.Nat.{ℕ}
+use mathlib.Core.Bool.{true, false}
+use lib.Dec.{eqb}
+use Rattle.crmf.specs.declared.walk.Seen.{Seen}
+use Rattle.editions.specs.declared.reader.Answer.{Answer}
+use Rattle.editions.specs.Reading.{refusal, opposite, eightOrNine, counted}
+
+-- of what was met, the first form of an edition alone: its difference's number (0: none) and its place
+abbrev pub formOf : ℕ → Seen → ℕ × ℕ
+formOf e s = elim (eqb e 1) [ true ↦ (s .one, s .«one_at») | false ↦ (s .two, s .«two_at») ]
+
+-- 9 where none of this edition's own was met, or else 8
+abbrev pub stopNumber : ℕ → ℕ
+stopNumber own = eightOrNine (eqb own 0)
+
+-- where the walk passes: 9 or 8 at the opposite edition's first form, 10, or acceptance
+unfoldable pub passedAnswer : ℕ → Seen → Answer
+passedAnswer e s =
+    let foreign = formOf (opposite e) s in
+    elim (eqb (foreign .0) 0) [
+      | false ↦ refusal (stopNumber (formOf e s .0)) (foreign .1)
+      | true ↦ counted (s .long, s .«long_at») (s .count)
+    ]
+
+-- where it breaks: 8 at the opposite edition's first form before it, or there
+unfoldable pub brokenAnswer : ℕ → ℕ → Seen → Answer
+brokenAnswer e p s =
+    let foreign = formOf (opposite e) s in
+    refusal 8 (elim (eqb (foreign .0) 0) [ true ↦ p | false ↦ foreign .1 ])

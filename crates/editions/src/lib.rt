@@ -1,0 +1,2 @@
+// The readers of the two editions.
+pub mod reader;
