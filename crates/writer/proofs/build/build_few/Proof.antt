@@ -1,0 +1,22 @@
+-- `writer::build::build_few` meets its contract. Assumes nothing.
+use borrow.Author.Needs.{needs}
+use Rattle.writer.proofs.Answering.{zeros-room}
+use native.Mathlib.Omega.{arith}
+use Rattle.writer.proofs.build.build_few.Statement.{statement}
+use Rattle.writer.proofs.build.build_few.Tie as tie
+
+slice-aggregate-build-in : tie.Need-slice-aggregate-build-in
+slice-aggregate-build-in c = search needs
+
+build-in-requires : tie.Need-build-in-requires
+build-in-requires c κs = let a = c .before .before .before .before .before .args in zeros-room (a .draft .now) (a .scratch .now) 1024 (c .before .before .before .before .before .pre .0) (c .before .before .before .before .before .pre .1) (omega (arith, c .before .before .before .before .before .pre .2))
+
+same-length : tie.Need-same-length
+same-length c = search needs
+
+returns : tie.Need-returns
+returns c = search needs
+
+pub build-few-spec : {M : Type 1} → statement M
+build-few-spec =
+    tie.close (tie.spec slice-aggregate-build-in build-in-requires same-length returns)

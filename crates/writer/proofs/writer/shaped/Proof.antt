@@ -1,0 +1,28 @@
+-- `writer::writer::shaped` meets its contract. Assumes nothing.
+use borrow.Author.Needs.{needs}
+use Prim.Native.Nat.{ℕ, _*_}
+use mathlib.Core.Path.{ap₂}
+use mathlib.Core.Bool.{_&&_}
+use lib.Dec.{eqb, leb}
+use lib.ListN.{length}
+use Rattle.crmf.specs.Rows.{width}
+use Rattle.writer.specs.Writing.{most}
+use Rattle.writer.proofs.DraftRows.{rows-room}
+use native.Mathlib.Omega.{arith}
+use Rattle.writer.proofs.writer.shaped.Statement.{statement}
+use Rattle.writer.proofs.writer.shaped.Tie as tie
+
+rows-requires : tie.Need-rows-requires
+rows-requires c κs = search needs
+
+mul-result : tie.Need-mul-result
+mul-result c = omega (arith, c .rows .ensures, rows-room (c .before .before .args .draft .now))
+
+rows-requires-2 : tie.Need-rows-requires-2
+rows-requires-2 c κs = search needs
+
+returns : tie.Need-returns
+returns c = ap₂ (λ (m n : ℕ). eqb (width * m) (length (c .before .before .before .args .draft .now)) && leb n most) (c .before .rows .ensures) (c .rows2 .ensures)
+
+pub shaped-spec : {M : Type 1} → statement M
+shaped-spec = tie.close (tie.spec rows-requires mul-result rows-requires-2 returns)

@@ -1,0 +1,71 @@
+// A draft's rows: the numbers of each, the octets of a leaf, and the kinds of containers.
+use crmf::fill::WIDTH;
+ghost use Prim.Native.Nat.{suc, _+_, _<_};
+ghost use mathlib.Core.Path.{_≡_};
+ghost use mathlib.Core.List.{_∷_};
+ghost use lib.ListN.{length, drop};
+ghost use lib.Seq.{slice};
+ghost use Rattle.crmf.specs.Rows.{container as isContainer};
+ghost use Rattle.writer.specs.Writing.{rowsIn};
+ghost use Rattle.writer.specs.Steps.{rowOf};
+
+// A row of a draft.
+pub(crate) struct Row {
+    pub(crate) kind: usize,
+    pub(crate) first: usize,
+    pub(crate) whole: usize,
+    pub(crate) parent: usize,
+}
+
+// How many rows a draft has.
+pub(crate) fn rows(draft: &[usize]) -> usize
+    ensures { λ r. ⌜ r ≡ length (rowsIn (now (draft .entry))) ⌝ }
+{
+    draft.len() / WIDTH
+}
+
+// The row of a number: the rows from there on begin with it.
+pub(crate) fn row_at(draft: &[usize], i: usize) -> Row
+    requires { ⌜ i < length (rowsIn (now draft)) ⌝ }
+    ensures { λ r. ⌜ drop i (rowsIn (now (draft .entry))) ≡ rowOf r ∷ drop (suc i) (rowsIn (now (draft .entry))) ⌝ }
+{
+    let at = WIDTH * i;
+    Row {
+        kind: draft[at],
+        first: draft[at + 1],
+        whole: draft[at + 2],
+        parent: draft[at + 3],
+    }
+}
+
+// The octets that a leaf shows of some bytes, as far as there are any.
+pub(crate) fn leaf(bytes: &[u8], first: usize, whole: usize) -> &[u8]
+    ensures { λ r. ⌜ now r ≡ slice first (first + whole) (now (bytes .entry)) ⌝ }
+{
+    if bytes.len() <= first {
+        return &bytes[..0];
+    }
+    if bytes.len() - first <= whole {
+        return &bytes[first..];
+    }
+    let end = first + whole;
+    &bytes[first..end]
+}
+
+// Whether a kind is a container's.
+pub(crate) fn container(kind: usize) -> bool
+    ensures { λ r. ⌜ r ≡ isContainer kind ⌝ }
+{
+    (kind == 1)
+        | (kind == 2)
+        | (kind == 3)
+        | (kind == 5)
+        | (kind == 14)
+        | (kind == 19)
+        | (kind == 30)
+        | (kind == 51)
+        | (kind == 52)
+        | (kind == 53)
+        | (kind == 70)
+        | (kind == 74)
+}

@@ -1,0 +1,64 @@
+// The whole lengths of rows.
+use crate::draft::Row;
+use crate::draft::container;
+use der::input::LONGEST;
+ghost use Prim.Native.Nat.{suc, _+_, _*_, _≤_};
+ghost use mathlib.Core.Path.{_≡_};
+ghost use lib.ListN.{length};
+ghost use Rattle.der.specs.Length.{lengthOctets};
+ghost use Rattle.der.specs.Walk.{longest};
+ghost use Rattle.crmf.specs.Pieces.{implied};
+ghost use Rattle.writer.specs.Writing.{most};
+ghost use Rattle.writer.specs.Steps.{rowOf, Stands, Whole};
+
+// The whole length of a row around so many octets; past the longest where it is longer, or is a leaf that leaves the slice.
+pub(crate) fn whole_of(row: Row, bytes: &[u8], inner: usize) -> usize
+    requires { ⌜ inner ≤ longest * most ⌝ }
+    ensures { λ r. ⌜ Whole (now (bytes .entry)) (rowOf row) inner r ⌝ }
+{
+    let kind = row.kind;
+    if container(kind) {
+        return whole_around(kind, inner);
+    }
+    let whole = row.whole;
+    if bytes.len() < whole {
+        return LONGEST + 1;
+    }
+    if bytes.len() - whole < row.first {
+        return LONGEST + 1;
+    }
+    whole
+}
+
+// The whole length of a container around so many octets.
+fn whole_around(kind: usize, inner: usize) -> usize
+    requires { ⌜ inner ≤ longest * most ⌝ }
+    ensures { λ r. ⌜ Stands r (suc (length (lengthOctets (length (implied kind) + inner)) + (length (implied kind) + inner))) ⌝ }
+{
+    let content = implied_length(kind) + inner;
+    if LONGEST < content {
+        return content;
+    }
+    1 + octets_of(content) + content
+}
+
+// How many octets the implied type of a container has.
+pub(crate) fn implied_length(kind: usize) -> usize
+    ensures { λ r. ⌜ r ≡ length (implied kind) ⌝ }
+{
+    if kind == 74 { 11 } else { 0 }
+}
+
+// How many length octets a content of so many octets has.
+fn octets_of(content: usize) -> usize
+    requires { ⌜ content ≤ longest ⌝ }
+    ensures { λ r. ⌜ (r ≡ length (lengthOctets content)) × (r ≤ 3) ⌝ }
+{
+    if content < 128 {
+        return 1;
+    }
+    if content < 256 {
+        return 2;
+    }
+    3
+}

@@ -1,0 +1,9 @@
+// Drafts, and writing the batch that one describes.
+mod assemble;
+mod build;
+mod compare;
+mod draft;
+mod lengths;
+mod octets;
+mod sums;
+pub mod writer;

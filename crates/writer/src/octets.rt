@@ -1,0 +1,125 @@
+// The octets that a row adds to a batch, written into a scratch one run behind another.
+use crate::draft::Row;
+use crate::draft::container;
+use crate::draft::leaf;
+use crate::lengths::implied_length;
+ghost use Prim.Native.Nat.{suc, _+_, _*_, _≤_};
+ghost use mathlib.Core.Path.{_≡_};
+ghost use mathlib.Core.List.{[], _∷_, _++_};
+ghost use lib.ListN.{length};
+ghost use Rattle.der.specs.Length.{lengthOctets};
+ghost use Rattle.der.specs.Walk.{longest};
+ghost use Rattle.crmf.specs.Fill.{over};
+ghost use Rattle.crmf.specs.Pieces.{pieceOf, identifierOf, implied, own, wholeOf};
+ghost use Rattle.writer.specs.Steps.{rowOf, Appended};
+
+// Writes a row's own octets from the place `at` on, where its children have so many together; answers the place behind them.
+pub(crate) fn put(row: Row, inner: usize, bytes: &[u8], at: usize, scratch: &mut [u8]) -> usize
+    requires { ⌜ (wholeOf (pieceOf (now bytes) (rowOf row)) inner ≤ longest) × (at ≤ longest) ⌝ }
+    ensures { λ r. ⌜ Appended (now (scratch .entry)) at (own (pieceOf (now (bytes .entry)) (rowOf row)) inner) r (now (scratch .exit)) ⌝ }
+{
+    let kind = row.kind;
+    if container(kind) {
+        return put_header(kind, inner, at, scratch);
+    }
+    append(leaf(bytes, row.first, row.whole), at, scratch)
+}
+
+// Writes a container's identifier, shortest length and implied type.
+fn put_header(kind: usize, inner: usize, at: usize, scratch: &mut [u8]) -> usize
+    requires { ⌜ (suc (length (lengthOctets (length (implied kind) + inner)) + (length (implied kind) + inner)) ≤ longest) × (at ≤ longest) ⌝ }
+    ensures { λ r. ⌜ Appended (now (scratch .entry)) at (identifierOf kind ∷ (lengthOctets (length (implied kind) + inner) ++ implied kind)) r (now (scratch .exit)) ⌝ }
+{
+    let length = push(identifier(kind), at, scratch);
+    let content = put_length(implied_length(kind) + inner, length, scratch);
+    put_type(kind, content, scratch)
+}
+
+// The identifier of a container.
+fn identifier(kind: usize) -> u8
+    ensures { λ r. ⌜ r ≡ identifierOf kind ⌝ }
+{
+    match kind {
+        14 => 0xA4,
+        19 => 0xA9,
+        51 => 0xA1,
+        52 => 0xA2,
+        53 => 0xA3,
+        _ => 0x30,
+    }
+}
+
+// Writes the shortest length octets of a content of so many octets.
+fn put_length(content: usize, at: usize, scratch: &mut [u8]) -> usize
+    requires { ⌜ (content ≤ longest) × (at ≤ 2 * longest) ⌝ }
+    ensures { λ r. ⌜ Appended (now (scratch .entry)) at (lengthOctets content) r (now (scratch .exit)) ⌝ }
+{
+    if content < 128 {
+        return push(content as u8, at, scratch);
+    }
+    if content < 256 {
+        let next = push(0x81, at, scratch);
+        return push(content as u8, next, scratch);
+    }
+    let next = push(0x82, at, scratch);
+    let last = push((content / 256) as u8, next, scratch);
+    push((content % 256) as u8, last, scratch)
+}
+
+// Writes the type that a container implies, if it does.
+fn put_type(kind: usize, at: usize, scratch: &mut [u8]) -> usize
+    requires { ⌜ at ≤ 2 * longest ⌝ }
+    ensures { λ r. ⌜ Appended (now (scratch .entry)) at (implied kind) r (now (scratch .exit)) ⌝ }
+{
+    if kind != 74 {
+        return at;
+    }
+    let octets = [
+        0x06u8,
+        0x09,
+        0x2B,
+        0x06,
+        0x01,
+        0x05,
+        0x05,
+        0x07,
+        0x05,
+        0x02,
+        0x02,
+    ];
+    append(&octets, at, scratch)
+}
+
+// Writes an octet, if there is room for it.
+fn push(octet: u8, at: usize, scratch: &mut [u8]) -> usize
+    requires { ⌜ at ≤ 3 * longest ⌝ }
+    ensures { λ r. ⌜ Appended (now (scratch .entry)) at (octet ∷ []) r (now (scratch .exit)) ⌝ }
+{
+    if scratch.len() <= at {
+        return at + 1;
+    }
+    scratch[at] = octet;
+    at + 1
+}
+
+// Writes octets, if there is room for them.
+fn append(octets: &[u8], at: usize, scratch: &mut [u8]) -> usize
+    requires { ⌜ at ≤ 2 * longest ⌝ }
+    ensures { λ r. ⌜ Appended (now (scratch .entry)) at (now (octets .entry)) r (now (scratch .exit)) ⌝ }
+{
+    let end = at + octets.len();
+    if scratch.len() < end {
+        return end;
+    }
+    copy(octets, at, scratch);
+    end
+}
+
+// Copies octets over others, from the place `at` on.
+pub(crate) fn copy(octets: &[u8], at: usize, to: &mut [u8])
+    requires { ⌜ at + length (now octets) ≤ length (now to) ⌝ }
+    ensures { λ _. ⌜ now (to .exit) ≡ over (now (to .entry)) at (now (octets .entry)) ⌝ }
+{
+    let end = at + octets.len();
+    bytes::copy(octets, &mut to[at..end]);
+}

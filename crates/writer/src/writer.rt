@@ -1,0 +1,58 @@
+// Writing the batch that a draft describes.
+use crate::build::Found;
+use crate::build::MOST;
+use crate::build::build;
+use crate::draft::rows;
+use crate::octets::copy;
+use crmf::fill::WIDTH;
+use der::input::LONGEST;
+use editions::reader::Answer;
+ghost use mathlib.Core.Path.{_≡_};
+ghost use Rattle.editions.specs.Reading.{refusal};
+ghost use Rattle.writer.specs.Writing as spec;
+
+// Writes the batch that a draft describes in an edition: the answer, with the batch in the output where the draft describes one and there is
+// room for it. The count is the batch's length.
+pub fn write(edition: usize, draft: &[usize], bytes: &[u8], output: &mut [u8]) -> Answer
+    ensures { λ r. ⌜ (r ≡ spec.writeAnswer edition (now (draft .entry)) (now (bytes .entry)) (now (output .entry)))
+        × (now (output .exit) ≡ spec.outputAfter edition (now (draft .entry)) (now (bytes .entry)) (now (output .entry))) ⌝ }
+{
+    if (edition != 1) & (edition != 2) {
+        return refuse(13);
+    }
+    if !shaped(draft) {
+        return refuse(12);
+    }
+    let mut scratch = [0u8; LONGEST];
+    let found = build(edition, draft, bytes, &mut scratch);
+    let Found::Batch(length) = found else {
+        return refuse(12);
+    };
+    if output.len() < length {
+        return refuse(11);
+    }
+    copy(&scratch[..length], 0, output);
+    Answer {
+        number: 0,
+        place: 0,
+        count: length,
+    }
+}
+
+// Whether a draft has whole rows, and no more than a batch can have.
+fn shaped(draft: &[usize]) -> bool
+    ensures { λ r. ⌜ r ≡ spec.shaped (now (draft .entry)) ⌝ }
+{
+    (WIDTH * rows(draft) == draft.len()) & (rows(draft) <= MOST)
+}
+
+// A refusal's answer.
+fn refuse(number: usize) -> Answer
+    ensures { λ r. ⌜ r ≡ refusal number 0 ⌝ }
+{
+    Answer {
+        number,
+        place: 0,
+        count: 0,
+    }
+}
