@@ -1,0 +1,53 @@
+-- Document 01's batches marked [P]: one statement over the list of them, of reading and of the verdicts that it prints. Assumes nothing.
+use Prim.Native.Nat.{ℕ, suc}
+use mathlib.Core.Path.{_≡_, refl}
+use mathlib.Core.List.{List, [], _∷_}
+use Rattle.der.specs.Each.{Each, _&_}
+use Rattle.der.specs.Identifier.{constructed, universal, primitiveType, constructedType, universalType, allowed}
+use Rattle.der.specs.Length.{valueFrom, shortest, longForm, lengthOf}
+use Rattle.der.specs.Header.{sizedBy, headOf}
+use Rattle.der.specs.Content.{integer, lastOf, unpadded, objectIdentifier, holds}
+use Rattle.der.specs.Walk.{listOf, primitiveOf, elementOf, walkAt}
+use Rattle.der.specs.Reading.{given, read, treeOf, tree}
+use Rattle.crmf.specs.Value.{same, isUpTo, keeps, typeNumber, selected}
+use Rattle.crmf.specs.Notation.{among, named, order}
+use Rattle.crmf.specs.Grammar.{content}
+use Rattle.crmf.specs.Table.{partSize, size, startsFrom, start, insideLine, passOf, formLines, nextLine, wayLine, partLines, containerLines, linesFrom, lines}
+use Rattle.crmf.specs.Walk.{line, seekIn, seek, closedIn, closed, judged, noted, lengthy, met, walk}
+use Rattle.crmf.specs.Rows.{firstLong}
+use Rattle.crmf.specs.Fill.{goes, rowsFrom, rowsOf}
+use Rattle.crmf.specs.Fields.{fields, nth}
+use Rattle.crmf.specs.Fields
+use Rattle.crmf.specs.Messages.{messageOf, batch, messages}
+use Rattle.editions.specs.Reading.{batchAnswer, answer}
+use Rattle.editions.specs.Paper.{Entry, entries}
+use Rattle.editions.proofs.PaperVectors.{Reads}
+use Rattle.editions.proofs.PaperVectors as readings
+use Rattle.verdict.specs.Verdict.{verdictOf, signedOf, verdictAnswer}
+
+-- the verdicts on an entry's messages, from a position on
+abbrev pub Judges : Entry → ℕ → List ℕ → Type 0
+Judges x i [] = Unit {0}
+Judges x i (v ∷ vs) =
+    (verdictAnswer (x .edition) (x .octets) i .number ≡ 0) × (verdictAnswer (x .edition) (x .octets) i .verdict ≡ v) × Judges x (suc i) vs
+
+judgings : Each (λ x. Judges x 0 (x .verdicts)) entries
+unfolding constructed universal primitiveType constructedType universalType allowed valueFrom shortest longForm lengthOf sizedBy headOf
+    integer lastOf unpadded objectIdentifier holds listOf primitiveOf elementOf walkAt given read treeOf tree same isUpTo keeps typeNumber selected
+    among named order content partSize size startsFrom start insideLine passOf formLines nextLine wayLine partLines containerLines linesFrom lines
+    line seekIn seek closedIn closed judged noted lengthy met walk firstLong goes rowsFrom rowsOf fields nth Fields.seek messageOf batch messages
+    batchAnswer answer verdictOf signedOf verdictAnswer
+judgings =
+    tt & tt & tt & tt & tt & tt & tt & tt & tt & tt & tt & tt & tt & tt
+    & (refl, refl, tt) & (refl, refl, tt)
+    & tt & tt & tt & tt & tt & tt & tt & tt
+    & tt
+
+-- two facts of each
+both : {A : Type 0} (P Q : A → Type 0) (xs : List A) → Each P xs → Each Q xs → Each (λ x. P x × Q x) xs
+both P Q [] p q = tt
+both P Q (x ∷ xs) p q = (p .0, q .0) & both P Q xs (p .1) (q .1)
+
+-- Every entry of the list is read and judged as document 01 says.
+pub paper : Each (λ x. Reads x × Judges x 0 (x .verdicts)) entries
+paper = both Reads (λ x. Judges x 0 (x .verdicts)) entries readings.paper judgings

@@ -1,0 +1,144 @@
+-- `verdict::duplicates::first_pair` meets its contract. No pair has its later position before the outer loop's, and none of those that the inner
+-- loop has passed is the earlier one: so what both loops are left at is the first pair, and where they end there is none. Assumes nothing.
+use Prim.Native.Nat.{ℕ, _-_, _^_, _≤_, _<_}
+use native.Mathlib.Numerals.{add-one}
+use native.Mathlib.Omega.{arith}
+use mathlib.Core.Logic.{⊎-elim}
+use mathlib.Core.Path.{_≡_, sym, ap, _∙_}
+use mathlib.Core.Bool.{Bool}
+use mathlib.Core.List.{List}
+use borrow.Author.Count.{below-more}
+use borrow.Author.Needs.{needs}
+use lib.IntN.{ℤ}
+use lib.ListN.{length}
+use lib.Signed.{mag}
+use mir.Facts.{toZ-ofZ}
+use mir.Syntax.{w64}
+use mir.Val.{toZ, ofZ}
+use Rattle.verdict.specs.Duplicates.{sameNumber, searched}
+use Rattle.verdict.proofs.Numbers.{same-equal, same-differs}
+use Rattle.verdict.proofs.FirstPairs.{at, Without, NoneBefore, first-equal, none-here, pair-found, pair-absent}
+use Rattle.verdict.proofs.duplicates.first_pair.Statement.{statement}
+use Rattle.verdict.proofs.duplicates.first_pair.Tie as tie
+
+-- what a comparison of numbers of 64 bits says
+compared : (x y z : ℤ) (b : Bool) → mag x < 2 ^ 63 → z ≡ y → b ≡ sameNumber (toZ w64 (ofZ w64 x)) z → sameNumber x y ≡ b
+compared x y z b fits is test = sym (rw (toZ-ofZ {w = w64} {z = x} (record { sfits = fits }), is) at test)
+
+-- Where the inner loop stands: no pair has its later position before this one, which has the number z, and no earlier position that was
+-- passed has it.
+record Looking (ns : List ℤ) (later : ℕ) (z : ℤ) (earlier : ℕ) : Type 0 where
+  there : later < length ns
+  own : z ≡ at ns later
+  none : NoneBefore ns later
+  passed : Without (at ns later) earlier ns
+
+abbrev Inv-loop : tie.InvT-loop
+Inv-loop numbers earlier₀ later id earlier = Looking numbers later (id .0) earlier
+
+abbrev μ-loop : tie.MeasureT-loop
+μ-loop numbers earlier₀ later id earlier = length numbers - earlier
+
+abbrev Inv-pair : tie.InvT-pair
+Inv-pair numbers earlier₀ later₀ earlier later = (later ≤ length numbers) × NoneBefore numbers later
+
+abbrev μ-pair : tie.MeasureT-pair
+μ-pair numbers earlier₀ later₀ earlier later = length numbers - later
+
+pair-holds : tie.Need-pair-holds Inv-loop μ-loop Inv-pair μ-pair
+pair-holds c = (omega arith, λ i j e. omega arith)
+
+mul-t5 : tie.Need-mul-t5 Inv-loop μ-loop Inv-pair μ-pair
+mul-t5 c = search needs
+
+shared-slice-copy-out-t8 : tie.Need-shared-slice-copy-out-t8 Inv-loop μ-loop Inv-pair μ-pair
+shared-slice-copy-out-t8 c = search needs
+
+loop-holds : tie.Need-loop-holds Inv-loop μ-loop Inv-pair μ-pair
+loop-holds c =
+    record {
+      there = search needs;
+      own = toZ-ofZ (record { sfits = c .t8 .given });
+      none = c .before .before .pair .inv .1;
+      passed = λ i h e. omega arith;
+    }
+
+mul-t11 : tie.Need-mul-t11 Inv-loop μ-loop Inv-pair μ-pair
+mul-t11 c = search needs
+
+shared-slice-copy-out-t13 : tie.Need-shared-slice-copy-out-t13 Inv-loop μ-loop Inv-pair μ-pair
+shared-slice-copy-out-t13 c = search needs
+
+same-requires : tie.Need-same-requires Inv-loop μ-loop Inv-pair μ-pair
+same-requires c κs = search needs
+
+add-earlier : tie.Need-add-earlier Inv-loop μ-loop Inv-pair μ-pair
+add-earlier c = search needs
+
+loop-less : tie.Need-loop-less Inv-loop μ-loop Inv-pair μ-pair
+loop-less c = search needs
+
+loop-again : tie.Need-loop-again Inv-loop μ-loop Inv-pair μ-pair
+loop-again c =
+    let l = c .before .before .before .before in
+    let ns = l .before .before .before .before .args .numbers .now in
+    let x = at ns (l .loop .earlier) in
+    let y = at ns (l .before .before .before .pair .later) in
+    let inv = l .loop .inv in
+    let test = compared x y _ _ (c .before .before .t13 .given) (inv .own) (c .before .same .ensures) ∙ c .if1 .left in
+    record { there = inv .there; own = inv .own; none = inv .none; passed = below-more _ _ (inv .passed) (same-differs x y test) }
+
+add-later : tie.Need-add-later Inv-loop μ-loop Inv-pair μ-pair
+add-later c = search needs
+
+pair-less : tie.Need-pair-less Inv-loop μ-loop Inv-pair μ-pair
+pair-less c = search needs
+
+pair-again : tie.Need-pair-again Inv-loop μ-loop Inv-pair μ-pair
+pair-again c =
+    let ns = c .before .before .before .before .before .args .numbers .now in
+    let later = c .before .before .before .before .pair .later in
+    let inv = c .before .loop .inv in
+    let all : Without (at ns later) later ns = λ i h e. inv .passed i (omega (arith, c .loop-test .left)) e in
+    (search needs, rw add-one (none-here ns later (inv .there) (inv .none) all))
+
+returns : tie.Need-returns Inv-loop μ-loop Inv-pair μ-pair
+returns c =
+    let ns = c .before .before .before .args .numbers .now in
+    let later = c .before .before .pair .later in
+    ⊎-elim (λ w. absurd (omega (arith, w .0 .left, c .if2 .taken))) (λ w.
+    let i = w .2 .earlier in
+    let inv = w .2 .inv in
+    let test = compared (at ns i) (at ns later) _ _ (w .4 .given) (inv .own) (w .5 .ensures) ∙ w .6 .taken in
+    let first = first-equal ns later (inv .there) (inv .none) i (w .3 .taken) (same-equal (at ns i) (at ns later) test) (inv .passed) in
+    rw (w .7) (ap searched (sym (pair-found ns i later .1 first)))) (c .before .pair-test .came)
+
+returns-2 : tie.Need-returns-2 Inv-loop μ-loop Inv-pair μ-pair
+returns-2 c =
+    let ns = c .before .before .before .args .numbers .now in
+    let inv = c .before .before .pair .inv in
+    ap searched (sym (pair-absent ns .1 (λ i j e. omega (arith, c .if2 .left, inv .1 i j e, e .there))))
+
+pub first-pair-spec : {M : Type 1} → statement M
+first-pair-spec =
+    tie.close
+    (tie.spec
+    Inv-loop
+    μ-loop
+    Inv-pair
+    μ-pair
+    pair-holds
+    mul-t5
+    shared-slice-copy-out-t8
+    loop-holds
+    mul-t11
+    shared-slice-copy-out-t13
+    same-requires
+    add-earlier
+    loop-less
+    loop-again
+    add-later
+    pair-less
+    pair-again
+    returns
+    returns-2)

@@ -1,0 +1,70 @@
+-- `verdict::verdict::skip` meets its contract. The loop's invariant: what is left to skip from its place skips what was to be skipped from
+-- where it began. Assumes nothing.
+use Prim.Native.Nat.{ℕ, suc, _-_}
+use native.Mathlib.Omega.{arith}
+use mathlib.Core.Path.{_≡_, refl, sym, ap, _∙_}
+use borrow.Author.Needs.{needs}
+use lib.ListN.{drop}
+use Rattle.crmf.specs.Fields.{fieldsBetween}
+use Rattle.verdict.specs.Steps.{Places}
+use Rattle.verdict.proofs.Elements.{skip-end, behind-places, skip-next}
+use Rattle.verdict.proofs.verdict.skip.Statement.{statement}
+use Rattle.verdict.proofs.verdict.skip.Tie as tie
+
+abbrev Inv-loop : tie.InvT-loop
+Inv-loop bytes at end count place₀ left₀ place left =
+    Places bytes place end × (drop left (fieldsBetween bytes place end) ≡ drop count (fieldsBetween bytes at end))
+
+abbrev μ-loop : tie.MeasureT-loop
+μ-loop bytes at end count place₀ left₀ place left = left
+
+loop-holds : tie.Need-loop-holds Inv-loop μ-loop
+loop-holds c = (c .before .pre, refl)
+
+returns : tie.Need-returns Inv-loop μ-loop
+returns c =
+    let a = c .before .before .before .before .args in
+    let l = c .before .before .loop in
+    (l .inv .0, skip-end (a .bytes .now) (l .place) (a .end) (l .inv .0) (l .left) (c .if1 .taken) ∙ l .inv .1)
+
+read-at-requires : tie.Need-read-at-requires Inv-loop μ-loop
+read-at-requires c κs = search needs
+
+sub-left : tie.Need-sub-left Inv-loop μ-loop
+sub-left c = search needs
+
+loop-less : tie.Need-loop-less Inv-loop μ-loop
+loop-less c = search needs
+
+loop-again : tie.Need-loop-again Inv-loop μ-loop
+loop-again c =
+    let a = c .before .before .before .before .before .args in
+    let l = c .before .before .before .loop in
+    let room = c .before .if1 .left in
+    let one : suc (l .left - 1) ≡ l .left = omega arith in (
+      behind-places (a .bytes .now) (l .place) (a .end) (l .inv .0) (c .read-at .result) (c .read-at .ensures),
+      skip-next (a .bytes .now) (l .place) (a .end) (l .inv .0) room (c .read-at .result) (c .read-at .ensures) (l .left - 1)
+          ∙ ap (λ (n : ℕ). drop n (fieldsBetween (a .bytes .now) (l .place) (a .end))) one
+          ∙ l .inv .1,
+    )
+
+returns-2 : tie.Need-returns-2 Inv-loop μ-loop
+returns-2 c =
+    let a = c .before .before .before .args in
+    let l = c .before .loop in
+    let none : l .left ≡ 0 = omega arith in
+    (l .inv .0, ap (λ (n : ℕ). drop n (fieldsBetween (a .bytes .now) (l .place) (a .end))) (sym none) ∙ l .inv .1)
+
+pub skip-spec : {M : Type 1} → statement M
+skip-spec =
+    tie.close
+    (tie.spec
+    Inv-loop
+    μ-loop
+    loop-holds
+    returns
+    read-at-requires
+    sub-left
+    loop-less
+    loop-again
+    returns-2)

@@ -1,0 +1,141 @@
+// The search for two messages with the same certReqId.
+use der::reading;
+ghost use Prim.Native.Nat.{_≤_};
+ghost use mathlib.Core.Path.{_≡_};
+ghost use lib.ListN.{length};
+ghost use lib.Seq.{slice};
+ghost use Rattle.verdict.specs.Duplicates.{part, signed, sameNumber, pairOf, searched, duplicatesAnswer};
+ghost use Rattle.verdict.specs.Collecting.{Accepted, most, Collected, idIn, Short};
+
+// A message's certReqId, a signed whole number. It is never a position.
+pub struct ReqId(pub i64);
+
+// What the search answers: document 01's number (0: searched), its place, whether a pair was found (1), and the pair's positions.
+#[repr(C)]
+pub struct Duplicates {
+    pub number: usize,
+    pub place: usize,
+    pub found: usize,
+    pub earlier: usize,
+    pub later: usize,
+}
+
+// The most messages that a batch can have: each has at least 9 of its 65,535 octets.
+const MOST: usize = 7281;
+
+// Searches the messages of a batch for the first two with the same certReqId, in an edition: the refusal, or the pair if there is one.
+pub fn search(edition: usize, bytes: &[u8]) -> Duplicates
+    ensures { λ r. ⌜ r ≡ duplicatesAnswer edition (now (bytes .entry)) ⌝ }
+{
+    let judged = editions::reader::accept(edition, bytes);
+    if judged.number != 0 {
+        return Duplicates {
+            number: judged.number,
+            place: judged.place,
+            found: 0,
+            earlier: 0,
+            later: 0,
+        };
+    }
+    let mut numbers = [0i64; MOST];
+    let count = collect(bytes, &mut numbers);
+    first_pair(&numbers[..count])
+}
+
+// Collects the certReqIds of an accepted batch's messages, by position: how many they are.
+fn collect(bytes: &[u8], numbers: &mut [i64]) -> usize
+    requires { ⌜ Accepted (now bytes) × (length (now numbers) ≡ most) ⌝ }
+    ensures { λ r. ⌜ Collected (now (bytes .entry)) (now (numbers .exit)) r ⌝ }
+{
+    let end = bytes.len();
+    let mut at = reading::read_at(bytes, 0, end).content;
+    let mut count = 0;
+    while at < end {
+        let message = reading::read_at(bytes, at, end);
+        let number = own_id(bytes, message.content, message.end).0;
+        numbers[count] = number;
+        count += 1;
+        at = message.end;
+    }
+    count
+}
+
+// The certReqId of the message whose inside stands from `at` to `end`.
+fn own_id(bytes: &[u8], at: usize, end: usize) -> ReqId
+    requires { ⌜ Short (now bytes) (idIn (now bytes) at end) ⌝ }
+    ensures { λ r. ⌜ (let x = idIn (now (bytes .entry)) at end in r .0 ≡ signed (slice (x .content) (x .end) (now (bytes .entry)))) ⌝ }
+{
+    let request = reading::read_at(bytes, at, end);
+    let id = reading::read_at(bytes, request.content, request.end);
+    let from = id.content;
+    let to = id.end;
+    ReqId(signed(&bytes[from..to]))
+}
+
+// The signed whole number that an INTEGER's octets give.
+fn signed(content: &[u8]) -> i64
+    requires { ⌜ (1 ≤ length (now content)) × (length (now content) ≤ 8) ⌝ }
+    ensures { λ r. ⌜ r ≡ signed (now (content .entry)) ⌝ }
+{
+    let negative = 0x80 <= content[0];
+    let mut m: u64 = 0;
+    let mut i = 0;
+    while i < content.len() {
+        m = m * 256 + magnitude(content[i], negative);
+        i += 1;
+    }
+    if negative { -1 - m as i64 } else { m as i64 }
+}
+
+// An octet's part in the magnitude of a number: itself, or its complement where the number is negative.
+fn magnitude(octet: u8, negative: bool) -> u64
+    ensures { λ r. ⌜ r ≡ part negative octet ⌝ }
+{
+    if negative {
+        255 - octet as u64
+    } else {
+        octet as u64
+    }
+}
+
+// The first pair of positions with the same number, the least later position first and then the least earlier.
+fn first_pair(numbers: &[i64]) -> Duplicates
+    ensures { λ r. ⌜ r ≡ searched (pairOf (now (numbers .entry))) ⌝ }
+{
+    let mut earlier = 0;
+    let mut later = 0;
+    'pair: while later < numbers.len() {
+        let id = ReqId(numbers[later]);
+        earlier = 0;
+        while earlier < later {
+            if same(ReqId(numbers[earlier]), id) {
+                break 'pair;
+            }
+            earlier += 1;
+        }
+        later += 1;
+    }
+    if later < numbers.len() {
+        return Duplicates {
+            number: 0,
+            place: 0,
+            found: 1,
+            earlier,
+            later,
+        };
+    }
+    Duplicates {
+        number: 0,
+        place: 0,
+        found: 0,
+        earlier: 0,
+        later: 0,
+    }
+}
+
+// Whether two certReqIds are the same number.
+fn same(a: ReqId, b: ReqId) -> bool
+    ensures { λ r. ⌜ r ≡ sameNumber (a .0) (b .0) ⌝ }
+{
+    a.0 == b.0
+}

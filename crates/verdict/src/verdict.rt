@@ -1,0 +1,221 @@
+// The verdict on a message's proof, and the part that its signature covers.
+use der::reading::Element;
+use der::reading::read_at;
+use editions::reader::accept;
+ghost use mathlib.Core.Path.{_≡_};
+ghost use mathlib.Core.List.{List, [], _∷_};
+ghost use mathlib.Core.Option.{Option};
+ghost use lib.ListN.{drop};
+ghost use Rattle.crmf.specs.Fields.{Field, fieldsBetween, seek};
+ghost use Rattle.crmf.specs.Messages.{Message};
+ghost use Rattle.crmf.proofs.Laws.{MessageParts};
+ghost use Rattle.verdict.specs.Verdict.{named, enciphermentVerdict, agreementVerdict, refused, judged, verdictAnswer, HandedBack};
+ghost use Rattle.verdict.specs.Steps.{Places, holds, Found, told, bare, signatureAnswer, proofAnswer};
+
+// A message's position in its batch, from 0. It is never a certReqId.
+pub struct Position(pub usize);
+
+// What the verdict answers: document 01's number (0: a verdict), its place, the verdict, and where the signed part stands.
+#[repr(C)]
+pub struct Verdict {
+    pub number: usize,
+    pub place: usize,
+    pub verdict: usize,
+    pub from: usize,
+    pub length: usize,
+}
+
+// A part of the bytes: its first byte and its length.
+struct Part {
+    from: usize,
+    length: usize,
+}
+
+// Judges the proof of the message at a position: the verdict, and where its signed part stands, if it has one. The refusals are those of
+// reading without 11, then 14.
+pub fn judge(edition: usize, bytes: &[u8], position: Position) -> Verdict
+    ensures { λ r. ⌜ r ≡ verdictAnswer edition (now (bytes .entry)) (position .0) ⌝ }
+{
+    let found = accept(edition, bytes);
+    if found.number != 0 {
+        return refuse(found.number, found.place);
+    }
+    let batch = read_at(bytes, 0, bytes.len());
+    let end = batch.end;
+    let at = skip(bytes, batch.content, end, position.0);
+    if end <= at {
+        return refuse(14, 0);
+    }
+    message(bytes, at, end)
+}
+
+// The part of the bytes that the signature of the message at a position covers: the certReq with verdict 2, the poposkInput with verdict
+// 3, and an empty part with any other verdict or a refusal.
+pub fn signed_part(edition: usize, bytes: &[u8], position: Position) -> &[u8]
+    ensures { λ r. ⌜ HandedBack (bytes .entry) r (verdictAnswer edition (now (bytes .entry)) (position .0)) ⌝ }
+{
+    let found = judge(edition, bytes, position);
+    let from = found.from;
+    let end = from + found.length;
+    &bytes[from..end]
+}
+
+// The place of the element with the number `count`, from 0, of those from `at` to `end`; the end where there are no more.
+fn skip(bytes: &[u8], at: usize, end: usize, count: usize) -> usize
+    requires { ⌜ Places (now bytes) at end ⌝ }
+    ensures { λ r. ⌜ Places (now (bytes .entry)) r end × (fieldsBetween (now (bytes .entry)) r end ≡ drop count (fieldsBetween (now (bytes .entry)) at end)) ⌝ }
+{
+    let mut place = at;
+    let mut left = count;
+    while 0 < left {
+        if end <= place {
+            return place;
+        }
+        let x = read_at(bytes, place, end);
+        place = x.end;
+        left -= 1;
+    }
+    place
+}
+
+// The part of the first element with an identifier, of those from `at` to `end`; 0 and 0 where there is none.
+fn find(bytes: &[u8], at: usize, end: usize, id: u8) -> Part
+    requires { ⌜ Places (now bytes) at end ⌝ }
+    ensures { λ r. ⌜ Found (seek (id ∷ []) (fieldsBetween (now (bytes .entry)) at end)) r ⌝ }
+{
+    let mut place = at;
+    while place < end {
+        let x = read_at(bytes, place, end);
+        if x.identifier == id {
+            return Part {
+                from: place,
+                length: x.end - place,
+            };
+        }
+        place = x.end;
+    }
+    Part { from: 0, length: 0 }
+}
+
+// Whether an element with an identifier stands among those from `at` to `end`.
+fn has(bytes: &[u8], at: usize, end: usize, id: u8) -> bool
+    requires { ⌜ Places (now bytes) at end ⌝ }
+    ensures { λ r. ⌜ r ≡ holds id (fieldsBetween (now (bytes .entry)) at end) ⌝ }
+{
+    find(bytes, at, end, id).length != 0
+}
+
+// Whether subject and publicKey both stand in the template of the certReq whose inside is from `at` to `end`.
+fn is_named(bytes: &[u8], at: usize, end: usize) -> bool
+    requires { ⌜ Places (now bytes) at end ⌝ }
+    ensures { λ r. ⌜ ((m : Message) (more : List Field) → fieldsBetween (now (bytes .entry)) at end ≡ m .certReqId ∷ m .template ∷ more → m .template .identifier ≡ 0x30 → r ≡ named m) ⌝ }
+{
+    let id = read_at(bytes, at, end);
+    let template = read_at(bytes, id.end, end);
+    has(bytes, template.content, template.end, 0xA5)
+        & has(bytes, template.content, template.end, 0xA6)
+}
+
+// The verdict on the message from `at` before `end`.
+fn message(bytes: &[u8], at: usize, end: usize) -> Verdict
+    requires { ⌜ Places (now bytes) at end ⌝ }
+    ensures { λ r. ⌜ ((m : Message) (more : List Field) → fieldsBetween (now (bytes .entry)) at end ≡ m .own ∷ more → MessageParts m → r ≡ judged m) ⌝ }
+{
+    let own = read_at(bytes, at, end);
+    let first = own.content;
+    let last = own.end;
+    let request = read_at(bytes, first, last);
+    let behind = request.end;
+    let both = is_named(bytes, request.content, behind);
+    let part = Part {
+        from: first,
+        length: behind - first,
+    };
+    proof_verdict(bytes, read_at(bytes, behind, last), both, part)
+}
+
+// The verdict by what stands behind the certReq.
+fn proof_verdict(bytes: &[u8], proof: Element, both: bool, request: Part) -> Verdict
+    requires { ⌜ Places (now bytes) (proof .content) (proof .end) ⌝ }
+    ensures { λ r. ⌜ r ≡ proofAnswer (proof .identifier) (fieldsBetween (now (bytes .entry)) (proof .content) (proof .end)) both request ⌝ }
+{
+    let id = proof.identifier;
+    let from = proof.content;
+    let to = proof.end;
+    match id {
+        0x80 => plain(1),
+        0xA1 => signature(find(bytes, from, to, 0xA0), both, request),
+        0xA2 => plain(encipherment(has(bytes, from, to, 0x82))),
+        0xA3 => plain(agreement(has(bytes, from, to, 0x82), both)),
+        _ => plain(0),
+    }
+}
+
+// The verdict on a signature: over the certReq, over the poposkInput, or neither.
+fn signature(input: Part, both: bool, request: Part) -> Verdict
+    ensures { λ r. ⌜ ((o : Option Field) → Found o input → r ≡ signatureAnswer o both request) ⌝ }
+{
+    if input.length == 0 {
+        if both {
+            return tell(2, request);
+        }
+        return plain(4);
+    }
+    if both {
+        return plain(4);
+    }
+    tell(3, input)
+}
+
+// The verdict on keyEncipherment, by whether its choice is 82.
+fn encipherment(mac: bool) -> usize
+    ensures { λ r. ⌜ r ≡ enciphermentVerdict mac ⌝ }
+{
+    if mac { 7 } else { 5 }
+}
+
+// The verdict on keyAgreement.
+fn agreement(mac: bool, both: bool) -> usize
+    ensures { λ r. ⌜ r ≡ agreementVerdict mac both ⌝ }
+{
+    if mac & !both { 7 } else { 6 }
+}
+
+// A verdict with the part that is signed.
+fn tell(verdict: usize, part: Part) -> Verdict
+    ensures { λ r. ⌜ r ≡ told verdict part ⌝ }
+{
+    Verdict {
+        number: 0,
+        place: 0,
+        verdict,
+        from: part.from,
+        length: part.length,
+    }
+}
+
+// A verdict without one.
+fn plain(verdict: usize) -> Verdict
+    ensures { λ r. ⌜ r ≡ bare verdict ⌝ }
+{
+    Verdict {
+        number: 0,
+        place: 0,
+        verdict,
+        from: 0,
+        length: 0,
+    }
+}
+
+// A refusal.
+fn refuse(number: usize, place: usize) -> Verdict
+    ensures { λ r. ⌜ r ≡ refused number place ⌝ }
+{
+    Verdict {
+        number,
+        place,
+        verdict: 0,
+        from: 0,
+        length: 0,
+    }
+}
