@@ -1,0 +1,69 @@
+-- Demand 1: every public call ends with document 01's answer, for any bytes, tables and numbers, and a refusal changes nothing lent. Each
+-- call's statement is its contract, in src, and each theorem here says that the call meets it. Assumes nothing.
+use Rattle.editions.proofs.reader.accept.Statement as accept
+use Rattle.editions.proofs.reader.accept.Met as accept-met
+use Rattle.editions.proofs.reader.read.Statement as read
+use Rattle.editions.proofs.reader.read.Met as read-met
+use Rattle.writer.proofs.writer.write.Statement as write
+use Rattle.writer.proofs.writer.write.Met as write-met
+use Rattle.verdict.proofs.verdict.judge.Statement as judge
+use Rattle.verdict.proofs.verdict.judge.Met as judge-met
+use Rattle.verdict.proofs.verdict.signed_part.Statement as part
+use Rattle.verdict.proofs.verdict.signed_part.Met as part-met
+use Rattle.verdict.proofs.duplicates.search.Statement as search
+use Rattle.verdict.proofs.duplicates.search.Met as search-met
+use Rattle.capi.proofs.phagundro_accept.Statement as c-accept
+use Rattle.capi.proofs.phagundro_accept.Met as c-accept-met
+use Rattle.capi.proofs.phagundro_read.Statement as c-read
+use Rattle.capi.proofs.phagundro_read.Met as c-read-met
+use Rattle.capi.proofs.phagundro_write.Statement as c-write
+use Rattle.capi.proofs.phagundro_write.Met as c-write-met
+use Rattle.capi.proofs.phagundro_verdict.Statement as c-verdict
+use Rattle.capi.proofs.phagundro_verdict.Met as c-verdict-met
+use Rattle.capi.proofs.phagundro_verdict_number.Statement as c-number
+use Rattle.capi.proofs.phagundro_verdict_number.Met as c-number-met
+use Rattle.capi.proofs.phagundro_duplicates.Statement as c-duplicates
+use Rattle.capi.proofs.phagundro_duplicates.Met as c-duplicates-met
+
+-- Judging a batch: `editions/src/reader.rt`, by `answer`.
+pub accepting : {M : Type 1} → accept.statement M
+accepting = accept-met.met
+
+-- Reading a batch into a table: `editions/src/reader.rt`, by `readAnswer` and `tableAfter`.
+pub reading : {M : Type 1} → read.statement M
+reading = read-met.met
+
+-- Writing a draft: `writer/src/writer.rt`, by `writeAnswer` and `outputAfter`.
+pub writing : {M : Type 1} → write.statement M
+writing = write-met.met
+
+-- Judging a message's proof: `verdict/src/verdict.rt`, by `verdictAnswer`.
+pub judging : {M : Type 1} → judge.statement M
+judging = judge-met.met
+
+-- Handing back the signed part: `verdict/src/verdict.rt`, by `signedOctets`.
+pub signed-part : {M : Type 1} → part.statement M
+signed-part = part-met.met
+
+-- Searching for duplicates: `verdict/src/duplicates.rt`, by `duplicatesAnswer`.
+pub searching : {M : Type 1} → search.statement M
+searching = search-met.met
+
+-- The same from C: `capi/src/lib.rt`.
+pub c-accepting : {M : Type 1} → c-accept.statement M
+c-accepting = c-accept-met.met
+
+pub c-reading : {M : Type 1} → c-read.statement M
+c-reading = c-read-met.met
+
+pub c-writing : {M : Type 1} → c-write.statement M
+c-writing = c-write-met.met
+
+pub c-judging : {M : Type 1} → c-verdict.statement M
+c-judging = c-verdict-met.met
+
+pub c-judging-number : {M : Type 1} → c-number.statement M
+c-judging-number = c-number-met.met
+
+pub c-searching : {M : Type 1} → c-duplicates.statement M
+c-searching = c-duplicates-met.met

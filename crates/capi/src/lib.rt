@@ -1,0 +1,72 @@
+// The C calls, whose manual is include/phagundro.h. A slice comes as a pointer and a length.
+use editions::reader::Answer;
+use verdict::duplicates::Duplicates;
+use verdict::verdict::Position;
+use verdict::verdict::Verdict;
+ghost use mathlib.Core.Path.{_≡_};
+ghost use Rattle.editions.specs.Reading.{answer, readAnswer, tableAfter};
+ghost use Rattle.writer.specs.Writing.{writeAnswer, outputAfter};
+ghost use Rattle.verdict.specs.Verdict.{verdictAnswer};
+ghost use Rattle.verdict.specs.Duplicates.{duplicatesAnswer};
+ghost use Rattle.capi.specs.OneNumber.{oneNumber};
+
+// Answers whether a batch is accepted in an edition: 0, or the refusal's number.
+#[no_mangle]
+pub extern "C" fn phagundro_accept(edition: usize, bytes: &[u8]) -> usize
+    ensures { λ r. ⌜ r ≡ answer edition (now (bytes .entry)) .number ⌝ }
+{
+    editions::reader::accept(edition, bytes).number
+}
+
+// Reads a batch in an edition: the answer, with the rows in the table where the batch is accepted.
+#[no_mangle]
+pub extern "C" fn phagundro_read(edition: usize, bytes: &[u8], table: &mut [usize]) -> Answer
+    ensures { λ r. ⌜ (r ≡ readAnswer edition (now (bytes .entry)) (now (table .entry)))
+        × (now (table .exit) ≡ tableAfter edition (now (bytes .entry)) (now (table .entry))) ⌝ }
+{
+    editions::reader::read(edition, bytes, table)
+}
+
+// Writes the batch that a draft describes in an edition: the answer, whose count is the batch's length, with the batch in the output where
+// there is room for it.
+#[no_mangle]
+pub extern "C" fn phagundro_write(
+    edition: usize,
+    draft: &[usize],
+    slice: &[u8],
+    output: &mut [u8],
+) -> Answer
+    ensures { λ r. ⌜ (r ≡ writeAnswer edition (now (draft .entry)) (now (slice .entry)) (now (output .entry)))
+        × (now (output .exit) ≡ outputAfter edition (now (draft .entry)) (now (slice .entry)) (now (output .entry))) ⌝ }
+{
+    writer::writer::write(edition, draft, slice, output)
+}
+
+// Judges the proof of the message at a position: the verdict and where the signed part stands, or the refusal.
+#[no_mangle]
+pub extern "C" fn phagundro_verdict(edition: usize, bytes: &[u8], position: usize) -> Verdict
+    ensures { λ r. ⌜ r ≡ verdictAnswer edition (now (bytes .entry)) position ⌝ }
+{
+    verdict::verdict::judge(edition, bytes, Position(position))
+}
+
+// Judges the same in one number: the verdict, or 256 and the refusal's number.
+#[no_mangle]
+pub extern "C" fn phagundro_verdict_number(edition: usize, bytes: &[u8], position: usize) -> usize
+    ensures { λ r. ⌜ r ≡ oneNumber (verdictAnswer edition (now (bytes .entry)) position) ⌝ }
+{
+    let found = verdict::verdict::judge(edition, bytes, Position(position));
+    if found.number == 0 {
+        found.verdict
+    } else {
+        256 + found.number
+    }
+}
+
+// Searches a batch for two messages with the same certReqId: the first pair, or that there is none, or the refusal.
+#[no_mangle]
+pub extern "C" fn phagundro_duplicates(edition: usize, bytes: &[u8]) -> Duplicates
+    ensures { λ r. ⌜ r ≡ duplicatesAnswer edition (now (bytes .entry)) ⌝ }
+{
+    verdict::duplicates::search(edition, bytes)
+}

@@ -1,0 +1,74 @@
+/* The texts of --help. */
+#include "help.h"
+
+#define INPUT_HELP \
+    "FILE is the batch in DER; without it, or where it is -, standard input is read.\n" \
+    "  --hex          the batch is written in hex digits, white space between them or not\n"
+
+#define EDITION_HELP \
+    "  --edition N    1 for RFC 2511, 2 for RFC 4211; needed, since it is never guessed\n"
+
+#define STATUS_HELP \
+    "Exit status: 0 accepted, 1 refused, 2 usage or file trouble.\n"
+
+const char general_help[] =
+    "phagundro: batches of certificate requests (CertReqMessages in DER), read, written and judged\n"
+    "\n"
+    "  phagundro read       --edition N [--hex] [--numbers | --json] [FILE]\n"
+    "  phagundro write      --edition N [--hex] [--output FILE] ROWS SLICE\n"
+    "  phagundro verdict    --edition N --position P [--part FILE] [--hex] [--json] [FILE]\n"
+    "  phagundro duplicates --edition N [--hex] [--json] [FILE]\n"
+    "  phagundro editions   [--hex] [--json] [FILE]\n"
+    "  phagundro COMMAND --help\n"
+    "  phagundro --help\n"
+    "  phagundro --version\n"
+    "\n" STATUS_HELP;
+
+const char read_help[] =
+    "phagundro read --edition N [--hex] [--numbers | --json] [FILE]\n"
+    "\n"
+    "Reads a batch in an edition and shows its fields as a tree: row, first byte, whole length and name.\n"
+    INPUT_HELP EDITION_HELP
+    "  --numbers      the rows as plain numbers, a row a line: kind, first byte, whole length, parent's row\n"
+    "  --json         the answer and the rows as JSON\n"
+    STATUS_HELP;
+
+const char write_help[] =
+    "phagundro write --edition N [--hex] [--output FILE] ROWS SLICE\n"
+    "\n"
+    "Writes the batch that rows over a slice of bytes describe. ROWS has numbers as read --numbers shows them, SLICE the bytes at\n"
+    "which the leaves' rows point; one of the two may be -, standard input. Of a container's row the place and length are ignored.\n"
+    "  --hex          SLICE is written in hex digits, white space between them or not\n"
+    EDITION_HELP
+    "  --output FILE  where the batch goes, in DER; without it, or where it is -, to standard output\n"
+    STATUS_HELP
+    "After a refusal nothing is written.\n";
+
+const char verdict_help[] =
+    "phagundro verdict --edition N --position P [--part FILE] [--hex] [--json] [FILE]\n"
+    "\n"
+    "Says what there is to be checked of a message's proof of possession, and which bytes are signed. No signature is checked.\n"
+    INPUT_HELP EDITION_HELP
+    "  --position P   which message, counted from 0; this is never its certReqId\n"
+    "  --part FILE    the signed part is written there; it is empty with any verdict but 2 and 3\n"
+    "  --json         the answer as JSON\n"
+    STATUS_HELP
+    "After a refusal nothing is written.\n";
+
+const char duplicates_help[] =
+    "phagundro duplicates --edition N [--hex] [--json] [FILE]\n"
+    "\n"
+    "Says which two messages have the same certReqId, or that none have. Of several pairs it is the one with the least later\n"
+    "position, and of these the one with the least earlier.\n"
+    INPUT_HELP EDITION_HELP
+    "  --json         the answer as JSON\n"
+    STATUS_HELP
+    "A batch is accepted, with status 0, whether a pair is found or not.\n";
+
+const char editions_help[] =
+    "phagundro editions [--hex] [--json] [FILE]\n"
+    "\n"
+    "Reads a batch in both editions and shows the two answers.\n"
+    INPUT_HELP
+    "  --json         the answers as JSON\n"
+    "Exit status: 0 accepted in an edition or both, 1 refused in both, 2 usage or file trouble.\n";

@@ -1,0 +1,103 @@
+/* The command line, word by word. Nothing is guessed: an option twice or a word too many is trouble. */
+#include "options.h"
+
+#include "files.h"
+
+#include <string.h>
+
+static const struct {
+    const char *name;
+    unsigned bit;
+    const char *value;  /* what stands behind it, or NULL */
+    const char *advice; /* where it is needed and missing */
+} known[] = {
+    {"--edition", EDITION, "1 or 2", "say --edition 1 (RFC 2511) or --edition 2 (RFC 4211): which one a batch speaks is never guessed"},
+    {"--hex", HEX, NULL, NULL},
+    {"--numbers", NUMBERS, NULL, NULL},
+    {"--json", JSON, NULL, NULL},
+    {"--position", POSITION, "a number", "say --position N: which message, counted from 0"},
+    {"--part", PART, "a file", NULL},
+    {"--output", OUTPUT, "a file", NULL},
+    {"--help", HELP, NULL, NULL},
+};
+
+enum { KNOWN = sizeof known / sizeof *known };
+
+/* Which option a word names, up to its "="; KNOWN for none. */
+static size_t option_of(const char *word)
+{
+    size_t length = strcspn(word, "="), option = 0;
+    while (option < KNOWN && (strlen(known[option].name) != length || strncmp(known[option].name, word, length) != 0))
+        option++;
+    return option;
+}
+
+static size_t number_of(const char *name, const char *value)
+{
+    size_t number;
+    if (!whole_number(value, &number))
+        trouble("%s %s: not a whole number that fits", name, value);
+    return number;
+}
+
+static void take(options *given, size_t option, const char *value)
+{
+    const char *name = known[option].name;
+    if (given->given & known[option].bit)
+        trouble("%s is given twice", name);
+    given->given |= known[option].bit;
+    switch (known[option].bit) {
+    case EDITION: given->edition = number_of(name, value); break;
+    case POSITION: given->position = number_of(name, value); break;
+    case PART: given->part = value; break;
+    case OUTPUT: given->output = value; break;
+    }
+}
+
+static void add_file(options *given, const char *command, size_t most, const char *name)
+{
+    if (given->count == most)
+        trouble("%s: a file too many: %s (see phagundro %s --help)", command, name, command);
+    given->files[given->count++] = name;
+}
+
+/* Takes the option that the first word names, and answers the last word that belongs to it. */
+static char **take_option(options *given, const char *command, unsigned taken, char **words)
+{
+    size_t option = option_of(*words);
+    const char *value = strchr(*words, '=');
+    if (option == KNOWN || !(known[option].bit & (taken | HELP)))
+        trouble("%s: no such option: %s (see phagundro %s --help)", command, *words, command);
+    if (known[option].value == NULL && value != NULL)
+        trouble("%s takes no value", known[option].name);
+    if (value != NULL)
+        value++;
+    else if (known[option].value != NULL && (value = *++words) == NULL)
+        trouble("%s wants %s behind it", known[option].name, known[option].value);
+    take(given, option, value);
+    return words;
+}
+
+options parsed(const char *command, unsigned taken, size_t most, char **words)
+{
+    options given = {0};
+    bool ended = false;
+    for (; *words != NULL; words++) {
+        if (ended || **words != '-' || strcmp(*words, "-") == 0)
+            add_file(&given, command, most, *words);
+        else if (strcmp(*words, "--") == 0)
+            ended = true;
+        else
+            words = take_option(&given, command, taken, words);
+    }
+    if ((given.given & NUMBERS) && (given.given & JSON))
+        trouble("--numbers and --json: only one of them");
+    return given;
+}
+
+void needed(const options *given, const char *command, unsigned bits)
+{
+    for (size_t option = 0; option < KNOWN; option++)
+        if ((known[option].bit & bits) && !(given->given & known[option].bit))
+            trouble("%s: %s", command, known[option].advice);
+}

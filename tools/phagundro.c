@@ -1,0 +1,224 @@
+/* The command line tool: each command is one call of the library, with its answer shown. */
+#include "../include/phagundro.h"
+#include "files.h"
+#include "help.h"
+#include "meanings.h"
+#include "options.h"
+#include "show.h"
+
+#include <stdio.h>
+#include <stdlib.h>
+#include <string.h>
+
+enum {
+    MOST_INPUT = 65536,    /* one byte more than a batch may have, so that what is longer is refused and not cut short */
+    MOST_ROWS = 65535 / 2, /* a row has two bytes at least of its own */
+    MOST_OUTPUT = 65535
+};
+
+static size_t table[4 * MOST_ROWS];
+static uint8_t output[MOST_OUTPUT];
+
+/* The batch that a command is about. */
+static octets batch_of(const options *given)
+{
+    return read_octets(given->count == 0 ? "-" : given->files[0], given->given & HEX, MOST_INPUT);
+}
+
+static phagundro_answer rows_of(size_t edition, octets batch)
+{
+    return phagundro_read(edition, batch.bytes, batch.length, table, 4 * MOST_ROWS);
+}
+
+static int status_of(size_t number)
+{
+    return number == PHAGUNDRO_ACCEPTED ? 0 : 1;
+}
+
+static void json_reading(size_t edition, phagundro_answer answer)
+{
+    putchar('{');
+    json_answer(edition, answer.number, answer.place);
+    printf(", \"count\": %zu, \"rows\": ", answer.count);
+    json_rows(table, answer.count);
+    putchar('}');
+}
+
+static int read_command(const options *given)
+{
+    octets batch = batch_of(given);
+    phagundro_answer answer = rows_of(given->edition, batch);
+    if (given->given & JSON) {
+        json_reading(given->edition, answer);
+        putchar('\n');
+    } else if (answer.number != PHAGUNDRO_ACCEPTED)
+        show_refusal(stderr, given->edition, answer.number, answer.place, batch);
+    else if (given->given & NUMBERS)
+        show_numbers(table, answer.count);
+    else
+        show_tree(given->edition, table, answer.count, batch);
+    free(batch.bytes);
+    return status_of(answer.number);
+}
+
+static int write_command(const options *given)
+{
+    if (given->count < 2)
+        trouble("write: two files are needed, the rows and the bytes that they point at");
+    if (strcmp(given->files[0], "-") == 0 && strcmp(given->files[1], "-") == 0)
+        trouble("write: only one of the two files can be standard input");
+    numbers rows = read_numbers(given->files[0]);
+    octets slice = read_octets(given->files[1], given->given & HEX, SIZE_MAX);
+    phagundro_answer answer =
+        phagundro_write(given->edition, rows.numbers, rows.count, slice.bytes, slice.length, output, sizeof output);
+    if (answer.number != PHAGUNDRO_ACCEPTED)
+        show_refusal(stderr, given->edition, answer.number, answer.place, slice);
+    else
+        write_octets(given->output == NULL ? "-" : given->output, output, answer.count);
+    free(rows.numbers);
+    free(slice.bytes);
+    return status_of(answer.number);
+}
+
+static void show_verdict(const options *given, phagundro_verdict_answer answer)
+{
+    printf("edition %zu%s: accepted; message at position %zu: verdict %zu, %s\n", given->edition, edition_name(given->edition),
+        given->position, answer.verdict, verdict_of(answer.verdict));
+    if (answer.length > 0)
+        printf("signed part: %zu bytes from byte %zu\n", answer.length, answer.from);
+}
+
+static void json_verdict(const options *given, phagundro_verdict_answer answer)
+{
+    putchar('{');
+    json_answer(given->edition, answer.number, answer.place);
+    printf(", \"position\": %zu", given->position);
+    if (answer.number == PHAGUNDRO_ACCEPTED)
+        printf(", \"verdict\": %zu, \"says\": \"%s\", \"from\": %zu, \"length\": %zu", answer.verdict, verdict_of(answer.verdict),
+            answer.from, answer.length);
+    puts("}");
+}
+
+static int verdict_command(const options *given)
+{
+    if (given->part != NULL && strcmp(given->part, "-") == 0)
+        trouble("verdict: --part wants a file, since standard output has the verdict");
+    octets batch = batch_of(given);
+    phagundro_verdict_answer answer = phagundro_verdict(given->edition, batch.bytes, batch.length, given->position);
+    if (answer.number == PHAGUNDRO_ACCEPTED && given->part != NULL)
+        write_octets(given->part, answer.length == 0 ? NULL : batch.bytes + answer.from, answer.length);
+    if (given->given & JSON)
+        json_verdict(given, answer);
+    else if (answer.number != PHAGUNDRO_ACCEPTED)
+        show_refusal(stderr, given->edition, answer.number, answer.place, batch);
+    else
+        show_verdict(given, answer);
+    free(batch.bytes);
+    return status_of(answer.number);
+}
+
+static void show_duplicates(const options *given, phagundro_duplicate_answer answer)
+{
+    printf("edition %zu%s: accepted; ", given->edition, edition_name(given->edition));
+    if (answer.found)
+        printf("the messages at positions %zu and %zu have the same certReqId\n", answer.earlier, answer.later);
+    else
+        puts("no two messages have the same certReqId");
+}
+
+static void json_duplicates(const options *given, phagundro_duplicate_answer answer)
+{
+    putchar('{');
+    json_answer(given->edition, answer.number, answer.place);
+    if (answer.number == PHAGUNDRO_ACCEPTED)
+        printf(", \"found\": %s", answer.found ? "true" : "false");
+    if (answer.found)
+        printf(", \"earlier\": %zu, \"later\": %zu", answer.earlier, answer.later);
+    puts("}");
+}
+
+static int duplicates_command(const options *given)
+{
+    octets batch = batch_of(given);
+    phagundro_duplicate_answer answer = phagundro_duplicates(given->edition, batch.bytes, batch.length);
+    if (given->given & JSON)
+        json_duplicates(given, answer);
+    else if (answer.number != PHAGUNDRO_ACCEPTED)
+        show_refusal(stderr, given->edition, answer.number, answer.place, batch);
+    else
+        show_duplicates(given, answer);
+    free(batch.bytes);
+    return status_of(answer.number);
+}
+
+static int editions_command(const options *given)
+{
+    octets batch = batch_of(given);
+    int status = 1;
+    for (size_t edition = 1; edition <= 2; edition++) {
+        phagundro_answer answer = rows_of(edition, batch);
+        if (given->given & JSON) {
+            fputs(edition == 1 ? "[" : ",\n", stdout);
+            json_reading(edition, answer);
+        } else if (answer.number != PHAGUNDRO_ACCEPTED)
+            show_refusal(stdout, edition, answer.number, answer.place, batch);
+        else
+            show_count(edition, answer.count);
+        if (answer.number == PHAGUNDRO_ACCEPTED)
+            status = 0;
+    }
+    if (given->given & JSON)
+        puts("]");
+    free(batch.bytes);
+    return status;
+}
+
+static const struct {
+    const char *name;
+    int (*run)(const options *given);
+    const char *help;
+    unsigned taken, needed; /* options */
+    size_t most;            /* files */
+} commands[] = {
+    {"read", read_command, read_help, EDITION | HEX | NUMBERS | JSON, EDITION, 1},
+    {"write", write_command, write_help, EDITION | HEX | OUTPUT, EDITION, 2},
+    {"verdict", verdict_command, verdict_help, EDITION | HEX | JSON | POSITION | PART, EDITION | POSITION, 1},
+    {"duplicates", duplicates_command, duplicates_help, EDITION | HEX | JSON, EDITION, 1},
+    {"editions", editions_command, editions_help, HEX | JSON, 0, 1},
+};
+
+enum { COMMANDS = sizeof commands / sizeof *commands };
+
+/* Runs the command that the first word names with the words behind it. */
+static int run_command(char **words)
+{
+    size_t command = 0;
+    while (command < COMMANDS && strcmp(commands[command].name, *words) != 0)
+        command++;
+    if (command == COMMANDS)
+        trouble("no such command: %s (see phagundro --help)", *words);
+    options given = parsed(*words, commands[command].taken, commands[command].most, words + 1);
+    if (given.given & HELP) {
+        fputs(commands[command].help, stdout);
+        return 0;
+    }
+    needed(&given, *words, commands[command].needed);
+    return commands[command].run(&given);
+}
+
+int main(int count, char **words)
+{
+    int status = 0;
+    if (count < 2) {
+        fputs(general_help, stderr);
+        return 2;
+    }
+    if (count == 2 && strcmp(words[1], "--help") == 0)
+        fputs(general_help, stdout);
+    else if (count == 2 && strcmp(words[1], "--version") == 0)
+        puts("phagundro " VERSION);
+    else
+        status = run_command(words + 1);
+    finish_output();
+    return status;
+}

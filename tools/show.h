@@ -1,0 +1,28 @@
+/* Answers shown: in words for people, and as JSON. */
+#ifndef SHOW_H
+#define SHOW_H
+
+#include "../include/phagundro.h"
+#include "files.h"
+
+#include <stdio.h>
+
+/* A refusal in words, and the bytes around its place. */
+void show_refusal(FILE *out, size_t edition, size_t number, size_t place, octets batch);
+
+/* How many rows an accepted batch has. */
+void show_count(size_t edition, size_t count);
+
+/* The rows of an accepted batch as a tree. */
+void show_tree(size_t edition, const size_t *table, size_t count, octets batch);
+
+/* The rows as plain numbers, one row a line. */
+void show_numbers(const size_t *table, size_t count);
+
+/* The members of a JSON object that every answer has: edition, number, meaning and place. */
+void json_answer(size_t edition, size_t number, size_t place);
+
+/* The rows as a JSON array of objects. */
+void json_rows(const size_t *table, size_t count);
+
+#endif
