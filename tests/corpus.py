@@ -9,15 +9,25 @@ FOLDER = pathlib.Path(__file__).with_name("corpus") / "crmf"
 FILES = 64
 SHOWN = 60  # rows of a file that has them stored, at most
 
-LINE = re.compile(r"(\S+)\.der edition ([12]): number (\d+) place (\d+) count (\d+)(; verdict .*)?")
+JUDGED = r"; verdict at 0: (\d), part of (\d+) bytes; (?:no duplicate ids|duplicate ids at (\d+) and (\d+))"
+LINE = re.compile(rf"(\S+)\.der edition ([12]): number (\d+) place (\d+) count (\d+)(?:{JUDGED})?")
+
+
+def lines():
+    return [LINE.fullmatch(line).groups() for line in (FOLDER / "expected.txt").read_text().splitlines()]
 
 
 def expected():
     """The answers to be given: (name, edition) with (number, place, count)."""
+    return {(name, int(edition)): tuple(map(int, answer[:3])) for name, edition, *answer in lines()}
+
+
+def judged():
+    """For each that is accepted, (name, edition) with the first message's verdict, its part's length, and the equal pair or None."""
     found = {}
-    for line in (FOLDER / "expected.txt").read_text().splitlines():
-        name, edition, *answer = LINE.fullmatch(line).groups()[:5]
-        found[name, int(edition)] = tuple(map(int, answer))
+    for name, edition, *_, verdict, length, earlier, later in lines():
+        if verdict:
+            found[name, int(edition)] = int(verdict), int(length), (int(earlier), int(later)) if earlier else None
     return found
 
 

@@ -10,6 +10,7 @@ import nest_model
 
 TABLE = pathlib.Path(__file__).with_name("crmf_cases.txt")
 TOKEN = re.compile(r'"[^"]*"|\*[0-9]+|[A-Za-z0-9]+\{?|[_}]|\S')
+NAME = re.compile(r"([a-z0-9]+(?:\{_\})?) = (.*)")
 ANSWER = re.compile(r"(.*\S) -> ((?:0 \d+|8@\d+ [1-4])(?: (?:-|D[123]@\d+)){2})")
 
 
@@ -19,7 +20,7 @@ def table():
     names, found = {}, []
     for number, line in enumerate(TABLE.read_text().splitlines(), 1):
         line = line.partition("#")[0].strip()
-        case, name = ANSWER.fullmatch(line), re.fullmatch(r"([a-z0-9]+(?:\{_\})?) = (.*)", line)
+        case, name = ANSWER.fullmatch(line), NAME.fullmatch(line)
         if case:
             found.append((case[1], case[2]))
         elif name:
@@ -37,7 +38,7 @@ def element(identifier, content):
     return header + content[0], header.hex().upper() + content[1]
 
 
-def sequence(tokens, within):
+def sequence(tokens, within, names):
     """What the tokens up to a closing brace stand for; `within` is what _ stands for."""
     parts = []
     while tokens and tokens[0] != "}":
@@ -50,21 +51,21 @@ def sequence(tokens, within):
         elif token[0] == '"':
             parts.append((token[1:-1].encode(), token[1:-1].encode().hex().upper()))
         elif token[-1] == "{":
-            inside = sequence(tokens, within)
+            inside = sequence(tokens, within, names)
             if tokens.pop(0) != "}":
                 raise ValueError("a brace stays open")
-            name = table()[0].get(token + "_}")
-            parts.append(built(name, inside) if name else element(bytes.fromhex(token[:-1]), inside))
+            name = names.get(token + "_}")
+            parts.append(built(name, names, inside) if name else element(bytes.fromhex(token[:-1]), inside))
         else:
-            name = table()[0].get(token)
-            parts.append(built(name) if name else (bytes.fromhex(token), token))
+            name = names.get(token)
+            parts.append(built(name, names) if name else (bytes.fromhex(token), token))
     return b"".join(octets for octets, _ in parts), "".join(text for _, text in parts)
 
 
-def built(written, within=None):
-    """The octets of a batch, and how the program reads them."""
+def built(written, names=None, within=None):
+    """The octets of a batch, and how the program reads them; without names those of the table count."""
     tokens = TOKEN.findall(written)
-    octets, text = sequence(tokens, within)
+    octets, text = sequence(tokens, within, names or table()[0])
     if tokens:
         raise ValueError(f"a brace too many: {written}")
     return octets, " ".join(text.split())

@@ -1,0 +1,92 @@
+"""The fuzz target of fuzz/, built with clang's libFuzzer and run for a while on mutations of the corpus and of the tables' batches.
+
+What it can find is shown by planted faults, which it meets at its starts. In 20 s it doesn't find fault 5, which needs a carried certReqId
+of 9 octets; nor can it find 4 and 10, which need more messages than its inputs have, nor 6 to 8, which are about drafts. The comparisons of
+host.py and host_verdict.py find all of these.
+
+By hand and longer: `python3 tests/fuzz.py SECONDS`, beside an archive that is built.
+"""
+
+import functools
+import os
+import pathlib
+import re
+import sys
+import tempfile
+
+import crmf_cases
+import host
+import host_verdict
+import verdict_cases
+
+TARGET = pathlib.Path(__file__).with_name("fuzz") / "batches.c"
+SECONDS = 20
+LONGEST = 1024  # bytes of an input
+LEAST = 2_000  # inputs, or it was no run
+SEED = 1
+FINDS = {1, 2, 3, 9, 11, 12, 13}
+
+
+@functools.cache
+def built(archive):
+    host.BUILT.mkdir(parents=True, exist_ok=True)
+    program = host.BUILT / "fuzz"
+    references = sorted(host.FOLDER.glob("reference*.c"))
+    flags = ["-std=c11", "-Wall", "-Wextra", "-Werror", "-O1", "-g", "-fsanitize=fuzzer,address,undefined"]
+    host.did(["clang", *flags, "-o", program, TARGET, *references, archive])
+    return program
+
+
+def starts():
+    """What the fuzzer starts from: the corpus, and the batches of the tables of cases, as far as they are short."""
+    found = [path.read_bytes() for path in host.corpus_files()]
+    found += [crmf_cases.built(batch)[0] for batch, _ in crmf_cases.table()[1]]
+    found += [case.octets for case in verdict_cases.table()]
+    return [octets for octets in found if len(octets) <= LONGEST]
+
+
+def fuzzed(archive, seconds, fault=0):
+    """How a run ended, and what it wrote; the fault is one that is planted in the plain C, and 0 is none.
+
+    An input on which they differ is kept in target/host, but for a planted fault."""
+    with tempfile.TemporaryDirectory() as folder:
+        seeds, kept = pathlib.Path(folder) / "seeds", pathlib.Path(folder) / "kept"
+        seeds.mkdir()
+        kept.mkdir()
+        for number, octets in enumerate(starts()):
+            (seeds / str(number)).write_bytes(octets)
+        words = [f"-max_total_time={seconds}", f"-seed={SEED}", f"-max_len={LONGEST}", "-print_final_stats=1"]
+        words.append(f"-artifact_prefix={folder if fault else host.BUILT}/")
+        return host.run([built(archive), *words, kept, seeds], env=dict(os.environ, REFERENCE_FAULT=str(fault)))
+
+
+def differences(archive=None, seconds=SECONDS):
+    """What the fuzzer finds, or that it tried too little."""
+    ended = fuzzed(archive or host.archive(), seconds)
+    if ended.returncode != 0:
+        return ended.stdout.splitlines()[-30:] or [f"the fuzzer ended with status {ended.returncode}"]
+    tried = int(re.search(r"number_of_executed_units: (\d+)", ended.stdout)[1])
+    print(f"{tried:,} inputs fuzzed in {seconds} s")
+    return [] if tried >= LEAST else [f"only {tried} inputs"]
+
+
+def overlooked(fault):
+    """Whether the fuzzer is blind to a planted fault."""
+    ended = fuzzed(host.archive(), SECONDS, fault)
+    found = ended.returncode != 0 and "difference: edition " in ended.stdout
+    return [] if found else [f"no difference is reported, status {ended.returncode}"]
+
+
+TESTS = [
+    (f"the fuzzer finds no difference between the archive and the plain C, nor between the editions, in {SECONDS} s", differences),
+] + [
+    (f"the fuzzer finds planted fault {fault}: {words}", functools.partial(overlooked, fault))
+    for fault, words in (host.READING_FAULTS | host_verdict.FAULTS).items()
+    if fault in FINDS
+]
+
+
+if __name__ == "__main__":
+    wrong = differences(host.ARCHIVE, int(sys.argv[1]))
+    print("\n".join(wrong))
+    sys.exit(bool(wrong))

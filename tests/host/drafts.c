@@ -1,0 +1,661 @@
+/* A draft is made from a source, an accepted batch with its rows: first it is those rows over the batch's bytes, and then what its sort
+ * says is done to the rows or the slice. */
+#include "drafts.h"
+#include "inputs.h"
+#include "reference.h"
+
+#include <stdbool.h>
+#include <stdlib.h>
+#include <string.h>
+
+#define below inputs_below
+
+enum { WIDTH = 4, KIND = 0, FIRST, WHOLE, PARENT, MOST_NUMBERS = WIDTH * 33000 };
+
+static bool chance(size_t n)
+{
+    return below(n) == 0;
+}
+
+/* -- Where drafts come from -- */
+
+typedef struct {
+    uint8_t bytes[INPUT_ROOM];
+    size_t length, edition, count; /* of rows */
+    size_t numbers[MOST_NUMBERS];
+} Source;
+
+static Source sources[2];
+static size_t present, left; /* which of the two is used, for so many drafts more; the other is the one before */
+
+/* The next input that an edition accepts. */
+static void next_source(void)
+{
+    Source *source = &sources[present = 1 - present];
+    do {
+        source->length = inputs_next(source->bytes);
+        source->edition = 1 + below(2);
+        reference_answer answer = reference_read(source->edition, source->bytes, source->length, source->numbers, MOST_NUMBERS);
+        source->count = answer.count;
+    } while (source->count == 0);
+    left = source->length > 5000 ? 1 : 1 + below(8);
+}
+
+/* -- Rows -- */
+
+static size_t *row(Draft *draft, size_t i)
+{
+    return draft->numbers + WIDTH * i;
+}
+
+static size_t rows(const Draft *draft)
+{
+    return draft->count / WIDTH;
+}
+
+static bool container(size_t kind)
+{
+    static const uint8_t kinds[] = {1, 2, 3, 5, 14, 19, 30, 51, 52, 53, 70, 74};
+    return kind < 256 && memchr(kinds, (int)kind, sizeof kinds) != NULL;
+}
+
+static size_t any_kind(void)
+{
+    static const uint8_t kinds[] = {1, 2, 3, 4, 5, 10, 11, 12, 13, 14, 15, 16, 17, 18, 19, 20, 21, 22, 30, 31, 41, 42, 43, 44, 45, 46, 50, 51,
+        52, 53, 54, 55, 56, 60, 61, 62, 63, 64, 70, 71, 72, 73, 74, 0, 6, 9, 23, 40, 47, 57, 65, 75, 255};
+    return chance(20) ? kinds[below(sizeof kinds)] + 256 : kinds[below(sizeof kinds)];
+}
+
+/* A row from the second on; each batch has some, and leaves among them. */
+static size_t some_row(Draft *draft)
+{
+    return 1 + below(rows(draft) - 1);
+}
+
+static size_t some_leaf(Draft *draft)
+{
+    size_t i = some_row(draft);
+    while (container(row(draft, i)[KIND]))
+        i = i + 1 < rows(draft) ? i + 1 : 1;
+    return i;
+}
+
+/* The row behind those below a row. */
+static size_t behind(Draft *draft, size_t i)
+{
+    size_t j = i + 1;
+    while (j < rows(draft) && row(draft, j)[PARENT] >= i)
+        j++;
+    return j;
+}
+
+static void insert_rows(Draft *draft, size_t at, const size_t *numbers, size_t count)
+{
+    if (DRAFT_NUMBERS - draft->count < WIDTH * count)
+        abort();
+    memmove(row(draft, at + count), row(draft, at), (rows(draft) - at) * WIDTH * sizeof(size_t));
+    memmove(row(draft, at), numbers, count * WIDTH * sizeof(size_t));
+    draft->count += WIDTH * count;
+}
+
+static void remove_rows(Draft *draft, size_t at, size_t count)
+{
+    memmove(row(draft, at), row(draft, at + count), (rows(draft) - at - count) * WIDTH * sizeof(size_t));
+    draft->count -= WIDTH * count;
+}
+
+/* Moves the parents of the rows between two that are `least` or more. */
+static void move_parents(Draft *draft, size_t from, size_t to, size_t least, size_t by)
+{
+    for (size_t i = from; i < to; i++)
+        if (row(draft, i)[PARENT] >= least)
+            row(draft, i)[PARENT] += by;
+}
+
+static void add_row(Draft *draft, size_t kind, size_t first, size_t whole, size_t parent)
+{
+    size_t numbers[WIDTH] = {kind, first, whole, parent};
+    insert_rows(draft, rows(draft), numbers, 1);
+}
+
+/* -- The slice -- */
+
+/* Puts octets behind the slice; answers their place. */
+static size_t keep(Draft *draft, const void *octets, size_t size)
+{
+    if (SLICE_ROOM - draft->length < size)
+        abort();
+    memcpy(draft->slice + draft->length, octets, size);
+    draft->length += size;
+    return draft->length - size;
+}
+
+static void garbage(Draft *draft, size_t size)
+{
+    for (; size > 0; size--)
+        keep(draft, &(uint8_t){(uint8_t)below(256)}, 1);
+}
+
+/* Where the slice has these octets from a place on, or where they begin so that its end has their first ones. */
+static size_t found(const Draft *draft, const uint8_t *octets, size_t size)
+{
+    size_t from = draft->length > 3000 ? draft->length - 3000 : 0;
+    for (; from < draft->length; from++) {
+        size_t common = draft->length - from < size ? draft->length - from : size;
+        if (memcmp(draft->slice + from, octets, common) == 0)
+            break;
+    }
+    return from;
+}
+
+/* Lays the leaves of the source out in the slice anew, in any order: with gaps, or overlapping as far as they can. */
+static void lay_out(Draft *draft, bool overlapping)
+{
+    static size_t order[DRAFT_NUMBERS / WIDTH];
+    const Source *source = &sources[present];
+    for (size_t i = 0; i < rows(draft); i++) {
+        size_t other = below(i + 1);
+        order[i] = order[other];
+        order[other] = i;
+    }
+    draft->length = 0;
+    for (size_t i = 0; i < rows(draft); i++) {
+        size_t *numbers = row(draft, order[i]);
+        if (container(numbers[KIND]))
+            continue;
+        const uint8_t *octets = source->bytes + numbers[FIRST];
+        if (!overlapping && source->length < 3000)
+            garbage(draft, below(4));
+        size_t at = overlapping ? found(draft, octets, numbers[WHOLE]) : draft->length;
+        size_t common = draft->length - at < numbers[WHOLE] ? draft->length - at : numbers[WHOLE];
+        keep(draft, octets + common, numbers[WHOLE] - common);
+        numbers[FIRST] = at;
+    }
+}
+
+static size_t far_off(void)
+{
+    static const size_t numbers[] = {0, 1, 255, 256, 65535, 65536, 0x7FFFFFFF, 0xFFFFFFFF, 0x100000000, 0x7FFFFFFFFFFFFFFF, 0x8000000000000000,
+        SIZE_MAX - 1, SIZE_MAX};
+    return numbers[below(sizeof numbers / sizeof *numbers)];
+}
+
+/* -- Drafts that describe the batch they were made from -- */
+
+static void as_it_is(Draft *draft)
+{
+    (void)draft;
+}
+
+static void scattered(Draft *draft)
+{
+    lay_out(draft, false);
+}
+
+static void overlapping(Draft *draft)
+{
+    lay_out(draft, true);
+}
+
+/* "containers' place and length are ignored" */
+static void containers_anyhow(Draft *draft)
+{
+    for (size_t i = 0; i < rows(draft); i++)
+        if (container(row(draft, i)[KIND])) {
+            row(draft, i)[FIRST] = far_off();
+            row(draft, i)[WHOLE] = far_off();
+        }
+}
+
+/* The batch's bytes stand further back in a longer slice. */
+static void further_back(Draft *draft)
+{
+    size_t by = chance(8) ? 66000 : below(300);
+    memmove(draft->slice + by, draft->slice, draft->length);
+    memset(draft->slice, 0x30, by);
+    draft->length += by;
+    garbage(draft, below(8));
+    for (size_t i = 0; i < rows(draft); i++)
+        row(draft, i)[FIRST] += by;
+}
+
+/* -- Rows put together anew, with their parents -- */
+
+static void subtree_dropped(Draft *draft)
+{
+    size_t i = some_row(draft), end = behind(draft, i);
+    move_parents(draft, end, rows(draft), end, i - end);
+    remove_rows(draft, i, end - i);
+}
+
+static void subtree_doubled(Draft *draft)
+{
+    size_t i = some_row(draft), end = behind(draft, i);
+    if (rows(draft) > 30000)
+        return;
+    move_parents(draft, end, rows(draft), end, end - i);
+    insert_rows(draft, end, row(draft, i), end - i);
+    move_parents(draft, end + 1, 2 * end - i, i, end - i);
+}
+
+/* A subtree and the next one change places. */
+static void subtrees_swapped(Draft *draft)
+{
+    static size_t kept[DRAFT_NUMBERS];
+    size_t i = some_row(draft), middle = behind(draft, i), end;
+    if (middle == rows(draft) || row(draft, middle)[PARENT] != row(draft, i)[PARENT])
+        return;
+    end = behind(draft, middle);
+    move_parents(draft, i + 1, middle, i, end - middle);
+    move_parents(draft, middle + 1, end, middle, i - middle);
+    memcpy(kept, row(draft, i), (middle - i) * WIDTH * sizeof(size_t));
+    remove_rows(draft, i, middle - i);
+    insert_rows(draft, i + end - middle, kept, middle - i);
+}
+
+/* A subtree is replaced by one of the source before, of the same kind where it looks. */
+static void subtree_replaced(Draft *draft)
+{
+    Source *other = &sources[1 - present];
+    size_t i = some_row(draft), end = behind(draft, i), from = 0, to;
+    if (other->count < 2 || other->length + draft->length > SLICE_ROOM || other->count + rows(draft) > 30000)
+        return;
+    for (int tries = 0; tries < 50 && (from == 0 || other->numbers[WIDTH * from] != row(draft, i)[KIND]); tries++)
+        from = 1 + below(other->count - 1);
+    for (to = from + 1; to < other->count && other->numbers[WIDTH * to + PARENT] >= from;)
+        to++;
+    size_t parent = row(draft, i)[PARENT], by = keep(draft, other->bytes, other->length);
+    move_parents(draft, end, rows(draft), end, to - from + i - end);
+    remove_rows(draft, i, end - i);
+    insert_rows(draft, i, other->numbers + WIDTH * from, to - from);
+    row(draft, i)[PARENT] = parent;
+    move_parents(draft, i + 1, i + to - from, 0, i - from);
+    for (size_t k = i; k < i + to - from; k++)
+        row(draft, k)[FIRST] += by;
+}
+
+/* -- Rows spoiled -- */
+
+/* Another value for a number of a row. */
+static size_t changed(Draft *draft, size_t i, size_t field, size_t way)
+{
+    size_t was = row(draft, i)[field], whole = row(draft, i)[WHOLE];
+    size_t values[] = {was + 1, was - 1, 0, SIZE_MAX, 0 - was, SIZE_MAX - was, was + 0x100000000, was + 256, was ^ 0x8000000000000000,
+        draft->length, draft->length - whole + 1, 0 - whole, rows(draft), i, any_kind(), some_row(draft)};
+    return values[way % (sizeof values / sizeof *values)];
+}
+
+enum { WAYS = 16 };
+
+static void number_changed(Draft *draft)
+{
+    size_t i = chance(4) ? 0 : some_row(draft), field = below(WIDTH);
+    row(draft, i)[field] = changed(draft, i, field, below(WAYS));
+}
+
+/* Each number of each row in turn, in each way, over one source after another. */
+static void number_in_turn(Draft *draft)
+{
+    static Source source;
+    static size_t turn;
+    if (turn == source.count * WIDTH * WAYS) {
+        if (rows(draft) > 30)
+            return;
+        source = sources[present];
+        turn = 0;
+    }
+    draft->count = WIDTH * source.count;
+    memcpy(draft->numbers, source.numbers, draft->count * sizeof(size_t));
+    draft->length = 0;
+    keep(draft, source.bytes, source.length);
+    size_t i = turn / WAYS / WIDTH, field = turn / WAYS % WIDTH;
+    row(draft, i)[field] = changed(draft, i, field, turn % WAYS);
+    turn++;
+}
+
+static void row_swapped(Draft *draft)
+{
+    size_t i = below(rows(draft)), j = chance(2) && i + 1 < rows(draft) ? i + 1 : below(rows(draft)), kept[WIDTH];
+    memcpy(kept, row(draft, i), sizeof kept);
+    memcpy(row(draft, i), row(draft, j), sizeof kept);
+    memcpy(row(draft, j), kept, sizeof kept);
+}
+
+static void row_dropped(Draft *draft)
+{
+    remove_rows(draft, below(rows(draft)), 1);
+}
+
+static void row_doubled(Draft *draft)
+{
+    size_t i = below(rows(draft));
+    insert_rows(draft, chance(2) ? i : below(rows(draft)), row(draft, i), 1);
+}
+
+/* A kind near the one that it was: of the same place, or of the other edition, or a neighbour. */
+static void kind_changed(Draft *draft)
+{
+    static const uint8_t near[][8] = {{72, 73, 71}, {31, 41, 42, 43, 44, 45, 46}, {60, 61, 62, 63, 64}, {10, 11, 17, 18}, {13, 15}, {20, 21},
+        {52, 53, 51}, {71, 74}, {12, 16, 55}, {1, 2, 3, 5, 30, 70, 74}, {14, 19, 51, 52, 53}, {4, 56, 50}};
+    size_t *kind = &row(draft, some_row(draft))[KIND], was = *kind, group = below(sizeof near / sizeof *near);
+    for (size_t g = 0; g < sizeof near / sizeof *near; g++)
+        if (was < 256 && memchr(near[g], (int)was, sizeof near[g]))
+            group = g;
+    for (int tries = 0; tries < 20 && (*kind == was || *kind == 0); tries++)
+        *kind = near[group][below(sizeof near[group])];
+}
+
+static void parent_changed(Draft *draft)
+{
+    size_t i = some_row(draft);
+    row(draft, i)[PARENT] = chance(4) ? i + below(3) : below(i + 1);
+}
+
+/* A leaf whose next row is a leaf that stands right behind it; 0 where it finds none. */
+static size_t neighbours(Draft *draft)
+{
+    for (int tries = 0; tries < 50; tries++) {
+        size_t i = some_leaf(draft), j = i + 1;
+        if (j < rows(draft) && !container(row(draft, j)[KIND]) && row(draft, i)[FIRST] + row(draft, i)[WHOLE] == row(draft, j)[FIRST])
+            return i;
+    }
+    return 0;
+}
+
+/* Two neighbours part in another place: the batch would be the same, and its rows others. */
+static void parted_elsewhere(Draft *draft)
+{
+    size_t i = neighbours(draft), *first = row(draft, i), *second = row(draft, i + 1);
+    if (i == 0) {
+        row(draft, some_leaf(draft))[WHOLE]++;
+        return;
+    }
+    size_t by = chance(2) ? 1 + below(second[WHOLE] - 1) : 0 - (1 + below(first[WHOLE] - 1));
+    first[WHOLE] += by;
+    second[FIRST] += by;
+    second[WHOLE] -= by;
+}
+
+/* Two neighbours are one row. */
+static void two_in_a_leaf(Draft *draft)
+{
+    size_t i = neighbours(draft), j = i + 1;
+    if (i == 0) {
+        row(draft, some_leaf(draft))[WHOLE] *= 2;
+        return;
+    }
+    row(draft, i)[WHOLE] += row(draft, j)[WHOLE];
+    move_parents(draft, j + 1, rows(draft), j, SIZE_MAX);
+    remove_rows(draft, j, 1);
+}
+
+static void leaf_in_two(Draft *draft)
+{
+    size_t i = some_leaf(draft);
+    size_t *numbers = row(draft, i), size = below(numbers[WHOLE] + 1);
+    size_t second[WIDTH] = {numbers[KIND], numbers[FIRST] + size, numbers[WHOLE] - size, numbers[PARENT]};
+    numbers[WHOLE] = size;
+    move_parents(draft, i + 1, rows(draft), i + 1, 1);
+    insert_rows(draft, i + 1, second, 1);
+}
+
+/* A leaf of no octets, beside the others or instead of one. */
+static void empty_leaf(Draft *draft)
+{
+    size_t i = some_leaf(draft);
+    if (chance(2)) {
+        row(draft, i)[WHOLE] = 0;
+        return;
+    }
+    size_t numbers[WIDTH] = {any_kind(), below(draft->length + 1), 0, row(draft, i)[PARENT]};
+    while (container(numbers[KIND]))
+        numbers[KIND] = any_kind();
+    move_parents(draft, i + 1, rows(draft), i + 1, 1);
+    insert_rows(draft, i + 1, numbers, 1);
+}
+
+/* A container with what is below it becomes a leaf, of its own kind or of another; or a leaf becomes a container. */
+static void other_nature(Draft *draft)
+{
+    static const uint8_t containers[] = {1, 2, 3, 5, 14, 19, 30, 51, 52, 53, 70, 74};
+    size_t i = some_row(draft), end = behind(draft, i);
+    if (!container(row(draft, i)[KIND])) {
+        row(draft, i)[KIND] = containers[below(sizeof containers)];
+        return;
+    }
+    while (container(row(draft, i)[KIND]))
+        row(draft, i)[KIND] = any_kind();
+    move_parents(draft, end, rows(draft), end, i + 1 - end);
+    remove_rows(draft, i + 1, end - i - 1);
+}
+
+/* -- Slices spoiled -- */
+
+static void octet_changed(Draft *draft)
+{
+    size_t *numbers = row(draft, some_leaf(draft));
+    uint8_t *octet = draft->slice + numbers[FIRST] + below(chance(2) ? numbers[WHOLE] : 2);
+    *octet = (uint8_t)(chance(2) ? *octet ^ 1u << below(8) : below(256));
+}
+
+/* A certReqId of 8 content octets or more. */
+static void longer_id(Draft *draft)
+{
+    static const uint8_t id[] = {0x02, 0x00, 0x01, 0x80, 0x02, 0x03, 0xFF, 0x04, 0x00, 0x05, 0x80, 0x06};
+    for (size_t i = below(rows(draft)); i < rows(draft); i++)
+        if (row(draft, i)[KIND] == 4) {
+            size_t octets = 8 + below(3);
+            row(draft, i)[FIRST] = keep(draft, id, 2 + octets);
+            row(draft, i)[WHOLE] = 2 + octets;
+            draft->slice[row(draft, i)[FIRST] + 1] = (uint8_t)octets;
+            return;
+        }
+}
+
+/* The slice ends where its last leaf does, one before or somewhere. */
+static void slice_cut(Draft *draft)
+{
+    size_t last = 0;
+    for (size_t i = 0; i < rows(draft); i++) {
+        size_t end = row(draft, i)[FIRST] + row(draft, i)[WHOLE];
+        if (!container(row(draft, i)[KIND]) && end > last)
+            last = end;
+    }
+    draft->length = chance(3) ? last : chance(2) ? last - 1 : below(last);
+}
+
+/* A leaf's place and length have a sum that wraps to what would lie in the slice. */
+static void wrapping(Draft *draft)
+{
+    size_t *numbers = row(draft, some_leaf(draft));
+    if (chance(2))
+        numbers[FIRST] = 0 - (1 + below(numbers[WHOLE]));
+    else
+        numbers[WHOLE] = 0 - (1 + below(numbers[FIRST]));
+    if (chance(4))
+        numbers[FIRST] = numbers[WHOLE] = 0x8000000000000000;
+}
+
+/* -- Drafts that are no rows -- */
+
+static void ragged(Draft *draft)
+{
+    if (chance(2))
+        draft->count -= 1 + below(WIDTH - 1);
+    else
+        for (size_t more = 1 + below(WIDTH - 1); more > 0; more--)
+            draft->numbers[draft->count++] = far_off();
+}
+
+static void none(Draft *draft)
+{
+    draft->count = 0;
+    if (chance(2))
+        draft->length = 0;
+}
+
+/* -- Drafts at the lines that document 01 draws -- */
+
+/* A batch of one message with the least certReq, whose certReq is not closed yet. */
+static void open_request(Draft *draft)
+{
+    draft->count = draft->length = 0;
+    add_row(draft, 1, 0, 0, 0);
+    add_row(draft, 2, 0, 0, 0);
+    add_row(draft, 3, 0, 0, 1);
+    add_row(draft, 4, keep(draft, "\x02\x01\x00", 3), 3, 2);
+    add_row(draft, 5, 0, 0, 2);
+}
+
+/* Rows that mean nothing, by themselves or behind those of a batch. */
+static void any_rows(Draft *draft)
+{
+    draft->count = 0;
+    if (chance(2))
+        open_request(draft);
+    for (size_t left_over = below(chance(10) ? 2000 : 6); left_over > 0; left_over--) {
+        size_t i = rows(draft), whole = below(8), first = below(draft->length + 1);
+        add_row(draft, i == 0 && !chance(4) ? 1 : any_kind(), first, whole, i == 0 ? chance(20) : below(i + chance(10)));
+    }
+}
+
+/* Puts a regToken of so many octets, 300 or more, into the slice. */
+static size_t token(Draft *draft, size_t size)
+{
+    uint8_t header[] = {0x30, 0x82, (uint8_t)((size - 4) >> 8), (uint8_t)(size - 4), 0x06, 0x09, 0x2B, 0x06, 0x01, 0x05, 0x05, 0x07, 0x05,
+        0x01, 0x01, 0x0C, 0x82, (uint8_t)((size - 19) >> 8), (uint8_t)(size - 19)};
+    size_t at = keep(draft, header, sizeof header);
+    for (size_t i = sizeof header; i < size; i++)
+        keep(draft, "A", 1);
+    return at;
+}
+
+/* Controls that are all the same leaf, and a last one, so that the batch has a size near the longest or far past it. */
+static void long_batch(Draft *draft)
+{
+    static const size_t sizes[] = {65534, 65535, 65535, 65536, 65537, 65536 + 300, 65536 + 40000, 131071, 131072 + 500, 1 << 24};
+    size_t target = sizes[below(sizeof sizes / sizeof *sizes)] - 21, each = 2000 + below(20000), times = target / each - 1;
+    open_request(draft);
+    add_row(draft, 30, 0, 0, 2);
+    size_t same = token(draft, each);
+    for (size_t i = 0; i < times; i++)
+        add_row(draft, 41, same, each, 5);
+    size_t last = target - times * each;
+    add_row(draft, 41, token(draft, last), last, 5);
+}
+
+/* A free value so deep that the batch has a depth near 20. */
+static void deep_leaf(Draft *draft)
+{
+    size_t levels = 13 + below(6);
+    uint8_t item[64] = {0x30, (uint8_t)(3 + 2 * levels), 0x06, 0x01, 0x2A};
+    for (size_t i = 0; i < levels; i++) {
+        item[5 + 2 * i] = chance(2) ? 0x30 : 0xA0;
+        item[6 + 2 * i] = (uint8_t)(2 * (levels - 1 - i));
+    }
+    open_request(draft);
+    add_row(draft, 70, 0, 0, 1);
+    add_row(draft, 71, keep(draft, item, 5 + 2 * levels), 5 + 2 * levels, 5);
+}
+
+/* Containers inside each other. */
+static void deep_containers(Draft *draft)
+{
+    static const uint8_t kinds[] = {2, 3, 5, 14, 19, 30, 70, 74};
+    size_t depth = chance(4) ? 30000 : 10 + below(30);
+    draft->count = 0;
+    add_row(draft, 1, 0, 0, 0);
+    for (size_t i = 1; i < depth; i++)
+        add_row(draft, kinds[below(sizeof kinds)], 0, 0, i - 1);
+}
+
+/* As many rows as a batch can have, and more: the least messages with raVerified, over a slice of 5 bytes. */
+static void many_rows(Draft *draft)
+{
+    static const size_t counts[] = {255, 256, 257, 5957, 5958, 6553, 6554, 7999};
+    size_t count = counts[below(sizeof counts / sizeof *counts)];
+    draft->count = draft->length = 0;
+    keep(draft, "\x02\x01\x00\x80\x00", 5);
+    add_row(draft, 1, 0, 0, 0);
+    for (size_t i = 0; i < count; i++) {
+        add_row(draft, 2, 0, 0, 0);
+        add_row(draft, 3, 0, 0, 5 * i + 1);
+        add_row(draft, 4, 0, 3, 5 * i + 2);
+        add_row(draft, 5, 0, 0, 5 * i + 2);
+        add_row(draft, 50, 3, 2, 5 * i + 1);
+    }
+}
+
+/* Many leaves of no octets. */
+static void many_empty_leaves(Draft *draft)
+{
+    static const size_t counts[] = {10, 32761, 32762, 32763, 39990};
+    open_request(draft);
+    for (size_t count = counts[below(sizeof counts / sizeof *counts)]; count > 0; count--)
+        add_row(draft, 10, 0, 0, 4);
+}
+
+/* -- The row of drafts -- */
+
+const DraftSort draft_sorts[DRAFT_SORTS] = {
+    {"as it is", SAME_BATCH, 30, as_it_is},
+    {"leaves scattered over the slice", SAME_BATCH, 30, scattered},
+    {"leaves that overlap", SAME_BATCH, 30, overlapping},
+    {"containers with any place and length", SAME_BATCH, 30, containers_anyhow},
+    {"further back in the slice", SAME_BATCH, 30, further_back},
+    {"a subtree dropped", OPEN, 30, subtree_dropped},
+    {"a subtree doubled", OPEN, 30, subtree_doubled},
+    {"subtrees swapped", OPEN, 30, subtrees_swapped},
+    {"a subtree replaced", OPEN, 30, subtree_replaced},
+    {"a number changed", OPEN, 60, number_changed},
+    {"each number in turn", OPEN, 60, number_in_turn},
+    {"rows swapped", OPEN, 30, row_swapped},
+    {"a row dropped", OPEN, 30, row_dropped},
+    {"a row doubled", OPEN, 30, row_doubled},
+    {"another kind", OPEN, 60, kind_changed},
+    {"another parent", OPEN, 30, parent_changed},
+    {"leaves parted elsewhere", NO_BATCH, 30, parted_elsewhere},
+    {"two elements in a leaf", NO_BATCH, 30, two_in_a_leaf},
+    {"a leaf in two rows", NO_BATCH, 30, leaf_in_two},
+    {"an empty leaf", NO_BATCH, 30, empty_leaf},
+    {"a container as a leaf, or the reverse", NO_BATCH, 30, other_nature},
+    {"another octet in a leaf", OPEN, 60, octet_changed},
+    {"a certReqId of 8 to 10 octets", OPEN, 15, longer_id},
+    {"the slice cut", OPEN, 30, slice_cut},
+    {"place and length wrap", NO_BATCH, 30, wrapping},
+    {"no multiple of four numbers", NO_BATCH, 15, ragged},
+    {"no numbers", NO_BATCH, 2, none},
+    {"any rows", OPEN, 30, any_rows},
+    {"near or past the longest", OPEN, 4, long_batch},
+    {"a leaf near or past the deepest", OPEN, 8, deep_leaf},
+    {"containers too deep", NO_BATCH, 3, deep_containers},
+    {"many rows", OPEN, 2, many_rows},
+    {"many empty leaves", NO_BATCH, 2, many_empty_leaves},
+};
+
+static size_t some_sort(void)
+{
+    size_t total = 0, sort = 0;
+    for (size_t i = 0; i < DRAFT_SORTS; i++)
+        total += draft_sorts[i].share;
+    for (size_t at = below(total); at >= draft_sorts[sort].share; sort++)
+        at -= draft_sorts[sort].share;
+    return sort;
+}
+
+void drafts_next(Draft *draft)
+{
+    if (left == 0)
+        next_source();
+    left--;
+    const Source *source = &sources[present];
+    draft->sort = some_sort();
+    draft->edition = source->edition;
+    draft->batch = source->bytes;
+    draft->batch_length = source->length;
+    draft->count = WIDTH * source->count;
+    memcpy(draft->numbers, source->numbers, draft->count * sizeof(size_t));
+    draft->length = 0;
+    keep(draft, source->bytes, source->length);
+    draft_sorts[draft->sort].make(draft);
+}

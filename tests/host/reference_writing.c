@@ -1,0 +1,136 @@
+/* The writing of a draft by document 01: the one batch that can have a draft's rows is built by recursion over the rows, each with those
+ * that name it as their parent; then it is read, and what its own rows show is held against the draft. */
+#include "reference.h"
+
+#include <stdbool.h>
+#include <string.h>
+
+enum { LONGEST = 65535, DEEPEST = 20, WIDTH = 4, MOST_ROWS = LONGEST / 2 + 1 };
+enum { KIND, FIRST, WHOLE, PARENT };
+#define NOTHING SIZE_MAX /* in the place of a row's number: no batch can be built */
+
+typedef struct {
+    const size_t *numbers;
+    size_t count; /* of rows */
+    const uint8_t *slice;
+    size_t slice_length;
+    uint8_t batch[LONGEST];
+    size_t length; /* of the batch so far */
+} Draft;
+
+static const size_t *row(const Draft *draft, size_t i)
+{
+    return draft->numbers + WIDTH * i;
+}
+
+/* The identifier of a kind of container; 0 for a leaf's. */
+static uint8_t identifier(size_t kind)
+{
+    switch (kind) {
+    case 1: case 2: case 3: case 5: case 30: case 70: case 74: return 0x30;
+    case 14: return 0xA4;
+    case 19: return 0xA9;
+    case 51: return 0xA1;
+    case 52: return 0xA2;
+    case 53: return 0xA3;
+    default: return 0;
+    }
+}
+
+static bool append(Draft *draft, const uint8_t *octets, size_t size)
+{
+    if (LONGEST - draft->length < size)
+        return false;
+    memcpy(draft->batch + draft->length, octets, size);
+    draft->length += size;
+    return true;
+}
+
+/* Puts an identifier and a shortest length before what has been appended since the batch had so many octets. */
+static bool enclose(Draft *draft, size_t start, uint8_t id)
+{
+    size_t size = draft->length - start, used = 0;
+    uint8_t header[4];
+    header[used++] = id;
+    if (size > 0xFF)
+        header[used++] = 0x82;
+    else if (size > 0x7F)
+        header[used++] = 0x81;
+    if (size > 0xFF)
+        header[used++] = (uint8_t)(size >> 8);
+    header[used++] = (uint8_t)size;
+    if (LONGEST - draft->length < used)
+        return false;
+    memmove(draft->batch + start + used, draft->batch + start, size);
+    memcpy(draft->batch + start, header, used);
+    draft->length += used;
+    return true;
+}
+
+/* Appends the octets of a row and of the rows below it; answers the number of the first row behind them, or NOTHING. */
+static size_t build(Draft *draft, size_t i, int depth)
+{
+    static const uint8_t carried_type[] = {0x06, 0x09, 0x2B, 0x06, 0x01, 0x05, 0x05, 0x07, 0x05, 0x02, 0x02};
+    size_t kind = row(draft, i)[KIND], first = row(draft, i)[FIRST], whole = row(draft, i)[WHOLE];
+    size_t start = draft->length, next = i + 1;
+    if (identifier(kind) == 0) {
+        bool within = first <= draft->slice_length && whole <= draft->slice_length - first;
+        return within && append(draft, draft->slice + first, whole) ? next : NOTHING;
+    }
+    if (depth > DEEPEST || (kind == 74 && !append(draft, carried_type, sizeof carried_type)))
+        return NOTHING;
+    while (next < draft->count && row(draft, next)[PARENT] == i)
+        next = build(draft, next, depth + 1);
+    return next != NOTHING && enclose(draft, start, identifier(kind)) ? next : NOTHING;
+}
+
+/* Whether the batch's own row shows what the draft's row does. */
+static bool alike(const Draft *draft, const size_t *ours, const size_t *theirs)
+{
+    if (ours[KIND] != theirs[KIND] || ours[PARENT] != theirs[PARENT])
+        return false;
+    if (identifier(ours[KIND]) != 0)
+        return reference_fault != CONTAINERS_MEASURED || ours[WHOLE] == theirs[WHOLE];
+    if (reference_fault == LEAVES_UNCOMPARED)
+        return true;
+    return ours[WHOLE] == theirs[WHOLE] && memcmp(draft->slice + ours[FIRST], draft->batch + theirs[FIRST], ours[WHOLE]) == 0;
+}
+
+/* Whether the draft describes an acceptable batch, which is then built. */
+static bool describes(Draft *draft, size_t edition, size_t numbers)
+{
+    static size_t table[WIDTH * MOST_ROWS];
+    if (numbers == 0 || numbers % WIDTH != 0 || build(draft, 0, 1) != draft->count)
+        return false;
+    reference_answer shown = reference_read(edition, draft->batch, draft->length, table, WIDTH * MOST_ROWS);
+    if (shown.number != 0 || shown.count != draft->count)
+        return false;
+    for (size_t i = 0; i < shown.count; i++)
+        if (!alike(draft, row(draft, i), table + WIDTH * i))
+            return false;
+    return true;
+}
+
+static reference_answer refused(size_t number)
+{
+    return (reference_answer){number, 0, 0};
+}
+
+reference_answer reference_write(size_t edition, const size_t *numbers, size_t count, const uint8_t *slice, size_t length, uint8_t *output,
+    size_t room)
+{
+    static Draft draft;
+    draft.numbers = numbers;
+    draft.count = count / WIDTH;
+    draft.slice = slice;
+    draft.slice_length = length;
+    draft.length = 0;
+    if (edition != 1 && edition != 2)
+        return refused(13);
+    if (!describes(&draft, edition, count))
+        return refused(12);
+    bool fits = draft.length <= room;
+    if (fits || reference_fault == SHORT_OUTPUT_FILLED)
+        memcpy(output, draft.batch, fits ? draft.length : room);
+    return fits ? (reference_answer){0, 0, draft.length} : refused(11);
+}

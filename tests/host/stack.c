@@ -1,0 +1,104 @@
+/* How many bytes of stack the archive's calls take, in a line: `OTHERS WRITING SEARCHING`, the most of phagundro_write, of
+ * phagundro_duplicates, and before them of each other call.
+ *
+ *     stack COUNT SEED FILE...
+ *
+ * Takes so many of the comparison's inputs, the first of which are the files and the longest, deepest and most numerous. Each call runs in a
+ * thread whose stack is marked beforehand: it took what isn't marked any more. The rows of each accepted input are written over it. */
+#define _DEFAULT_SOURCE
+#include "../../include/phagundro.h"
+#include "inputs.h"
+
+#include <pthread.h>
+#include <stdio.h>
+#include <stdlib.h>
+#include <string.h>
+#include <sys/mman.h>
+
+enum { STACK = 1 << 21, MARK = 0xA5, NUMBERS = 4 * 33000 };
+
+static uint8_t input[INPUT_ROOM], output[INPUT_ROOM];
+static size_t length, edition, rows, table[NUMBERS];
+static uint8_t *stack;
+
+static void *nothing(void *unused)
+{
+    return unused;
+}
+
+static void *accept_it(void *unused)
+{
+    phagundro_accept(edition, input, length);
+    return unused;
+}
+
+static void *read_it(void *unused)
+{
+    rows = phagundro_read(edition, input, length, table, NUMBERS).count;
+    return unused;
+}
+
+static void *write_it(void *unused)
+{
+    phagundro_write(edition, table, 4 * rows, input, length, output, sizeof output);
+    return unused;
+}
+
+static void *judge_it(void *unused)
+{
+    phagundro_verdict(edition, input, length, 0);
+    phagundro_verdict_number(edition, input, length, 0);
+    return unused;
+}
+
+static void *search_it(void *unused)
+{
+    phagundro_duplicates(edition, input, length);
+    return unused;
+}
+
+/* The bytes of stack that a thread takes. */
+static size_t taken(void *(*run)(void *))
+{
+    pthread_attr_t attributes;
+    pthread_t thread;
+    memset(stack, MARK, STACK);
+    pthread_attr_init(&attributes);
+    pthread_attr_setstack(&attributes, stack, STACK);
+    if (pthread_create(&thread, &attributes, run, NULL) != 0)
+        exit(2);
+    pthread_join(thread, NULL);
+    size_t left = 0;
+    while (left < STACK && stack[left] == MARK)
+        left++;
+    return STACK - left;
+}
+
+static void keep_most(size_t *most, size_t bytes)
+{
+    *most = bytes > *most ? bytes : *most;
+}
+
+int main(int count, char **words)
+{
+    size_t others = 0, writing = 0, searching = 0;
+    if (count < 3 || !inputs_start(strtoull(words[2], NULL, 10), count - 3, words + 3))
+        return 2;
+    stack = mmap(NULL, STACK, PROT_READ | PROT_WRITE, MAP_PRIVATE | MAP_ANONYMOUS, -1, 0);
+    if (stack == MAP_FAILED)
+        return 2;
+    for (size_t left = strtoull(words[1], NULL, 10); left > 0; left--) {
+        length = inputs_next(input);
+        for (edition = 1; edition <= 2; edition++) {
+            keep_most(&others, taken(accept_it));
+            keep_most(&others, taken(read_it));
+            keep_most(&others, taken(judge_it));
+            keep_most(&searching, taken(search_it));
+            if (rows > 0)
+                keep_most(&writing, taken(write_it));
+        }
+    }
+    size_t thread = taken(nothing); /* takes some itself */
+    printf("%zu %zu %zu\n", others - thread, writing - thread, searching - thread);
+    return 0;
+}

@@ -1,0 +1,167 @@
+"""The stored files of the program writer_cases: the drafts of the table writer_cases.txt, and batches that are read and written again; and
+the table held against the model of writing."""
+
+import functools
+import pathlib
+import re
+import zlib
+
+import cases
+import corpus
+import crmf_cases
+import crmf_rows
+import editions_cases
+import grammar_model
+import writer_model
+
+TABLE = pathlib.Path(__file__).with_name("writer_cases.txt")
+NUMBERS = 120000  # numbers of the longest draft that the program reads
+OUTPUT = 70000  # octets of its output
+FIELDS = ("kind", "first", "whole", "parent")
+
+ANSWER = r"1[123]|0 \d+(?:: [^/]*[^/ ])?"
+CASE = re.compile(
+    rf"(?:(?P<edition>\d+)?(?:/(?P<room>\d+))?:)? *(?P<octets>[^;]*?); *(?P<draft>.*?) *-> (?P<one>{ANSWER})(?: / (?P<two>{ANSWER}))?"
+)
+
+
+class Case:
+    """A line of the table: the slice, the draft over it, and the answer of each edition."""
+
+    def __init__(self, match):
+        self.line = match[0]
+        self.heading = (match["edition"] or "") + ("/" + match["room"] if match["room"] else "")
+        self.room = int(match["room"] or OUTPUT)
+        self.octets, self.written = crmf_cases.built(match["octets"], names())
+        self.numbers = drafted(match["draft"], self.octets)
+        self.answers = {1: match["one"], 2: match["two"] or match["one"]}
+        if match["edition"]:
+            self.answers = {int(match["edition"]): match["one"]}
+
+    def expected(self, edition):
+        """The number and the batch, as the table has them."""
+        number, length, batch = re.fullmatch(r"(\d+)(?: (\d+))?(?:: (.*))?", self.answers[edition]).groups()
+        octets = b"" if number != "0" else crmf_cases.built(batch, names())[0] if batch else self.octets
+        if len(octets) != int(length or 0):
+            raise ValueError(f"the batch has {len(octets)} octets: {self.line}")
+        return int(number), octets
+
+
+@functools.cache
+def lines():
+    return [line.partition("#")[0].strip() for line in TABLE.read_text().splitlines()]
+
+
+@functools.cache
+def names():
+    """The names of octets with what they stand for."""
+    own = {name[1]: name[2] for name in map(crmf_cases.NAME.fullmatch, lines()) if name}
+    return {**editions_cases.table()[0], **own}
+
+
+def shown(octets):
+    """The rows that octets show as a batch, by the model of the grammar."""
+    for edition in (1, 2):
+        number, _, rows = grammar_model.read(edition, octets)
+        if number == 0:
+            return rows
+    raise ValueError(f"no batch: {octets[:60].hex()}")
+
+
+def changed(numbers, change):
+    """Numbers with one of the table's changes."""
+    rows = [numbers[i:i + 4] for i in range(0, len(numbers), 4)]
+    words = change.split()
+    if words[0] == "and":
+        return numbers + list(map(int, words[1:]))
+    if words[0] == "without":
+        del rows[int(words[1])]
+    elif words[1] == "numbers":
+        return numbers[:int(words[0])]
+    elif words[1] == "twice":
+        rows.insert(int(words[0]), rows[int(words[0])])
+    elif words[3:] == ["swapped"]:
+        one, two = int(words[0]), int(words[2])
+        rows[one], rows[two] = rows[two], rows[one]
+    else:
+        row = list(rows[int(words[0])])
+        row[FIELDS.index(words[1])] = int(words[2])
+        rows[int(words[0])] = row
+    return [number for row in rows for number in row]
+
+
+def drafted(draft, octets):
+    """The numbers of a draft as the table writes it."""
+    head, *changes = draft.split(",")
+    if head != "rows":
+        return list(map(int, draft.split()))
+    return functools.reduce(changed, changes, [number for row in shown(octets) for number in row])
+
+
+@functools.cache
+def table():
+    """The cases."""
+    found = []
+    for number, line in enumerate(lines(), 1):
+        case = CASE.fullmatch(line)
+        if case:
+            found.append(Case(case))
+        elif line and not crmf_cases.NAME.fullmatch(line):
+            raise ValueError(f"{TABLE.name}:{number}: neither a case nor a name: {line}")
+    return found
+
+
+def printed(number, batch):
+    """An answer as the program prints it: of a batch its length and its Adler-32 sum."""
+    return f"{number}@0" if number else f"0 {len(batch)} {zlib.adler32(batch)}"
+
+
+@functools.cache
+def again():
+    """What is read and written again: octets, as the program reads them, and the answers of reading, which are expected elsewhere."""
+    found = []
+    for case in editions_cases.table()[1]:
+        answers = [answer.partition(",")[0] for answer in case.answers.values()]
+        if any(answer.startswith("0 ") for answer in answers) and len(answers) == 2 and not case.heading:
+            found.append((*case.built(), answers))
+    for _, batch, said in crmf_rows.table():
+        octets, written = crmf_cases.built(batch)
+        if said[:1] not in ([], ["-"], ["too short, the table unchanged"]) and len(said) <= editions_cases.SHOWN:
+            found.append((octets, written, [editions_cases.modelled(edition, octets, NUMBERS)[0] for edition in (1, 2)]))
+    for name in sorted({name for name, _ in corpus.expected()}):
+        octets = corpus.octets(name)
+        answers = [corpus.expected()[name, edition] for edition in (1, 2)]
+        found.append((octets, octets.hex().upper(), [f"{number}@{place}" if number else f"0 {count}" for number, place, count in answers]))
+    return found
+
+
+def files():
+    """What the crate's folder has to hold."""
+    found = []
+    for case in table():
+        draft = "".join(f";{number}" for number in case.numbers)
+        answers = [printed(*case.expected(edition)) for edition in case.answers]
+        found.append((case.octets, f"{case.heading}={draft}:{case.written}", "\n".join(answers)))
+    for octets, written, answers in again():
+        said = [printed(0, octets) if answer.startswith("0 ") else answer for answer in answers]
+        found.append((octets, ":" + written, "\n".join(said)))
+    return cases.files(found, None)
+
+
+def disagreements():
+    """The cases at which the model answers something else than the table; batches that it doesn't write again; kinds that aren't written."""
+    found, kinds = [], set()
+    for case in table():
+        for edition in case.answers:
+            number, batch = writer_model.write(edition, case.numbers, case.octets, case.room)
+            if (number, batch) != case.expected(edition):
+                found.append(f"{case.line[:200]}, edition {edition}: the model has {number} with {len(batch)} octets")
+    for octets, written, answers in again():
+        for edition, answer in enumerate(answers, 1):
+            if answer.startswith("0 "):
+                numbers = [number for row in grammar_model.read(edition, octets)[2] for number in row]
+                kinds |= {(edition, kind) for kind in numbers[::4]}
+                if writer_model.write(edition, numbers, octets, len(octets)) != (0, octets):
+                    found.append(f"{written[:100]}, edition {edition}: the model doesn't write it again")
+    should = {(edition, kind) for edition in (1, 2) for kind in crmf_rows.KINDS} - {(1, 63), (1, 64), (1, 73), (2, 72)}
+    return found + [f"nothing of kind {kind} is written again in edition {edition}" for edition, kind in sorted(should - kinds)]

@@ -1,0 +1,68 @@
+"""A model of writing, from the second paragraph of document 01's section "Rows", written from that document alone.
+
+At most one batch can have a draft's rows: a container's kind fixes its identifier, and its content is what the rows below it stand for.
+`write` puts that batch together, has it read by the model of the grammar, and holds what it shows against the draft.
+"""
+
+import grammar_model
+import nest_model
+
+CONTAINERS = {1: 0x30, 2: 0x30, 3: 0x30, 5: 0x30, 14: 0xA4, 19: 0xA9, 30: 0x30, 51: 0xA1, 52: 0xA2, 53: 0xA3, 70: 0x30, 74: 0x30}
+IMPLIED = {74: bytes([0x06, 9]) + grammar_model.INFO + b"\x02"}  # "its type is implied"
+
+
+def element(identifier, content):
+    """An element in DER: the length in the shortest form."""
+    size = len(content)
+    number = size.to_bytes((size.bit_length() + 7) // 8, "big")
+    return bytes([identifier]) + (bytes([size]) if size < 0x80 else bytes([0x80 + len(number)]) + number) + content
+
+
+def candidate(rows, octets):
+    """The only batch that can have these rows, put together from the last row to the first; None where there can be none."""
+    below = [[] for _ in rows]  # what stands below each row, the last first
+    for row in reversed(range(len(rows))):
+        kind, first, whole, parent = rows[row]
+        if kind in CONTAINERS:
+            own = element(CONTAINERS[kind], IMPLIED.get(kind, b"") + b"".join(reversed(below[row])))
+        elif first + whole <= len(octets):
+            own = octets[first:first + whole]
+        else:
+            return None  # "a leaf leaves the slice"
+        if len(own) > nest_model.LONGEST:
+            return None
+        if row == 0:
+            return own
+        if parent >= row:
+            return None
+        below[parent].append(own)
+    return None
+
+
+def shows(row, octets):
+    """What the rows of a batch and of its draft have to have in common; "containers' place and length are ignored"."""
+    kind, first, whole, parent = row
+    return (kind, parent) if kind in CONTAINERS else (kind, parent, whole, octets[first:first + whole])
+
+
+def describes(edition, numbers, octets):
+    """The batch that a draft describes in an edition, or None."""
+    if len(numbers) == 0 or len(numbers) % 4:
+        return None
+    rows = list(zip(*[iter(numbers)] * 4))
+    batch = candidate(rows, octets)
+    if batch is None:
+        return None
+    number, _, own = grammar_model.read(edition, batch)
+    alike = [shows(row, octets) for row in rows] == [shows(row, batch) for row in own]
+    return batch if number == 0 and alike else None
+
+
+def write(edition, numbers, octets, room):
+    """The writing of a draft over a slice of octets: the number, and the batch; a refusal has none."""
+    if edition not in (1, 2):
+        return 13, b""
+    batch = describes(edition, numbers, octets)
+    if batch is None:
+        return 12, b""
+    return (0, batch) if len(batch) <= room else (11, b"")
