@@ -14,20 +14,25 @@ NAME = re.compile(r"([a-z0-9]+(?:\{_\})?) = (.*)")
 ANSWER = re.compile(r"(.*\S) -> ((?:0 \d+|8@\d+ [1-4])(?: (?:-|D[123]@\d+)){2})")
 
 
-@functools.cache
-def table():
-    """The names with what they stand for, and the cases, as (batch as written, answer)."""
+def parsed(table, form, made):
+    """The names of a table with what they stand for, and its cases, each made of what the form of a case matches."""
     names, found = {}, []
-    for number, line in enumerate(TABLE.read_text().splitlines(), 1):
+    for number, line in enumerate(table.read_text().splitlines(), 1):
         line = line.partition("#")[0].strip()
-        case, name = ANSWER.fullmatch(line), NAME.fullmatch(line)
+        case, name = form.fullmatch(line), NAME.fullmatch(line)
         if case:
-            found.append((case[1], case[2]))
+            found.append(made(case))
         elif name:
             names[name[1]] = name[2]
         elif line:
-            raise ValueError(f"{TABLE.name}:{number}: neither a case nor a name: {line}")
+            raise ValueError(f"{table.name}:{number}: neither a case nor a name: {line}")
     return names, found
+
+
+@functools.cache
+def table():
+    """The names with what they stand for, and the cases, as (batch as written, answer)."""
+    return parsed(TABLE, ANSWER, lambda case: (case[1], case[2]))
 
 
 def element(identifier, content):

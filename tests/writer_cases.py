@@ -48,14 +48,9 @@ class Case:
 
 
 @functools.cache
-def lines():
-    return [line.partition("#")[0].strip() for line in TABLE.read_text().splitlines()]
-
-
-@functools.cache
 def names():
     """The names of octets with what they stand for."""
-    own = {name[1]: name[2] for name in map(crmf_cases.NAME.fullmatch, lines()) if name}
+    own, _ = crmf_cases.parsed(TABLE, CASE, lambda case: None)
     return {**editions_cases.table()[0], **own}
 
 
@@ -101,14 +96,7 @@ def drafted(draft, octets):
 @functools.cache
 def table():
     """The cases."""
-    found = []
-    for number, line in enumerate(lines(), 1):
-        case = CASE.fullmatch(line)
-        if case:
-            found.append(Case(case))
-        elif line and not crmf_cases.NAME.fullmatch(line):
-            raise ValueError(f"{TABLE.name}:{number}: neither a case nor a name: {line}")
-    return found
+    return crmf_cases.parsed(TABLE, CASE, Case)[1]
 
 
 def printed(number, batch):

@@ -9,6 +9,7 @@
  * Ends with 0 where all is equal and each answer and each kind of row occurred, with 1 at the first difference, which it shows with the
  * input in hex, with 2 where it couldn't run, with 3 where something never occurred. */
 #include "../../include/phagundro.h"
+#include "comparison.h"
 #include "inputs.h"
 #include "memory.h"
 #include "reference.h"
@@ -22,32 +23,17 @@ enum { TABLE = 4 * 33000, BESIDE = 64, WIDTH = 4, KINDS = 80, NUMBERS = 15 };
 
 /* -- What is being compared -- */
 
-static uint64_t seed = 1;
-static size_t number; /* of the input */
 static uint8_t input[INPUT_ROOM];
 static size_t length;
 
 static void show_input(void)
 {
-    printf("seed %llu, input %zu, %zu bytes:\n", (unsigned long long)seed, number, length);
-    for (size_t i = 0; i < length; i++)
-        printf("%02X", input[i]);
-    putchar('\n');
-    fflush(stdout);
+    comparison_show(input, length);
 }
 
 static void differs(const char *what, size_t edition, size_t room)
 {
-    printf("difference: %s; edition %zu, room %zu\n", what, edition, room);
-    show_input();
-    exit(1);
-}
-
-static void outside(int signal_number)
-{
-    printf("difference: the call ended with signal %d\n", signal_number);
-    show_input();
-    _Exit(1);
+    comparison_differs(what, edition, "room", room);
 }
 
 /* -- What occurred -- */
@@ -229,26 +215,9 @@ static int account(size_t inputs)
 
 int main(int count, char **words)
 {
-    size_t inputs = 100000;
-    int first = 1;
-    for (; first + 1 < count && strncmp(words[first], "--", 2) == 0; first += 2) {
-        unsigned long long value = strtoull(words[first + 1], NULL, 10);
-        if (strcmp(words[first], "--inputs") == 0)
-            inputs = value;
-        else if (strcmp(words[first], "--seed") == 0)
-            seed = value;
-        else if (strcmp(words[first], "--fault") == 0)
-            reference_fault = (int)value;
-        else
-            return 2;
-    }
-    if (!inputs_start(seed, count - first, words + first)) {
-        puts("a file can't be read");
-        return 2;
-    }
+    size_t inputs = comparison_start(count, words, "--inputs", 100000, show_input);
     bytes_region = region(INPUT_ROOM + BESIDE);
     table_region = region((TABLE + BESIDE) * sizeof(size_t));
-    report_signals(outside);
     for (number = 0; number < inputs; number++) {
         length = inputs_next(input);
         compare_input();

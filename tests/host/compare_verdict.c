@@ -10,6 +10,7 @@
  * Ends with 0 where all is equal and each answer occurred, with 1 at the first difference, which it shows with the input in hex, with 2
  * where it couldn't run, with 3 where something never occurred. */
 #include "../../include/phagundro.h"
+#include "comparison.h"
 #include "inputs.h"
 #include "memory.h"
 #include "reference.h"
@@ -24,32 +25,17 @@ enum { BESIDE = 64, NUMBERS = 15, VERDICTS = 8, WIDTH = 4, ROWS = 33000 };
 
 /* -- What is being compared -- */
 
-static uint64_t seed = 1;
-static size_t number; /* of the input */
 static uint8_t input[INPUT_ROOM];
 static size_t length;
 
 static void show_input(void)
 {
-    printf("seed %llu, input %zu, %zu bytes:\n", (unsigned long long)seed, number, length);
-    for (size_t i = 0; i < length; i++)
-        printf("%02X", input[i]);
-    putchar('\n');
-    fflush(stdout);
+    comparison_show(input, length);
 }
 
 static void differs(const char *what, size_t edition, size_t position)
 {
-    printf("difference: %s; edition %zu, position %zu\n", what, edition, position);
-    show_input();
-    exit(1);
-}
-
-static void outside(int signal_number)
-{
-    printf("difference: the call ended with signal %d\n", signal_number);
-    show_input();
-    _Exit(1);
+    comparison_differs(what, edition, "position", position);
 }
 
 /* -- What occurred -- */
@@ -193,25 +179,8 @@ static int account(size_t inputs)
 
 int main(int count, char **words)
 {
-    size_t inputs = 20000;
-    int first = 1;
-    for (; first + 1 < count && strncmp(words[first], "--", 2) == 0; first += 2) {
-        unsigned long long value = strtoull(words[first + 1], NULL, 10);
-        if (strcmp(words[first], "--inputs") == 0)
-            inputs = value;
-        else if (strcmp(words[first], "--seed") == 0)
-            seed = value;
-        else if (strcmp(words[first], "--fault") == 0)
-            reference_fault = (int)value;
-        else
-            return 2;
-    }
-    if (!inputs_start(seed, count - first, words + first)) {
-        puts("a file can't be read");
-        return 2;
-    }
+    size_t inputs = comparison_start(count, words, "--inputs", 20000, show_input);
     bytes_region = region(INPUT_ROOM + BESIDE);
-    report_signals(outside);
     for (number = 0; number < inputs; number++) {
         length = number % 4 < 2 ? inputs_next(input) : requests_next(input);
         compare_input();

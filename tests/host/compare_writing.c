@@ -9,6 +9,7 @@
  * Ends with 0 where all is equal and each sort of draft and each answer occurred, with 1 at the first difference, which it shows with the
  * draft, with 2 where it couldn't run, with 3 where something never occurred. */
 #include "../../include/phagundro.h"
+#include "comparison.h"
 #include "drafts.h"
 #include "inputs.h"
 #include "memory.h"
@@ -23,8 +24,6 @@ enum { OUTPUT = 70000, BESIDE = 64, WIDTH = 4, KINDS = 80, LONGEST = 65535 };
 
 /* -- What is being compared -- */
 
-static uint64_t seed = 1;
-static size_t number; /* of the draft */
 static Draft draft;
 
 static void show_draft(void)
@@ -42,16 +41,7 @@ static void show_draft(void)
 
 static void differs(const char *what, size_t edition, size_t room)
 {
-    printf("difference: %s; edition %zu, room %zu\n", what, edition, room);
-    show_draft();
-    exit(1);
-}
-
-static void outside(int signal_number)
-{
-    printf("difference: the call ended with signal %d\n", signal_number);
-    show_draft();
-    _Exit(1);
+    comparison_differs(what, edition, "room", room);
 }
 
 /* -- Buffers -- */
@@ -252,27 +242,10 @@ static int account(size_t drafts)
 
 int main(int count, char **words)
 {
-    size_t drafts = 50000;
-    int first = 1;
-    for (; first + 1 < count && strncmp(words[first], "--", 2) == 0; first += 2) {
-        unsigned long long value = strtoull(words[first + 1], NULL, 10);
-        if (strcmp(words[first], "--drafts") == 0)
-            drafts = value;
-        else if (strcmp(words[first], "--seed") == 0)
-            seed = value;
-        else if (strcmp(words[first], "--fault") == 0)
-            reference_fault = (int)value;
-        else
-            return 2;
-    }
-    if (!inputs_start(seed, count - first, words + first)) {
-        puts("a file can't be read");
-        return 2;
-    }
+    size_t drafts = comparison_start(count, words, "--drafts", 50000, show_draft);
     numbers.region = region(DRAFT_NUMBERS * sizeof(size_t) + BESIDE);
     slice.region = region(SLICE_ROOM + BESIDE);
     output.region = region(OUTPUT + BESIDE);
-    report_signals(outside);
     for (number = 0; number < drafts; number++) {
         drafts_next(&draft);
         compare_draft();
