@@ -60,8 +60,7 @@
 --     batch-at              the input's one element is read at its first byte
 --     messages-inside       its messages are those of the fields inside it, and each has its field as its own (`message-field`)
 --     proof-cases           a proof's identifier is one of the four
---     fields-read           the fields of the octets from p to e are the field that is read at p (`fieldRead`) and those behind it; where no
---                           octet stands there are none (`fields-past`), and inside a SEQUENCE they are those of its content (`sequence-read`)
+--     sequence-read         inside a SEQUENCE that is read (`fieldRead`) the fields are those of its content
 --     batch-read            so the messages of a batch are those of the fields that are read from its content on
 --     id-read               and a message's certReqId is what is read first inside what is read first inside it (`IdRead`, `first-read`)
 --     ids-some              a message's certReqId has an octet of content at least, and, where no row is a long one, at most 8 (`ids-eight`)
@@ -103,7 +102,7 @@ pub use Rattle.crmf.proofs.MessageLaws.{batch-content, message-parts, m
 pub use Rattle.crmf.proofs.Assembly.{assembly, rows-few, pieces-short}
 pub use Rattle.crmf.proofs.AssembledOctets.{pieces-octets, row-ends}
 pub use Rattle.crmf.proofs.Writing.{numbers-length}
-pub use Rattle.crmf.proofs.MessageSteps.{fieldRead, fields-past, fields-read, sequence-read, first-read, IdRead, id-read, batch-read}
+pub use Rattle.crmf.proofs.MessageSteps.{fieldRead, sequence-read, first-read, IdRead, id-read, batch-read}
 pub use Rattle.crmf.proofs.MessageSizes.{ids-some, ids-eight, messages-few}
 pub use Rattle.crmf.proofs.LongIds.{rows-long, walk-long, long-none}
 pub use Rattle.crmf.proofs.WholeInput.{count-whole, rows-whole, whole-count, whole-long}

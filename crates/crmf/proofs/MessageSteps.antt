@@ -18,47 +18,23 @@ use Rattle.crmf.specs.Grammar.{content}
 use Rattle.crmf.specs.Fields.{Field, fields}
 use Rattle.crmf.specs.Messages.{messageOf, batch, messages}
 use Rattle.crmf.proofs.FieldLaws.{fields-none, fields-element}
+use Rattle.crmf.proofs.FieldSteps.{fieldAt, fields-end, fields-at, inside-fields, batch-at}
 use Rattle.crmf.proofs.MessageLaws.{MessageParts, BatchContent}
 use Rattle.crmf.proofs.MessageSizes.{octets-two}
 
 -- the field that is read from the place p, before the place e
 abbrev pub fieldRead : List ℕ → ℕ → ℕ → Field
-fieldRead s p e =
-    let x = readAt s p e in
-    let content = slice (x .content) (x .end) s in
-    record {
-      identifier = x .identifier;
-      place = p;
-      whole = x .end - p;
-      content = content;
-      inside = elim (constructed (x .identifier)) as (λ b. Tree) [ true ↦ tree (x .content) content | false ↦ none ];
-    }
-
--- where no octet stands, there is no field
-pub fields-past : (s : List ℕ) (p e : ℕ) → e ≤ p → fields (tree p (slice p e s)) ≡ []
-fields-past s p e past = ap (λ (bs : List ℕ). fields (tree p bs)) (slice-none p e s (omega arith)) ∙ ap fields (tree-end p) ∙ fields-none
+fieldRead s p e = fieldAt s p (readAt s p e)
 
 -- fields stand only where an octet does
 fields-some : (s : List ℕ) (p e : ℕ) (f : Field) (fs : List Field) → fields (tree p (slice p e s)) ≡ f ∷ fs → p < e
 fields-some s p e f fs there =
-    lt-of-not-le (λ past. let z : _≡_ {A = ℕ} 0 1 = cc (fields-past s p e past) in omega arith)
+    lt-of-not-le (λ past. let z : _≡_ {A = ℕ} 0 1 = cc (fields-end s p e past) in omega arith)
 
-module _ (s : List ℕ) (p e : ℕ) (some : p < e) (fits : e ≤ length s) (high : length s ≤ longest) where
-  -- By places: the fields from p to e are the one that is read at p and the fields from its end to e.
-  pub fields-read : let x = readAt s p e in fields (tree p (slice p e s)) ≡ fieldRead s p e ∷ fields (tree (x .end) (slice (x .end) e s))
-  fields-read =
-      let x = readAt s p e in
-      let f = fieldRead s p e in
-      ap fields (tree-at s p e some fits high)
-      ∙ fields-element (f .identifier) (f .place) (f .whole) (f .content) (f .inside) (tree (x .end) (slice (x .end) e s))
-
-  -- The fields inside a SEQUENCE that is read are those from its content to its end.
-  pub sequence-read : fieldRead s p e .identifier ≡ 0x30
-      → let x = readAt s p e in fields (fieldRead s p e .inside) ≡ fields (tree (x .content) (slice (x .content) (x .end) s))
-  sequence-read thirty =
-      let x = readAt s p e in
-      ap (λ (b : Bool). fields (elim b as (λ _. Tree) [ true ↦ tree (x .content) (slice (x .content) (x .end) s) | false ↦ none ]))
-      (ap constructed thirty ∙ sequence-constructed)
+-- The fields inside a SEQUENCE that is read are those from its content to its end.
+pub sequence-read : (s : List ℕ) (p e : ℕ) → fieldRead s p e .identifier ≡ 0x30
+    → let x = readAt s p e in fields (fieldRead s p e .inside) ≡ fields (tree (x .content) (slice (x .content) (x .end) s))
+sequence-read s p e thirty = inside-fields s p (readAt s p e) (ap constructed thirty ∙ sequence-constructed)
 
 -- The first field inside a SEQUENCE is what is read from its content on.
 pub first-read : (s : List ℕ) (p e : ℕ) → p < e → e ≤ length s → length s ≤ longest → (f : Field) (fs : List Field)
@@ -66,10 +42,10 @@ pub first-read : (s : List ℕ) (p e : ℕ) → p < e → e ≤ length s → len
     → let x = readAt s p e in (x .content < x .end) × (x .end ≤ length s) × (f ≡ fieldRead s (x .content) (x .end))
 first-read s p e some fits high f fs thirty held =
     let x = readAt s p e in
-    let inside = sequence-read s p e some fits high thirty in
+    let inside = sequence-read s p e thirty in
     let there : x .content < x .end = fields-some s (x .content) (x .end) f fs (sym inside ∙ held) in
     let within : x .end ≤ length s = omega (arith, read-at-in-order s p e some fits high .within) in
-    let first = sym held ∙ inside ∙ fields-read s (x .content) (x .end) there within high in
+    let first = sym held ∙ inside ∙ fields-at s (x .content) (x .end) within high there in
     (there, within, cc)
 
 -- Where a message is read from the place p, before the place e: its certReqId is read inside its certReq, which is read inside it.
@@ -93,15 +69,13 @@ id-read s p e some fits high k =
 -- Where a whole input is read as a batch, its messages are those of the fields from the batch's content to the input's end.
 pub batch-read : (s : List ℕ) → length s ≤ longest → encode (tree 0 s) ≡ s → BatchContent (tree 0 s)
     → let p = readAt s 0 (length s) .content in messages (tree 0 s) ≡ map messageOf (fields (tree p (slice p (length s) s)))
-unfolding messages batch
+unfolding messages
 batch-read s high encoded b =
     let n = length s in
     let x = readAt s 0 n in
     let some : 0 < n = omega (arith, octets-two (batch (tree 0 s)), ap length (b .all), ap length encoded) in
-    let whole : slice 0 n s ≡ s = take-all n s (omega arith) in
-    let first = ap (λ (bs : List ℕ). fields (tree 0 bs)) (sym whole) ∙ fields-read s 0 n some (omega arith) high in
-    let own : batch (tree 0 s) ≡ fieldRead s 0 n = rw (batch, first) in
+    let own : batch (tree 0 s) ≡ fieldRead s 0 n = batch-at s some high in
     let ends : x .end ≡ n = omega (arith, ap (λ (f : Field). f .whole) (sym own) ∙ b .size ∙ ap length encoded) in
     let thirty = ap (λ (f : Field). f .identifier) (sym own) ∙ b .thirty in
-    let inside = ap (λ (f : Field). fields (f .inside)) own ∙ sequence-read s 0 n some (omega arith) high thirty in
+    let inside = ap (λ (f : Field). fields (f .inside)) own ∙ sequence-read s 0 n thirty in
     ap (map messageOf) (inside ∙ ap (λ (e : ℕ). fields (tree (x .content) (slice (x .content) e s))) ends)

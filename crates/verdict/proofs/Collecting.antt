@@ -20,7 +20,7 @@ use Rattle.crmf.specs.Language.{Matches}
 use Rattle.crmf.specs.Rows.{batchRows, allShort}
 use Rattle.crmf.specs.Fields.{Field, fields}
 use Rattle.crmf.specs.Messages.{Message, messageOf, messages}
-use Rattle.crmf.proofs.Laws.{MessageParts, batch-content, message-parts, fieldRead, fields-past, fields-read, id-read, batch-read, ids-some, ids-eight, messages-few}
+use Rattle.crmf.proofs.Laws.{MessageParts, batch-content, message-parts, fieldRead, fields-end, fields-at, id-read, batch-read, ids-some, ids-eight, messages-few}
 use Rattle.editions.proofs.Demand2.{nest-read, accepted-in}
 use Rattle.verdict.specs.Duplicates.{signed, ids}
 use Rattle.verdict.specs.Collecting.{Accepted, most, Collected, idIn, Short}
@@ -63,7 +63,7 @@ idOf m = signed (m .certReqId .content)
 
 -- where nothing stands there are none
 pub none-from : (s : List ℕ) (p : ℕ) → length s ≤ p → messagesFrom s p ≡ []
-none-from s p past = ap (map messageOf) (fields-past s p (length s) past)
+none-from s p past = ap (map messageOf) (fields-end s p (length s) past)
 
 -- What a step reads: the first message, its certReqId's place, and the messages behind it.
 pub record Step (s : List ℕ) (p : ℕ) : Type 0 where
@@ -86,7 +86,7 @@ step s p k among some =
     let y = readAt s (x .content) (x .end) in
     let z = readAt s (y .content) (y .end) in
     let m = messageOf (fieldRead s p n) in
-    let split : messagesFrom s p ≡ m ∷ messagesFrom s (x .end) = ap (map messageOf) (fields-read s p n some (omega arith) (k .high)) in
+    let split : messagesFrom s p ≡ m ∷ messagesFrom s (x .end) = ap (map messageOf) (fields-at s p n (omega arith) (k .high) some) in
     let at : List·Memᴰ m (messages (tree 0 s)) = among m (rw split (List·Memᴰ·head refl)) in
     let read = id-read s p n some (omega arith) (k .high) (k .parts m at) in
     let order = read-at-in-order s p n some (omega arith) (k .high) in
