@@ -1,15 +1,17 @@
--- The test of a content is the rule that its identifier asks of it: each identifier of a rule picks that rule's test. Assumes nothing.
-use Prim.Native.Nat.{ℕ, _≤_}
+-- The test of a content is the rule that its identifier asks of it: each identifier of a rule picks that rule's test. And what the rules say of
+-- an OBJECT IDENTIFIER without an octet 80 and of an INTEGER. Assumes nothing.
+use Prim.Native.Nat.{ℕ, suc, _-_, _≤_, _<_}
 use native.Mathlib.Omega.{arith}
 use mathlib.Core.Path.{_≡_, refl}
-use mathlib.Core.Bool.{Bool, true, false}
+use mathlib.Core.Bool.{Bool, true, false, and-false}
 use mathlib.Core.List.{List, [], _∷_}
 use mathlib.Core.Logic.{_↔_}
-use lib.Dec.{T, eqb}
-use lib.ListN.{length}
-use borrow.Author.Tests.{eqb-true}
+use lib.Dec.{T, ltb, eqb}
+use lib.ListN.{length, getD}
+use borrow.Author.Tests.{eqb-true, ne-eqb}
 use Rattle.der.specs.Utf8.{utf8}
-use Rattle.der.specs.Content.{boolean, integer, bitString, null, objectIdentifier, Content, holds}
+use Rattle.der.specs.Content.{boolean, integer, bitString, null, lastOf, unpadded, objectIdentifier, Content, holds}
+use Rattle.der.proofs.Ends.{last}
 use Rattle.der.proofs.Productions.{utf8-exact}
 
 -- a test that is asked of the number k alone, before another that is asked of any number
@@ -41,6 +43,20 @@ content-exact id c = (
       (asked id 0x0A (integer c) _ (x .ofEnumerated)
       (asked id 0x0C (utf8 c) true (λ e. utf8-exact c .1 (x .ofUtf8String e)) tt)))))),
 )
+
+-- without an octet 80 no part starts with one
+unpadded-plain : (before : ℕ) (bs : List ℕ) → ((i : ℕ) → i < length bs → getD bs i 0 ≡ 0x80 → ⊥) → unpadded before bs ≡ true
+unfolding unpadded
+unpadded-plain before [] other = refl
+unpadded-plain before (b ∷ bs) other =
+    rw (ne-eqb b 0x80 (other 0 (omega arith)), and-false (ltb before 0x80), unpadded-plain b bs (λ i h. other (suc i) (omega arith)))
+
+-- an OBJECT IDENTIFIER without an octet 80 is one by its last octet
+pub identifier-plain : (bs : List ℕ) → 0 < length bs → ((i : ℕ) → i < length bs → getD bs i 0 ≡ 0x80 → ⊥)
+    → ltb (getD bs (length bs - 1) 0) 0x80 ≡ objectIdentifier bs
+unfolding objectIdentifier lastOf
+identifier-plain [] some other = absurd (omega arith)
+identifier-plain (b ∷ bs) some other = rw (unpadded-plain 0 (b ∷ bs) other, ← last 0 (b ∷ bs) some) refl
 
 -- an INTEGER has an octet at least
 pub integer-some : (content : List ℕ) → T (integer content) → 1 ≤ length content

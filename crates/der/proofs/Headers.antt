@@ -27,7 +27,6 @@ passed false h = absurd h
 
 -- bit 6 of the identifier says that the content is a list of elements
 pub constructed-bit : (id : ℕ) → id / 32 % 2 ≡ 1 → constructed id ≡ true
-unfolding constructed
 constructed-bit id bit = eq-eqb (id / 32 % 2) 1 bit
 
 -- What a header that stands says of the octets: the identifier comes first, the length is read behind it, and the content fits.

@@ -36,6 +36,18 @@
 --     number-zero         the input's number is 0 exactly where it starts with an encoding
 --     fault-number        a fault's number is from 2 to 6
 --     number-place        its number, if not 0, and its place are those of the first fault
+--     span-fits           a span has two octets at least, and it and its content fit
+--     span-small          a content of fewer than 128 octets has two octets before it
+--     span-stands, span-broken    behind an identifier that is allowed a span is the header; without a span the header is broken
+--     span-tree           the tree of octets that begin with a span, behind an identifier that is allowed
+--     sound-none, sound-deep, sound-lost    no octets are sound; none are without a level of depth left, nor where they begin with no span
+--     sound-short         sound octets are not too many
+--     sound-step          octets are sound where the first element has no fault and the octets behind it are sound
+--     sound-single        the walk over a sound input that is a single element ends where the input does
+--     single-sound        an input whose first element ends where the input does is sound
+--     whole-wrong, whole-inside, whole-value    an element has no fault where its identifier is allowed, and the list inside it or its content has none
+--     holds-integer, holds-bit-string, holds-object-identifier, holds-utf8    the rule that an identifier asks of its content
+--     holds-free          an identifier that asks none (`ruled`) leaves the content free
 --     octets-take, octets-drop    a part of octets is octets
 --     take-drop, slice-slice, drop-slice, slice-middle    a part of a part of a list, by the places in the whole
 --     slice-none          a part that starts at its end or behind it is empty
@@ -48,3 +60,6 @@ pub use Rattle.der.proofs.Readings.{elementAt, tree-step, tree-parts, t
 pub use Rattle.der.proofs.Trees.{header-some, header-two, header-octets, length-some, encode-none, encode-element, encode-length, moved-none, moved-element, sequence-constructed, sequence-allowed, integer-primitive}
 pub use Rattle.der.proofs.Exact.{Encoded, exact, Checked, walk-tree}
 pub use Rattle.der.proofs.FirstFault.{number-zero, fault-number, number-place}
+pub use Rattle.der.proofs.Spans.{span-fits, span-small, span-stands, span-broken, span-tree}
+pub use Rattle.der.proofs.SoundLists.{sound-none, sound-short, sound-deep, sound-lost, sound-step, sound-single, single-sound, whole-wrong, whole-inside, whole-value}
+pub use Rattle.der.proofs.SoundLists.{holds-integer, holds-bit-string, holds-object-identifier, holds-utf8, ruled, holds-free}

@@ -129,7 +129,7 @@ pub length-encoded : (n : ℕ) (more : List ℕ) → n ≤ 65535 → lengthOf (l
 length-encoded n more high = form-read more (form n high)
 
 -- missing length octets give no length
-never-missing : {A : Type 0} {m n : ℕ} → missing ≡ octets m n → A
+pub never-missing : {A : Type 0} {m n : ℕ} → missing ≡ octets m n → A
 never-missing e = let z : _≡_ {A = ℕ} 0 1 = cc in absurd (omega arith)
 
 -- nor do wrong ones

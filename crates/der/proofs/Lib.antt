@@ -13,6 +13,10 @@ pub mod Productions
 pub mod Progress
 pub mod Range
 pub mod Readings
+pub mod SoundWays
+pub mod SpanWays
+pub mod SoundLists
+pub mod Spans
 pub mod Steps
 pub mod TrailingZeros
 pub mod Trees

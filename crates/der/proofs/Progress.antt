@@ -55,7 +55,7 @@ module _ (judge : ℕ → List ℕ → Nest) (on : Forward judge) where
       omega (arith, further q e, on p x bs ends, length-drop (x - p) bs))
 
   -- A list has one answer with all counts of at least its octets' number.
-  list-enough : (n p : ℕ) (bs : List ℕ) → length bs ≤ n → (m : ℕ) → length bs ≤ m → listOf judge n p bs ≡ listOf judge m p bs
+  pub list-enough : (n p : ℕ) (bs : List ℕ) → length bs ≤ n → (m : ℕ) → length bs ≤ m → listOf judge n p bs ≡ listOf judge m p bs
   list-enough =
       list-along judge on (λ p bs r. (m : ℕ) → length bs ≤ m → r ≡ listOf judge m p bs)
       (λ p m enough. sym (list-empty judge m p))

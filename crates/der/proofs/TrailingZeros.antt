@@ -1,17 +1,10 @@
 -- An octet has at least u trailing zero bits exactly where 2 ^ u divides it: computed at every u below 8 and every octet. Assumes nothing.
 use Prim.Native.Nat.{ℕ, _%_, _^_, _<_}
-use mathlib.Core.Bool.{Bool, true, false, Bool·beq}
-use mathlib.Core.Path.{_≡_, refl, sym}
+use mathlib.Core.Bool.{Bool, true, Bool·beq}
+use mathlib.Core.Path.{_≡_, refl}
 use lib.Count.{trailingZeros}
 use lib.Dec.{leb, eqb}
-use Rattle.der.proofs.Range.{every, each}
-
--- two truth values that pass the test are equal
-same : (a b : Bool) → Bool·beq a b ≡ true → a ≡ b
-same true true e = refl
-same true false e = sym e
-same false true e = e
-same false false e = refl
+use Rattle.der.proofs.Range.{every, each, same}
 
 -- the two ways to count agree at u and b
 right : ℕ → ℕ → Bool

@@ -7,7 +7,7 @@ use mathlib.Core.Bool.{Bool, true, false}
 use mathlib.Core.List.{List, [], _∷_, _++_}
 use lib.Dec.{T, ltb}
 use lib.ListN.{length, length-append}
-use Rattle.der.specs.Identifier.{constructed, universal, constructedType, universalType, allowed}
+use Rattle.der.specs.Identifier.{constructed, allowed}
 use Rattle.der.specs.Length.{base256, lengthOctets}
 use Rattle.der.specs.Tree.{Tree, none, element, header, encode, moved}
 
@@ -64,15 +64,12 @@ moved-element d id first whole c inside rest = refl
 
 -- a SEQUENCE is constructed
 pub sequence-constructed : constructed 0x30 ≡ true
-unfolding constructed
 sequence-constructed = refl
 
 -- an INTEGER is not
 pub integer-primitive : constructed 0x02 ≡ false
-unfolding constructed
 integer-primitive = refl
 
 -- the identifier of a SEQUENCE is allowed
 pub sequence-allowed : T (allowed 0x30)
-unfolding constructed universal constructedType universalType allowed
 sequence-allowed = tt

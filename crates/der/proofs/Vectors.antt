@@ -6,7 +6,6 @@ use mathlib.Core.List.{List, [], _∷_, map}
 use lib.ListN.{length}
 use Rattle.der.specs.declared.walk.Nest.{Nest}
 use Rattle.der.specs.declared.walk.Nest.the-variants.{End, Fault}
-use Rattle.der.specs.Identifier.{constructed, universal, primitiveType, constructedType, universalType, allowed}
 use Rattle.der.specs.Length.{valueFrom, shortest, longForm, lengthOf}
 use Rattle.der.specs.Header.{sizedBy, headOf}
 use Rattle.der.specs.Content.{boolean, integer, null, lastOf, unpadded, objectIdentifier, bitString, holds}
@@ -29,7 +28,7 @@ nests =
 
 -- the walk answers so
 answered : map (λ c. walkAt (c .0) 0 (length (c .0))) nests ≡ map (λ c. c .1) nests
-unfolding walkAt elementOf headOf allowed universal universalType constructed constructedType primitiveType sizedBy lengthOf longForm shortest valueFrom listOf primitiveOf holds integer
+unfolding walkAt elementOf headOf sizedBy lengthOf longForm shortest valueFrom listOf primitiveOf holds integer
 answered = refl
 
 -- the rule takes each content of the first list and refuses each of the second

@@ -20,11 +20,11 @@ use Rattle.der.proofs.Progress.{element-progress, elements-next}
 use Rattle.der.proofs.Steps.{element-broken, element-inside, element-value, list-empty, list-stop}
 
 -- a part of what was lent has its length, and is lent at its own place
-pub lent-part : {bytes classes : List ℕ} {place : ℕ} (h e : ℕ) → h ≤ e → e ≤ length bytes → Lent bytes place classes
-    → (length (take (e - h) (drop h bytes)) ≡ e - h) × Lent (take (e - h) (drop h bytes)) (place + h) classes
+pub lent-part : {bytes : List ℕ} {place : ℕ} (h e : ℕ) → h ≤ e → e ≤ length bytes → Lent bytes place
+    → (length (take (e - h) (drop h bytes)) ≡ e - h) × Lent (take (e - h) (drop h bytes)) (place + h)
 lent-part {bytes = bytes} h e order fits lent =
     let size = length-part bytes h (e - h) (omega arith) in
-    (size, record { short = omega (arith, lent .short); placed = omega (arith, lent .placed); table = lent .table })
+    (size, record { short = omega (arith, lent .short); placed = omega (arith, lent .placed) })
 
 -- without a level of depth left
 pub way-deep : (p : ℕ) (bs : List ℕ) → Fault 6 p 0 ≡ elementOf 0 p bs

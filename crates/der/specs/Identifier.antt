@@ -8,25 +8,25 @@ abbrev pub tagNumber : ℕ → ℕ
 tagNumber id = id % 32
 
 -- bit 6: the content is a list of elements
-unfoldable pub constructed : ℕ → Bool
+abbrev pub constructed : ℕ → Bool
 constructed id = eqb (id / 32 % 2) 1
 
 -- bits 8 and 7: the class is universal
-unfoldable pub universal : ℕ → Bool
+abbrev pub universal : ℕ → Bool
 universal id = eqb (id / 64) 0
 
 -- "1 to 6, 10, 12, 18 to 28 and 30 primitive"
-unfoldable pub primitiveType : ℕ → Bool
+abbrev pub primitiveType : ℕ → Bool
 primitiveType t = leb 1 t && leb t 6 || eqb t 10 || eqb t 12 || leb 18 t && leb t 28 || eqb t 30
 
 -- "16 and 17 constructed"
-unfoldable pub constructedType : ℕ → Bool
+abbrev pub constructedType : ℕ → Bool
 constructedType t = eqb t 16 || eqb t 17
 
 -- "nothing else" of the universal class
-unfoldable pub universalType : ℕ → Bool
+abbrev pub universalType : ℕ → Bool
 universalType id = constructed id && constructedType (tagNumber id) || not (constructed id) && primitiveType (tagNumber id)
 
 -- "one octet, tag number below 31"; "other classes: any"
-unfoldable pub allowed : ℕ → Bool
+abbrev pub allowed : ℕ → Bool
 allowed id = ltb (tagNumber id) 31 && (not (universal id) || universalType id)

@@ -10,3 +10,5 @@ pub mod Tree
 pub mod Reading
 pub mod Fault
 pub mod Each
+pub mod Span
+pub mod Sound

@@ -10,7 +10,6 @@ use Rattle.der.specs.declared.walk.Nest.{Nest}
 use Rattle.der.specs.declared.walk.Nest.the-variants.{End, Fault}
 use Rattle.der.specs.Identifier.{tagNumber, constructed}
 use Rattle.der.specs.Header.{headOf}
-use Rattle.der.specs.Utf8.{Classes}
 use Rattle.der.specs.Content.{holds}
 
 -- document 01's number for an answer: 0 where there is no fault
@@ -59,8 +58,7 @@ longest = 65535
 unfoldable pub walkAt : List ℕ → ℕ → ℕ → Nest
 walkAt s at end = elim (leb (length s) longest) [ true ↦ elementOf depth at (slice at end s) | false ↦ Fault 1 0 0 ]
 
--- What the inner functions of the walk are lent: bytes of a whole input at a place, and the classes of octets.
-pub record Lent (bytes : List ℕ) (place : ℕ) (classes : List ℕ) : Type 0 where
+-- What the inner functions of the walk are lent: bytes of a whole input at a place.
+pub record Lent (bytes : List ℕ) (place : ℕ) : Type 0 where
   pub short : length bytes ≤ longest
   pub placed : place + length bytes < 2 ^ 64
-  pub table : Classes classes

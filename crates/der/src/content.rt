@@ -1,7 +1,9 @@
 // The content rules, each on the content octets of one element.
 use crate::utf8;
+ghost use Prim.Native.Nat.{ℕ, _<_};
+ghost use mathlib.Core.Bool.{true};
 ghost use mathlib.Core.Path.{_≡_};
-ghost use Rattle.der.specs.Utf8.{Classes};
+ghost use lib.ListN.{length, getD};
 ghost use Rattle.der.specs.Content as rule;
 
 // Whether the octets are the content of a BOOLEAN.
@@ -50,6 +52,31 @@ pub fn object_identifier(content: &[u8]) -> bool
     if content.len() == 0 {
         return false;
     }
+    if plain(content) {
+        return content[content.len() - 1] < 0x80;
+    }
+    parted(content)
+}
+
+// Whether no octet is 80.
+fn plain(content: &[u8]) -> bool
+    ensures { λ r. ⌜ (r ≡ true → (i : ℕ) → i < length (now (content .entry)) → getD (now (content .entry)) i 0 ≡ 0x80 → ⊥) ⌝ }
+{
+    let mut i = 0;
+    while i < content.len() {
+        if content[i] == 0x80 {
+            return false;
+        }
+        i += 1;
+    }
+    true
+}
+
+// The rule of an OBJECT IDENTIFIER that is not empty, part by part.
+fn parted(content: &[u8]) -> bool
+    requires { ⌜ 0 < length (now content) ⌝ }
+    ensures { λ r. ⌜ r ≡ rule.objectIdentifier (now (content .entry)) ⌝ }
+{
     // The octet before, and at first one that ends a part.
     let mut before: u8 = 0x00;
     let mut i = 0;
@@ -65,8 +92,7 @@ pub fn object_identifier(content: &[u8]) -> bool
 }
 
 // Whether the content of a primitive element keeps the rule that its identifier asks.
-pub(crate) fn holds(id: u8, content: &[u8], classes: &[u8; 256]) -> bool
-    requires { ⌜ Classes (now classes) ⌝ }
+pub fn holds(id: u8, content: &[u8]) -> bool
     ensures { λ r. ⌜ r ≡ rule.holds id (now (content .entry)) ⌝ }
 {
     match id {
@@ -75,7 +101,7 @@ pub(crate) fn holds(id: u8, content: &[u8], classes: &[u8; 256]) -> bool
         0x03 => bit_string(content),
         0x05 => content.len() == 0,
         0x06 => object_identifier(content),
-        0x0C => utf8::text(content, classes),
+        0x0C => utf8::is_text(content),
         _ => true,
     }
 }

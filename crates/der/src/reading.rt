@@ -1,8 +1,8 @@
 // The element at a place, for the layers above.
-use crate::header;
-use crate::header::Head;
+use crate::identifier::is_allowed;
 use crate::input::LONGEST;
 use crate::input::part;
+use crate::span::measure;
 ghost use mathlib.Core.Path.{_≡_};
 ghost use Rattle.der.specs.Reading.{nothingAt, readAt};
 
@@ -22,21 +22,18 @@ pub fn read_at(bytes: &[u8], at: usize, end: usize) -> Element
         return nothing_at(at);
     }
     let inside = part(bytes, at, end);
-    match header::read(inside) {
-        Head::Stands {
-            identifier,
-            octets,
-            length,
-        } => Element {
-            identifier,
-            content: at + octets,
-            end: at + octets + length,
-        },
-        Head::Broken {
-            number: _,
-            detail: _,
-        } => nothing_at(at + inside.len()),
+    let x = measure(inside);
+    if x.octets != 0 {
+        let id = inside[0];
+        if is_allowed(id) {
+            return Element {
+                identifier: id,
+                content: at + x.octets,
+                end: at + x.octets + x.length,
+            };
+        }
     }
+    nothing_at(at + inside.len())
 }
 
 // No element: an empty content at the place.

@@ -1,7 +1,9 @@
-// UTF-8 as in RFC 3629, by a table of classes of octets.
-ghost use Prim.Native.Nat.{ℕ};
+// UTF-8 as in RFC 3629: octets below 80 eight at once, and others by a table of classes of octets.
+ghost use Prim.Native.Nat.{ℕ, _+_, _≤_, _<_};
+ghost use mathlib.Core.Bool.{true};
 ghost use mathlib.Core.List.{List, _∷_};
 ghost use mathlib.Core.Path.{_≡_};
+ghost use lib.ListN.{length, getD};
 ghost use Rattle.der.specs.Utf8.{classOf, utf8From, utf8, after, Classes};
 
 // What the check makes of one octet.
@@ -42,8 +44,49 @@ fn advance(left: u8, low: u8, high: u8, class: u8) -> Step
     Step::Stop
 }
 
+// Whether the eight octets from a place on are below 80, by one test of all their bits.
+fn eight(bytes: &[u8], i: usize) -> bool
+    requires { ⌜ i + 8 ≤ length (now bytes) ⌝ }
+    ensures { λ r. ⌜ (r ≡ true → (k : ℕ) → k < 8 → getD (now (bytes .entry)) (i + k) 0 < 0x80) ⌝ }
+{
+    let front = bytes[i] | bytes[i + 1] | bytes[i + 2] | bytes[i + 3];
+    let back = bytes[i + 4] | bytes[i + 5] | bytes[i + 6] | bytes[i + 7];
+    (front | back) < 0x80
+}
+
+// Whether the content has octets below 80 only, each a whole character.
+fn ascii(content: &[u8]) -> bool
+    ensures { λ r. ⌜ (r ≡ true → utf8 (now (content .entry)) ≡ true) ⌝ }
+{
+    let mut i = 0;
+    while i + 8 <= content.len() {
+        if !eight(content, i) {
+            return false;
+        }
+        i += 8;
+    }
+    while i < content.len() {
+        if 0x80 <= content[i] {
+            return false;
+        }
+        i += 1;
+    }
+    true
+}
+
+// Whether the content is UTF-8.
+pub fn is_text(content: &[u8]) -> bool
+    ensures { λ r. ⌜ r ≡ utf8 (now (content .entry)) ⌝ }
+{
+    if ascii(content) {
+        return true;
+    }
+    let classes = CLASSES;
+    text(content, &classes)
+}
+
 // Whether the content is UTF-8, by a table of the classes.
-pub(crate) fn text(content: &[u8], classes: &[u8; 256]) -> bool
+fn text(content: &[u8], classes: &[u8; 256]) -> bool
     requires { ⌜ Classes (now classes) ⌝ }
     ensures { λ r. ⌜ r ≡ utf8 (now (content .entry)) ⌝ }
 {
@@ -52,6 +95,12 @@ pub(crate) fn text(content: &[u8], classes: &[u8; 256]) -> bool
     let mut high: u8 = 3;
     let mut i = 0;
     while i < content.len() {
+        if (left == 0) & (i + 8 <= content.len()) {
+            if eight(content, i) {
+                i += 8;
+                continue;
+            }
+        }
         let b = content[i] as usize;
         let s = advance(left, low, high, classes[b]);
         let Step::Next(l, lo, hi) = s else {
@@ -66,7 +115,7 @@ pub(crate) fn text(content: &[u8], classes: &[u8; 256]) -> bool
 }
 
 // The class of each octet: 0 a whole character, 1 to 3 tails, 4 to 10 leads, 11 an octet that no character has.
-pub(crate) const CLASSES: [u8; 256] = [
+const CLASSES: [u8; 256] = [
     0,
     0,
     0,

@@ -5,10 +5,8 @@ use crate::header::Head;
 use crate::identifier::is_constructed;
 use crate::input::LONGEST;
 use crate::input::part;
-use crate::utf8::CLASSES;
 ghost use mathlib.Core.Path.{_≡_};
 ghost use lib.ListN.{length};
-ghost use Rattle.der.specs.Utf8.{Classes};
 ghost use Rattle.der.specs.Walk.{Lent, listOf, primitiveOf, elementOf, walkAt};
 
 // What the walk over an element answers.
@@ -37,13 +35,12 @@ pub fn walk(bytes: &[u8], at: usize, end: usize) -> Nest
             detail: 0,
         };
     }
-    let classes = CLASSES;
-    element(part(bytes, at, end), at, DEPTH, &classes)
+    element(part(bytes, at, end), at, DEPTH)
 }
 
 // The element at `place`, over the bytes from there to its parent's end, with so many levels of depth left.
-fn element(bytes: &[u8], place: usize, left: usize, classes: &[u8; 256]) -> Nest
-    requires { ⌜ Lent (now bytes) place (now classes) ⌝ }
+fn element(bytes: &[u8], place: usize, left: usize) -> Nest
+    requires { ⌜ Lent (now bytes) place ⌝ }
     ensures { λ r. ⌜ r ≡ elementOf left place (now (bytes .entry)) ⌝ }
 {
     if left == 0 {
@@ -67,22 +64,22 @@ fn element(bytes: &[u8], place: usize, left: usize, classes: &[u8; 256]) -> Nest
             let end = octets + length;
             let inside = &bytes[octets..end];
             if is_constructed(identifier) {
-                list(inside, place + octets, left - 1, classes)
+                list(inside, place + octets, left - 1)
             } else {
-                primitive(identifier, inside, place, place + end, classes)
+                primitive(identifier, inside, place, place + end)
             }
         }
     }
 }
 
 // The elements from `place` on, one after the other, up to the first fault.
-fn list(bytes: &[u8], place: usize, left: usize, classes: &[u8; 256]) -> Nest
-    requires { ⌜ Lent (now bytes) place (now classes) ⌝ }
+fn list(bytes: &[u8], place: usize, left: usize) -> Nest
+    requires { ⌜ Lent (now bytes) place ⌝ }
     ensures { λ r. ⌜ r ≡ listOf (elementOf left) (length (now (bytes .entry))) place (now (bytes .entry)) ⌝ }
 {
     let mut at = 0;
     while at < bytes.len() {
-        match element(&bytes[at..], place + at, left, classes) {
+        match element(&bytes[at..], place + at, left) {
             Nest::End(end) => at = end - place,
             Nest::Fault {
                 number,
@@ -101,11 +98,10 @@ fn list(bytes: &[u8], place: usize, left: usize, classes: &[u8; 256]) -> Nest
 }
 
 // A primitive element at `place`, which its content ends at `end`.
-fn primitive(id: u8, content: &[u8], place: usize, end: usize, classes: &[u8; 256]) -> Nest
-    requires { ⌜ Classes (now classes) ⌝ }
+fn primitive(id: u8, content: &[u8], place: usize, end: usize) -> Nest
     ensures { λ r. ⌜ r ≡ primitiveOf place end id (now (content .entry)) ⌝ }
 {
-    if content::holds(id, content, classes) {
+    if content::holds(id, content) {
         Nest::End(end)
     } else {
         Nest::Fault {

@@ -28,8 +28,8 @@ bit-string-requires c κs = search needs
 object-identifier-requires : tie.Need-object-identifier-requires
 object-identifier-requires c κs = search needs
 
-text-requires : tie.Need-text-requires
-text-requires c κs = search needs
+is-text-requires : tie.Need-is-text-requires
+is-text-requires c κs = search needs
 
 returns : tie.Need-returns
 unfolding holds
@@ -54,7 +54,7 @@ returns-5 c = rw (c .before .match .keys5) (c .object-identifier .ensures)
 
 returns-6 : tie.Need-returns-6
 unfolding holds
-returns-6 c = rw (c .before .match .keys6) (c .text .ensures)
+returns-6 c = rw (c .before .match .keys6) (c .is-text .ensures)
 
 returns-7 : tie.Need-returns-7
 unfolding holds
@@ -79,7 +79,7 @@ holds-spec =
     integer-requires
     bit-string-requires
     object-identifier-requires
-    text-requires
+    is-text-requires
     returns
     returns-2
     returns-3

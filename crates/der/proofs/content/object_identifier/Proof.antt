@@ -1,84 +1,45 @@
--- `der::content::object_identifier` meets its contract: the rule for the octets that are left, behind the octet before
--- them, answers as that for the whole content. The measure is how many are left. Assumes nothing.
-use Prim.Native.Nat.{ℕ, _+_, _-_, _≤_, _<_}
-use mathlib.Core.Bool.{Bool, true, false, _&&_}
-use mathlib.Core.List.{List, [], _∷_}
-use mathlib.Core.Path.{_≡_, refl, sym, ap, _∙_}
+-- `der::content::object_identifier` meets its contract: without an octet 80 the last octet decides. Assumes nothing.
+use mathlib.Core.Path.{sym, ap}
 use borrow.Author.Needs.{needs}
-use native.Mathlib.Numerals.{add-one}
-use lib.Dec.{ltb, eqb}
-use lib.ListN.{length, getD, drop, drop-of-length-le}
-use lib.Seq.{drop-cons}
-use Rattle.der.specs.Content.{lastOf, unpadded, objectIdentifier}
+use native.Mathlib.Omega.{arith}
+use Rattle.der.specs.Content.{objectIdentifier}
+use Rattle.der.proofs.ContentRules.{identifier-plain}
 use Rattle.der.proofs.Ends.{none}
 use Rattle.der.proofs.content.object_identifier.Statement.{statement}
 use Rattle.der.proofs.content.object_identifier.Tie as tie
 
--- the rule for the octets behind `before`
-unfoldable rest : ℕ → List ℕ → Bool
-rest before bs = unpadded before bs && ltb (lastOf before bs) 0x80
-
-whole : (bs : List ℕ) → (length bs ≡ 0 → ⊥) → rest 0 bs ≡ objectIdentifier bs
-unfolding rest objectIdentifier lastOf
-whole [] h = absurd (h refl)
-whole (b ∷ bs) h = refl
-
-module _ (before i : ℕ) (bs : List ℕ) (h : i < length bs) where
-  next : ltb before 0x80 && eqb (getD bs i 0) 0x80 ≡ false → rest before (drop i bs) ≡ rest (getD bs i 0) (drop (i + 1) bs)
-  unfolding rest unpadded lastOf
-  next t = rw (add-one, drop-cons bs i 0) (simp t)
-
-  padded : ltb before 0x80 && eqb (getD bs i 0) 0x80 ≡ true → rest before (drop i bs) ≡ false
-  unfolding rest unpadded lastOf
-  padded t = rw (drop-cons bs i 0) (simp t)
-
-over : (before : ℕ) → rest before [] ≡ ltb before 0x80
-unfolding rest unpadded lastOf
-over before = refl
-
-abbrev Inv-loop : tie.InvT-loop
-Inv-loop content before₀ i₀ before i = (i ≤ length content) × (rest before (drop i content) ≡ objectIdentifier content)
-
-abbrev μ-loop : tie.MeasureT-loop
-μ-loop content before₀ i₀ before i = length content - i
-
-returns : tie.Need-returns Inv-loop μ-loop
+returns : tie.Need-returns
 unfolding objectIdentifier
-returns c = sym (ap objectIdentifier (none (c .before .args .content .now) (c .if1 .taken)))
+returns c = sym (ap objectIdentifier (none (c .before .before .args .content .now) (c .if1 .taken)))
 
-loop-holds : tie.Need-loop-holds Inv-loop μ-loop
-loop-holds c = (search needs, whole _ (c .if1 .left))
+plain-requires : tie.Need-plain-requires
+plain-requires c κs = search needs
 
-shared-slice-read-octet : tie.Need-shared-slice-read-octet Inv-loop μ-loop
-shared-slice-read-octet c = search needs
+sub-result : tie.Need-sub-result
+sub-result c = search needs
 
-returns-2 : tie.Need-returns-2 Inv-loop μ-loop
-returns-2 c = sym (padded _ _ _ (c .before .before .loop-test .taken) (c .if2 .taken)) ∙ c .before .before .before .loop .inv .1
+shared-slice-read-result : tie.Need-shared-slice-read-result
+shared-slice-read-result c = search needs
 
-add-i : tie.Need-add-i Inv-loop μ-loop
-add-i c = search needs
+returns-2 : tie.Need-returns-2
+returns-2 c =
+    let p = c .before .before in
+    identifier-plain (p .before .before .before .args .content .now) (omega arith) (p .plain .ensures (c .before .if2 .taken))
 
-loop-less : tie.Need-loop-less Inv-loop μ-loop
-loop-less c = search needs
+parted-requires : tie.Need-parted-requires
+parted-requires c κs = search needs
 
-loop-again : tie.Need-loop-again Inv-loop μ-loop
-loop-again c = (search needs, sym (next _ _ _ (c .before .before .loop-test .taken) (c .if2 .left)) ∙ c .before .before .before .loop .inv .1)
-
-returns-3 : tie.Need-returns-3 Inv-loop μ-loop
-returns-3 c =
-    sym (over _) ∙ sym (ap (rest _) (drop-of-length-le _ (c .loop-test .left))) ∙ c .before .loop .inv .1
+returns-3 : tie.Need-returns-3
+returns-3 c = search needs
 
 pub object-identifier-spec : {M : Type 1} → statement M
 object-identifier-spec =
     tie.close
     (tie.spec
-    Inv-loop
-    μ-loop
     returns
-    loop-holds
-    shared-slice-read-octet
+    plain-requires
+    sub-result
+    shared-slice-read-result
     returns-2
-    add-i
-    loop-less
-    loop-again
+    parted-requires
     returns-3)

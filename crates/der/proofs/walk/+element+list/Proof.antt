@@ -28,34 +28,34 @@ use Rattle.der.proofs.walk.+element+list.Lts-element as element-lts
 use Rattle.der.proofs.walk.+element+list.Lts-list as list-lts
 use Rattle.der.proofs.walk.+element+list.Tie.{close}
 
-abbrev μ-element : Measures 2 element-kinds.ps ℕ
+abbrev μ-element : Measures 1 element-kinds.ps ℕ
 μ-element κs a = 2 * (length (now (a .0)) + a .1 .1 .0)
 
-abbrev μ-list : Measures 2 list-kinds.ps ℕ
+abbrev μ-list : Measures 1 list-kinds.ps ℕ
 μ-list κs a = 2 * (length (now (a .0)) + a .1 .1 .0) + 1
 
 -- the answer from `at` on is the whole list's
 abbrev list-Inv-loop : list-lts.InvT-loop
-list-Inv-loop bytes place left classes at₀ at =
+list-Inv-loop bytes place left at₀ at =
     (at ≤ length bytes)
     × (From left place bytes at ≡ listOf (elementOf left) (length bytes) place bytes)
 
 abbrev list-μ-loop : list-lts.MeasureT-loop
-list-μ-loop bytes place left classes at₀ at = length bytes - at
+list-μ-loop bytes place left at₀ at = length bytes - at
 
 -- With the measure t: what holds before a call of that measure, and before one of a lower.
 module _ (t : ℕ) where
-  abbrev element-at : In 2 element-kinds.ps
-  element-at = and 2 element-kinds.ps (is 2 element-kinds.ps μ-element t) element.Pre
+  abbrev element-at : In 1 element-kinds.ps
+  element-at = and 1 element-kinds.ps (is 1 element-kinds.ps μ-element t) element.Pre
 
-  abbrev element-below : In 2 element-kinds.ps
-  element-below = and 2 element-kinds.ps (falls 2 element-kinds.ps _<_ μ-element t) element.Pre
+  abbrev element-below : In 1 element-kinds.ps
+  element-below = and 1 element-kinds.ps (falls 1 element-kinds.ps _<_ μ-element t) element.Pre
 
-  abbrev list-at : In 2 list-kinds.ps
-  list-at = and 2 list-kinds.ps (is 2 list-kinds.ps μ-list t) list.Pre
+  abbrev list-at : In 1 list-kinds.ps
+  list-at = and 1 list-kinds.ps (is 1 list-kinds.ps μ-list t) list.Pre
 
-  abbrev list-below : In 2 list-kinds.ps
-  list-below = and 2 list-kinds.ps (falls 2 list-kinds.ps _<_ μ-list t) list.Pre
+  abbrev list-below : In 1 list-kinds.ps
+  list-below = and 1 list-kinds.ps (falls 1 list-kinds.ps _<_ μ-list t) list.Pre
 
   -- what `element` knows of the functions that it calls
   abbrev element-calls : element-lts.Claims
@@ -136,7 +136,7 @@ module _ (t : ℕ) where
       omega (arith, fits d, d .before .before .before .before .before .pre .1 .placed)
 
   element-primitive-requires : element-lts.Need-primitive-requires element-calls element-at element.Post
-  element-primitive-requires c κs = c .before .before .before .before .before .before .before .before .before .pre .1 .table
+  element-primitive-requires c κs = tt
 
   element-returns-2 : element-lts.Need-returns-2 element-calls element-at element.Post
   element-returns-2 c =
@@ -225,8 +225,8 @@ module _ (t : ℕ) where
       (sym (d .element .ensures) ∙ c .before .number .given .1))
       ∙ loop .loop .inv .1
 
-  list-add-t17 : list-lts.Need-add-t17 list-calls list-at list.Post list-Inv-loop list-μ-loop
-  list-add-t17 c = omega (arith, c .before .before .before .pre .1 .placed)
+  list-add-t16 : list-lts.Need-add-t16 list-calls list-at list.Post list-Inv-loop list-μ-loop
+  list-add-t16 c = omega (arith, c .before .before .before .pre .1 .placed)
 
   list-returns-2 : list-lts.Need-returns-2 list-calls list-at list.Post list-Inv-loop list-μ-loop
   list-returns-2 c =
@@ -267,5 +267,5 @@ pub +element+list-spec : {M : Type 1} → statement M
     (list-loop-again t)
     (list-enum-known-number t)
     (list-returns t)
-    (list-add-t17 t)
+    (list-add-t16 t)
     (list-returns-2 t))

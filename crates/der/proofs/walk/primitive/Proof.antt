@@ -8,8 +8,8 @@ use Rattle.der.proofs.walk.primitive.Tie as tie
 holds-requires : tie.Need-holds-requires
 holds-requires c κs = search needs
 
-cast-t9 : tie.Need-cast-t9
-cast-t9 c = search needs
+cast-t8 : tie.Need-cast-t8
+cast-t8 c = search needs
 
 returns : tie.Need-returns
 returns c =
@@ -22,4 +22,4 @@ returns-2 c =
     sym (value-unkept (a .place) (a .end) (a .id) (a .content .now) (sym (c .before .holds .ensures) ∙ c .if1 .left))
 
 pub primitive-spec : {M : Type 1} → statement M
-primitive-spec = tie.close (tie.spec holds-requires cast-t9 returns returns-2)
+primitive-spec = tie.close (tie.spec holds-requires cast-t8 returns returns-2)

@@ -1,0 +1,336 @@
+-- The laws of octets without a fault: a list of elements by its first and those behind it, an element by its content, and the walk over
+-- a whole input that is one element. Assumes nothing.
+use Prim.Native.Nat.{ℕ, zero, suc, _+_, _-_, _≤_, _<_}
+use mathlib.Core.Path.{_≡_, refl, sym, ap, _∙_, subst}
+use mathlib.Core.Bool.{Bool, true, false, _&&_, _||_, false≢true, and-eq-true-iff}
+use mathlib.Core.List.{List, [], _∷_}
+use native.Mathlib.Nat.{add-zero, add-assoc}
+use native.Mathlib.Omega.{arith}
+use lib.Dec.{leb, eqb}
+use lib.ListN.{length, take, drop, getD, length-drop}
+use lib.Seq.{slice, drop-length}
+use borrow.Author.Tests.{le-leb, leb-true, leb-false}
+use Rattle.der.specs.declared.header.Head.{Head}
+use Rattle.der.specs.declared.header.Head.the-variants.{Stands, Broken}
+use Rattle.der.specs.declared.walk.Nest.{Nest}
+use Rattle.der.specs.declared.walk.Nest.the-variants.{End, Fault}
+use Rattle.der.specs.Identifier.{allowed, constructed}
+use Rattle.der.specs.Header.{headOf}
+use Rattle.der.specs.Content.{integer, bitString, objectIdentifier, holds}
+use Rattle.der.specs.Utf8.{utf8}
+use Rattle.der.specs.Span.{spanOf}
+use Rattle.der.specs.Sound.{faultless, soundOf, wholeOf}
+use Rattle.der.specs.Tree.{none, Single}
+use Rattle.der.specs.Reading.{tree}
+use Rattle.der.specs.Walk.{listOf, primitiveOf, elementOf, depth, longest, walkAt}
+use Rattle.der.proofs.HeaderWays.{refused}
+use Rattle.der.proofs.Parts.{take-drop, length-part}
+use Rattle.der.proofs.Progress.{element-end, element-progress, elements-next, list-enough}
+use Rattle.der.proofs.Readings.{tree-end, tree-step}
+use Rattle.der.proofs.Spans.{span-fits, span-stands, span-broken, span-tree}
+use Rattle.der.proofs.Steps.{element-broken, element-inside, element-value, value-kept, value-unkept, list-stop, end-fault, walk-whole, walk-long}
+
+-- an answer so many bytes further on
+abbrev shifted : ℕ → Nest → Nest
+shifted d (End q) = End (d + q)
+shifted d (Fault m q k) = Fault m (d + q) k
+
+-- it has a fault where the answer has
+shifted-faultless : (d : ℕ) (r : Nest) → faultless (shifted d r) ≡ faultless r
+shifted-faultless d (End q) = refl
+shifted-faultless d (Fault m q k) = refl
+
+-- a list further on has the same answer, further on, if each element has
+list-shifted : (judge : ℕ → List ℕ → Nest) → ((d p : ℕ) (bs : List ℕ) → judge (d + p) bs ≡ shifted d (judge p bs))
+    → (n d p : ℕ) (bs : List ℕ) → listOf judge n (d + p) bs ≡ shifted d (listOf judge n p bs)
+unfolding listOf
+list-shifted judge moves zero d p bs = refl
+list-shifted judge moves (suc n) d p [] = refl
+list-shifted judge moves (suc n) d p (b ∷ bs) =
+    ap (λ (r : Nest). elim r as (λ _. Nest) [ End q ↦ listOf judge n q (drop (q - (d + p)) (b ∷ bs)) | Fault m q k ↦ Fault m q k ]) (moves d p (b ∷ bs))
+    ∙ go (list-shifted judge moves n d) (judge p (b ∷ bs))
+  where
+    go : ((q : ℕ) (cs : List ℕ) → listOf judge n (d + q) cs ≡ shifted d (listOf judge n q cs))
+        → (r : Nest) → elim (shifted d r) as (λ _. Nest) [ End q ↦ listOf judge n q (drop (q - (d + p)) (b ∷ bs)) | Fault m q k ↦ Fault m q k ]
+        ≡ shifted d (elim r as (λ _. Nest) [ End q ↦ listOf judge n q (drop (q - p) (b ∷ bs)) | Fault m q k ↦ Fault m q k ])
+    go rest (End q) =
+        let same : d + q - (d + p) ≡ q - p = omega arith in
+        ap (λ (k : ℕ). listOf judge n (d + q) (drop k (b ∷ bs))) same ∙ rest q (drop (q - p) (b ∷ bs))
+    go rest (Fault m q k) = refl
+
+-- a primitive element further on
+value-shifted : (d p q id : ℕ) (c : List ℕ) → primitiveOf (d + p) (d + q) id c ≡ shifted d (primitiveOf p q id c)
+value-shifted d p q id c = go (holds id c) refl
+  where
+    go : (t : Bool) → holds id c ≡ t → primitiveOf (d + p) (d + q) id c ≡ shifted d (primitiveOf p q id c)
+    go true e = value-kept (d + p) (d + q) id c e ∙ ap (shifted d) (sym (value-kept p q id c e))
+    go false e = value-unkept (d + p) (d + q) id c e ∙ ap (shifted d) (sym (value-unkept p q id c e))
+
+-- an element further on has the same answer, further on
+element-shifted : (left d p : ℕ) (bs : List ℕ) → elementOf left (d + p) bs ≡ shifted d (elementOf left p bs)
+unfolding elementOf
+element-shifted zero d p bs = refl
+element-shifted (suc left) d p bs = by-head (headOf bs) refl (element-shifted left)
+  where
+    content : (id h n : ℕ) → headOf bs ≡ Stands id h n → ((d p : ℕ) (cs : List ℕ) → elementOf left (d + p) cs ≡ shifted d (elementOf left p cs))
+        → (t : Bool) → constructed id ≡ t → elementOf (suc left) (d + p) bs ≡ shifted d (elementOf (suc left) p bs)
+    content id h n e inside true f =
+        let c = take n (drop h bs) in
+        element-inside left (d + p) bs e f
+        ∙ ap (λ (x : ℕ). listOf (elementOf left) n x c) (add-assoc d p h)
+        ∙ list-shifted (elementOf left) inside n d (p + h) c
+        ∙ ap (shifted d) (sym (element-inside left p bs e f))
+    content id h n e inside false f =
+        let c = take n (drop h bs) in
+        let end : d + p + h + n ≡ d + (p + h + n) = omega arith in
+        element-value left (d + p) bs e f
+        ∙ ap (λ (x : ℕ). primitiveOf (d + p) x id c) end
+        ∙ value-shifted d p (p + h + n) id c
+        ∙ ap (shifted d) (sym (element-value left p bs e f))
+
+    by-head : (x : Head) → headOf bs ≡ x → ((d p : ℕ) (cs : List ℕ) → elementOf left (d + p) cs ≡ shifted d (elementOf left p cs))
+        → elementOf (suc left) (d + p) bs ≡ shifted d (elementOf (suc left) p bs)
+    by-head (Broken n k) e inside = element-broken left (d + p) bs e ∙ ap (shifted d) (sym (element-broken left p bs e))
+    by-head (Stands id h n) e inside = content id h n e inside (constructed id) refl
+
+-- octets that are not too many are sound exactly where the list of elements has no fault, at any place and with any count that is enough
+sound-listed : (left n p : ℕ) (bs : List ℕ) → length bs ≤ longest → length bs ≤ n → soundOf left bs ≡ faultless (listOf (elementOf left) n p bs)
+unfolding soundOf
+sound-listed left n p bs short enough =
+    rw (soundOf, le-leb (length bs) longest short)
+    (sym (ap (λ (x : ℕ). faultless (listOf (elementOf left) n x bs)) (sym (add-zero p))
+    ∙ ap faultless (list-shifted (elementOf left) (element-shifted left) n p 0 bs)
+    ∙ shifted-faultless p (listOf (elementOf left) n 0 bs)
+    ∙ ap faultless (list-enough (elementOf left) (element-progress left) n 0 bs enough (length bs) (omega arith))))
+
+-- no octets are sound
+pub sound-none : (left : ℕ) → soundOf left [] ≡ true
+unfolding soundOf listOf
+sound-none left = refl
+
+-- sound octets are not too many
+pub sound-short : (left : ℕ) (bs : List ℕ) → soundOf left bs ≡ true → length bs ≤ longest
+unfolding soundOf
+sound-short left bs sound = leb-true (length bs) longest (and-eq-true-iff (leb (length bs) longest) (faultless (listOf (elementOf left) (length bs) 0 bs)) .0 sound .0)
+
+-- octets that are not sound where they are not too many are not sound
+bounded : (left : ℕ) (bs : List ℕ) → (length bs ≤ longest → soundOf left bs ≡ false) → soundOf left bs ≡ false
+unfolding soundOf
+bounded left bs lost = go (leb (length bs) longest) refl
+  where
+    go : (t : Bool) → leb (length bs) longest ≡ t → soundOf left bs ≡ false
+    go true e = lost (leb-true (length bs) longest e)
+    go false e = rw (soundOf, e)
+
+-- octets that are too many are not sound
+pub sound-long : (left : ℕ) (bs : List ℕ) → longest < length bs → soundOf left bs ≡ false
+sound-long left bs long = bounded left bs (λ short. absurd (omega arith))
+
+-- octets whose first element has a fault are not sound
+sound-fault : (left : ℕ) (bs : List ℕ) {m q k : ℕ} → 0 < length bs → length bs ≤ longest → elementOf left 0 bs ≡ Fault m q k → soundOf left bs ≡ false
+sound-fault left bs some short faulty =
+    sound-listed left (length bs) 0 bs short (omega arith) ∙ ap faultless (list-stop (elementOf left) (length bs) 0 bs some (omega arith) faulty)
+
+-- without a level of depth left no octets are sound
+pub sound-deep : (bs : List ℕ) → 0 < length bs → soundOf 0 bs ≡ false
+unfolding elementOf
+sound-deep bs some = bounded 0 bs (λ short. sound-fault 0 bs {m = 6} {q = 0} {k = 0} some short refl)
+
+-- octets that begin with no span are not sound
+pub sound-lost : (left : ℕ) (bs : List ℕ) → 0 < length bs → spanOf bs .octets ≡ 0 → soundOf left bs ≡ false
+sound-lost zero bs some lost = sound-deep bs some
+sound-lost (suc left) bs some lost =
+    bounded (suc left) bs
+    (λ short. (let x = span-broken bs short lost in sound-fault (suc left) bs some short (element-broken left 0 bs (x .2))))
+
+-- octets are sound where the first element has no fault and the octets behind it are sound
+sound-first : (left e : ℕ) (bs : List ℕ) → 0 < length bs → length bs ≤ longest → ((q : ℕ) → elementOf left 0 bs ≡ End q → q ≡ e)
+    → soundOf left bs ≡ (faultless (elementOf left 0 bs) && soundOf left (drop e bs))
+sound-first left e bs some short ends = go (elementOf left 0 bs) refl
+  where
+    go : (r : Nest) → elementOf left 0 bs ≡ r → soundOf left bs ≡ (faultless r && soundOf left (drop e bs))
+    go (Fault m q k) f = sound-fault left bs some short f
+    go (End q) f =
+        let size = length-drop e bs in
+        let same : q - 0 ≡ e = omega (arith, ends q f) in
+        sound-listed left (length bs) 0 bs short (omega arith)
+        ∙ ap faultless (elements-next left (length bs) 0 bs (omega arith) q some f)
+        ∙ ap (λ (k : ℕ). faultless (listOf (elementOf left) (length bs) q (drop k bs))) same
+        ∙ sym (sound-listed left (length bs) q (drop e bs) (omega arith) (omega arith))
+
+-- an element with an identifier that is not allowed has a fault
+pub whole-wrong : (id left : ℕ) (c : List ℕ) → allowed id ≡ false → wholeOf id left c ≡ false
+unfolding wholeOf
+whole-wrong id left c wrong = rw (wholeOf, wrong)
+
+-- a constructed element has none where the list inside it has none
+pub whole-inside : (id left : ℕ) (c : List ℕ) → allowed id ≡ true → constructed id ≡ true → wholeOf id left c ≡ soundOf left c
+unfolding wholeOf
+whole-inside id left c known made = rw (wholeOf, known) (rw made)
+
+-- a primitive element has none where its content keeps its rule
+pub whole-value : (id left : ℕ) (c : List ℕ) → allowed id ≡ true → constructed id ≡ false → wholeOf id left c ≡ holds id c
+unfolding wholeOf
+whole-value id left c known plain = rw (wholeOf, known) (rw plain)
+
+-- a primitive element's answer is its content's
+value-faultless : (p q id : ℕ) (c : List ℕ) → faultless (primitiveOf p q id c) ≡ holds id c
+value-faultless p q id c = go (holds id c) refl
+  where
+    go : (t : Bool) → holds id c ≡ t → faultless (primitiveOf p q id c) ≡ t
+    go true e = ap faultless (value-kept p q id c e)
+    go false e = ap faultless (value-unkept p q id c e)
+
+-- The element that a span gives, in octets that are not too many.
+module _ (left : ℕ) (bs : List ℕ) (short : length bs ≤ longest) (some : spanOf bs .octets ≡ 0 → ⊥) where
+  abbrev identifier : ℕ
+  identifier = getD bs 0 0
+
+  abbrev front : ℕ
+  front = spanOf bs .octets
+
+  abbrev size : ℕ
+  size = spanOf bs .length
+
+  -- with an identifier that is not allowed it has a fault
+  stopped : allowed identifier ≡ false → elementOf (suc left) 0 bs ≡ Fault 3 0 0
+  stopped wrong = element-broken left 0 bs (sym (refused bs (omega (arith, span-fits bs some)) wrong))
+
+  -- it ends where the span says
+  ends : (q : ℕ) → elementOf (suc left) 0 bs ≡ End q → q ≡ front + size
+  ends q e = by-id (allowed identifier) refl
+    where
+      by-id : (t : Bool) → allowed identifier ≡ t → q ≡ front + size
+      by-id false wrong = end-fault e (stopped wrong)
+      by-id true known =
+          let d = element-end left 0 q bs e in
+          let same : Stands (d .identifier) (d .before) (d .size) ≡ Stands identifier front size = sym (d .stands) ∙ span-stands bs some known in
+          let before : d .before ≡ front = cc in
+          let long : d .size ≡ size = cc in
+          omega (arith, d .ends)
+
+  -- constructed or primitive, it has no fault where its content has none
+  element-content : allowed identifier ≡ true → (t : Bool) → constructed identifier ≡ t
+      → faultless (elementOf (suc left) 0 bs) ≡ wholeOf identifier left (take size (drop front bs))
+  element-content known true made =
+      let c = take size (drop front bs) in
+      let long = length-part bs front size (span-fits bs some .1) in
+      ap faultless (element-inside left 0 bs (span-stands bs some known) made)
+      ∙ sym (sound-listed left size (0 + front) c (omega (arith, span-fits bs some)) (omega arith))
+      ∙ sym (whole-inside identifier left c known made)
+  element-content known false plain =
+      let c = take size (drop front bs) in
+      ap faultless (element-value left 0 bs (span-stands bs some known) plain)
+      ∙ value-faultless 0 (0 + front + size) identifier c
+      ∙ sym (whole-value identifier left c known plain)
+
+  -- it has no fault where its identifier and its content have none
+  element-whole : (t : Bool) → allowed identifier ≡ t → faultless (elementOf (suc left) 0 bs) ≡ wholeOf identifier left (slice front (front + size) bs)
+  element-whole true known = element-content known (constructed identifier) refl ∙ ap (wholeOf identifier left) (take-drop size front bs)
+  element-whole false wrong = ap faultless (stopped wrong) ∙ sym (whole-wrong identifier left (slice front (front + size) bs) wrong)
+
+  -- the octets are sound where it has no fault and the octets behind it are sound
+  pub sound-step : soundOf (suc left) bs ≡ (wholeOf (getD bs 0 0) left (slice (spanOf bs .octets) (spanOf bs .octets + spanOf bs .length) bs)
+      && soundOf (suc left) (drop (spanOf bs .octets + spanOf bs .length) bs))
+  sound-step =
+      sound-first (suc left) (front + size) bs (omega (arith, span-fits bs some)) short ends
+      ∙ ap (λ (b : Bool). b && soundOf (suc left) (drop (front + size) bs)) (element-whole (allowed identifier) refl)
+
+-- an INTEGER's rule
+pub holds-integer : (c : List ℕ) → holds 0x02 c ≡ integer c
+unfolding holds
+holds-integer c = refl
+
+-- a BIT STRING's rule
+pub holds-bit-string : (c : List ℕ) → holds 0x03 c ≡ bitString c
+unfolding holds
+holds-bit-string c = refl
+
+-- an OBJECT IDENTIFIER's rule
+pub holds-object-identifier : (c : List ℕ) → holds 0x06 c ≡ objectIdentifier c
+unfolding holds
+holds-object-identifier c = refl
+
+-- a UTF8String's rule
+pub holds-utf8 : (c : List ℕ) → holds 0x0C c ≡ utf8 c
+unfolding holds
+holds-utf8 c = refl
+
+-- whether an identifier asks a rule of its content
+abbrev pub ruled : ℕ → Bool
+ruled id = eqb id 0x01 || (eqb id 0x02 || (eqb id 0x03 || (eqb id 0x05 || (eqb id 0x06 || (eqb id 0x0A || eqb id 0x0C)))))
+
+-- a test of several that all fail goes on with those behind the first
+otherwise : (a b x y : Bool) → (a || b) ≡ false → (b ≡ false → y ≡ true) → elim a [ true ↦ x | false ↦ y ] ≡ true
+otherwise true b x y free on = absurd (false≢true (sym free))
+otherwise false b x y free on = on free
+
+-- one that asks none leaves the content free
+pub holds-free : (id : ℕ) (c : List ℕ) → ruled id ≡ false → holds id c ≡ true
+unfolding holds
+holds-free id c free =
+    otherwise (eqb id 0x01) _ _ _ free
+    (λ f1. otherwise (eqb id 0x02) _ _ _ f1
+    (λ f2. otherwise (eqb id 0x03) _ _ _ f2
+    (λ f3. otherwise (eqb id 0x05) _ _ _ f3
+    (λ f4. otherwise (eqb id 0x06) _ _ _ f4
+    (λ f5. otherwise (eqb id 0x0A) _ _ _ f5
+    (λ f6. rw f6))))))
+
+-- where no element is read, no octet stands
+tree-empty : (p : ℕ) (bs : List ℕ) → tree p bs ≡ none → length bs ≡ 0
+tree-empty p [] e = refl
+tree-empty p (b ∷ bs) e = let f = sym (tree-step p b bs) ∙ e in (let z : _≡_ {A = ℕ} 0 1 = cc in absurd (omega arith))
+
+-- sound octets that are not none begin with a span, and its identifier is allowed
+sound-span : (left : ℕ) (bs : List ℕ) → 0 < length bs → soundOf left bs ≡ true → spanOf bs .octets ≡ 0 → ⊥
+sound-span left bs some sound lost = false≢true (sym (sound-lost left bs some lost) ∙ sound)
+
+module _ (left : ℕ) (bs : List ℕ) (some : 0 < length bs) (sound : soundOf (suc left) bs ≡ true) where
+  -- the first element of sound octets has no fault
+  first-whole : wholeOf (getD bs 0 0) left (slice (spanOf bs .octets) (spanOf bs .octets + spanOf bs .length) bs) ≡ true
+  first-whole =
+      and-eq-true-iff (wholeOf (getD bs 0 0) left (slice (spanOf bs .octets) (spanOf bs .octets + spanOf bs .length) bs)) _ .0
+      (sym (sound-step left bs (sound-short (suc left) bs sound) (sound-span (suc left) bs some sound)) ∙ sound) .0
+
+  -- its identifier is allowed
+  first-allowed : (t : Bool) → allowed (getD bs 0 0) ≡ t → allowed (getD bs 0 0) ≡ true
+  first-allowed true e = e
+  first-allowed false e = absurd (false≢true (sym (whole-wrong (getD bs 0 0) left _ e) ∙ first-whole))
+
+  -- if it is the only one, the span and its content are all of them
+  first-all : Single (tree 0 bs) → length bs ≡ spanOf bs .octets + spanOf bs .length
+  first-all single =
+      let short = sound-short (suc left) bs sound in
+      let there = sound-span (suc left) bs some sound in
+      let e = span-tree 0 bs short there (first-allowed (allowed (getD bs 0 0)) refl) in
+      let alone = tree-empty _ _ (subst Single e single) in
+      omega (arith, span-fits bs there, length-drop (spanOf bs .octets + spanOf bs .length) bs, alone)
+
+  -- then the walk over it ends with them
+  first-ends : Single (tree 0 bs) → (r : Nest) → elementOf (suc left) 0 bs ≡ r → r ≡ End (length bs)
+  first-ends single (End q) e =
+      ap End (ends left bs (sound-short (suc left) bs sound) (sound-span (suc left) bs some sound) q e ∙ sym (first-all single))
+  first-ends single (Fault m q k) e =
+      absurd (false≢true (ap faultless (sym e)
+      ∙ element-whole left bs (sound-short (suc left) bs sound) (sound-span (suc left) bs some sound) (allowed (getD bs 0 0)) refl
+      ∙ first-whole))
+
+-- The walk over a sound input that is a single element ends where the input does.
+pub sound-single : (s : List ℕ) → soundOf depth s ≡ true → Single (tree 0 s) → walkAt s 0 (length s) ≡ End (length s)
+sound-single [] sound single = absurd (subst Single (tree-end 0) single)
+sound-single (b ∷ bs) sound single =
+    walk-whole (b ∷ bs) (sound-short depth (b ∷ bs) sound)
+    ∙ first-ends 19 (b ∷ bs) (omega arith) sound single (elementOf depth 0 (b ∷ bs)) refl
+
+-- The walk over an input ends where the input does: the input is sound.
+pub single-sound : (s : List ℕ) → walkAt s 0 (length s) ≡ End (length s) → soundOf depth s ≡ true
+single-sound s is = go (leb (length s) longest) refl
+  where
+    go : (t : Bool) → leb (length s) longest ≡ t → soundOf depth s ≡ true
+    go false e = end-fault is (walk-long s 0 (length s) (leb-false (length s) longest e))
+    go true e =
+        let short = leb-true (length s) longest e in
+        let whole = sym (walk-whole s short) ∙ is in
+        sound-first depth (length s) s (omega (arith, element-progress depth 0 (length s) s whole)) short (λ q ends. cc)
+        ∙ rw (whole, drop-length s, sound-none depth)
