@@ -59,8 +59,8 @@ def files():
 
 def modelled(room, octets):
     """The lines of the model's answer."""
-    stop, met = grammar_model.walk(octets, {1, 2})
-    if stop:
+    met = next((met for stop, met in (grammar_model.walk(octets, {edition}) for edition in (1, 2)) if not stop), None)
+    if met is None:
         return ["-"]
     if room < 4 * len(met.rows):
         return ["too short, the table unchanged"]

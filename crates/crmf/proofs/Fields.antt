@@ -1,6 +1,6 @@
 -- What the fields of the packed table's words say of the grammar's lines. A test that is computed at every line holds at the line of any
 -- number, since past the end stands the end line, which is also the first. So each field is one computed test. Assumes nothing.
-use Prim.Native.Nat.{ℕ, _<_, _^_}
+use Prim.Native.Nat.{ℕ, _<_}
 use mathlib.Core.Bool.{Bool, true}
 use mathlib.Core.List.{List}
 use mathlib.Core.Path.{_≡_, refl, ap, _∙_}
@@ -10,14 +10,14 @@ use lib.ListN.{length, getD, List·getD-map}
 use Rattle.crmf.specs.Notation.{order, names}
 use Rattle.crmf.specs.Grammar.{content}
 use Rattle.crmf.specs.Table.{Line, endLine, lines, linesFrom, containerLines, partLines, wayLine, nextLine, formLines, passOf, insideLine, start, startsFrom, size, partSize}
-use Rattle.crmf.specs.Packed.{pack, packed, passCode, identifiersCode, judgeCode, markCode}
-use Rattle.crmf.specs.Packed.{passField, identifiersField, insideField, judgeField, kindField, itemField, markField, nextField}
-use Rattle.crmf.specs.Walk.{line}
+use Rattle.crmf.specs.Packed.{pack, packed, passCode, identifiersCode, judgeCode, markCode, beside, actionOf}
+use Rattle.crmf.specs.Packed.{passField, identifiersField, insideField, judgeField, kindField, itemField, markField, nextField, actionField, rowsField}
+use Rattle.crmf.specs.Walk.{line, rowsBy}
 use Rattle.crmf.proofs.Tests.{all, all-first}
 
 -- the table, to be computed: whoever unfolds it unfolds all that the lines and their words are made of
 unfoldable pub computed : List ℕ
-unfolding packed pack passCode identifiersCode judgeCode markCode lines linesFrom containerLines partLines wayLine nextLine formLines passOf insideLine start startsFrom size partSize order content
+unfolding packed pack beside actionOf passCode identifiersCode judgeCode markCode lines linesFrom containerLines partLines wayLine nextLine formLines passOf insideLine start startsFrom size partSize order content
 computed = packed
 
 -- a test that passes at every line of the table passes at the line of any number
@@ -66,6 +66,14 @@ pub next-at : (k : ℕ) → nextField (getD packed k 0) ≡ line k .next
 unfolding computed
 next-at = field-at nextField (λ x. x .next) refl
 
+pub action-at : (k : ℕ) → actionField (getD packed k 0) ≡ actionOf (line k)
+unfolding computed
+action-at = field-at actionField actionOf refl
+
+pub rows-at : (k : ℕ) → rowsField (getD packed k 0) ≡ rowsBy (line k)
+unfolding computed
+rows-at = field-at rowsField rowsBy refl
+
 -- a number of a line is below a bound, if it is so at every line
 small-at : (f : Line → ℕ) (n : ℕ) → all (λ x. ltb (f x) n) lines ≡ true → (k : ℕ) → f (line k) < n
 small-at f n e k = ltb-true _ _ (at-line (λ x. ltb (f x) n) e k)
@@ -74,13 +82,13 @@ pub next-small : (k : ℕ) → line k .next < 146
 unfolding computed
 next-small = small-at (λ x. x .next) 146 refl
 
-pub inside-small : (k : ℕ) → line k .inside < 146
+pub rows-few : (k : ℕ) → rowsBy (line k) < 3
 unfolding computed
-inside-small = small-at (λ x. x .inside) 146 refl
+rows-few = small-at rowsBy 3 refl
 
-pub word-small : (k : ℕ) → getD packed k 0 < 2 ^ 64
+pub action-small : (k : ℕ) → actionOf (line k) < 15
 unfolding computed
-word-small k = rw word-at (small-at pack (2 ^ 64) refl k)
+action-small = small-at actionOf 15 refl
 
 -- the table has 146 lines, and as many words
 pub lines-count : length lines ≡ 146

@@ -71,6 +71,9 @@
 --     count-whole           of an input that is not too long, counting is the walk over its tree that reads every form (`rows-whole` of rows)
 --     whole-count           the rows that the lines find in it are as many as were counted
 --     whole-long            and their first long certReqId is the one that was met
+--     quick-walk            an input with a quick count is one element, and counting passes with as many rows and nothing to refuse (`Quick`)
+--     walk-quick            conversely, one element that the edition's own walk passes has a quick count, where no row is a long certReqId
+--     quick-stays           a quick reading leaves the table where it counts none, and else fills it (`quick-fills`)
 --     numbers-row           the definitions of rows' numbers and of pieces, one step at a time: `pieces-row`, `own-container`, `own-leaf`,
 --                           `whole-container`, `whole-leaf`, `children-piece`, `assembled-piece`, `within-piece`; and where there is
 --                           nothing, `numbers-none`, `pieces-none`, `children-none`, `assembled-none`, `within-none`
@@ -106,6 +109,9 @@ pub use Rattle.crmf.proofs.MessageSteps.{fieldRead, sequence-read, firs
 pub use Rattle.crmf.proofs.MessageSizes.{ids-some, ids-eight, messages-few}
 pub use Rattle.crmf.proofs.LongIds.{rows-long, walk-long, long-none}
 pub use Rattle.crmf.proofs.WholeInput.{count-whole, rows-whole, whole-count, whole-long}
+pub use Rattle.crmf.proofs.QuickWays.{quick-stays, quick-fills}
+pub use Rattle.crmf.proofs.QuickCounts.{Quick, quick-walk}
+pub use Rattle.crmf.proofs.PassedCounts.{walk-quick}
 pub use Rattle.crmf.proofs.ValueRules.{other-length, same-none, same-more, same-octets, same-itself}
 pub use Rattle.crmf.proofs.PieceLaws.{container-kinds, identifier-of, implied-type, implied-none, pieces-none, pieces-row, own-container, own-leaf}
 pub use Rattle.crmf.proofs.PieceLaws.{whole-container, whole-leaf, children-none, children-piece, assembled-none, assembled-piece}

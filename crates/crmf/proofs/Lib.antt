@@ -1,5 +1,6 @@
 -- The laws of the crate.
 pub mod Accepts
+pub mod Actions
 pub mod AscendingPlaces
 pub mod AssembledOctets
 pub mod Assembly
@@ -7,6 +8,7 @@ pub mod Choices
 pub mod ChoicesMatch
 pub mod Codes
 pub mod Containers
+pub mod CountSteps
 pub mod Differences
 pub mod EveryForm
 pub mod FairMarks
@@ -15,6 +17,7 @@ pub mod FieldSteps
 pub mod Fields
 pub mod FieldsMatch
 pub mod FilledRows
+pub mod FineInsides
 pub mod FirstSeen
 pub mod Judging
 pub mod Laws
@@ -28,12 +31,17 @@ pub mod MessageSteps
 pub mod MessageVectors
 pub mod Names
 pub mod OneEdition
+pub mod PassedCounts
 pub mod Passing
 pub mod PieceLaws
 pub mod PiecesOf
+pub mod QuickCounts
+pub mod QuickSpots
+pub mod QuickWays
 pub mod ReadableSets
 pub mod RowLaws
 pub mod RowVectors
+pub mod Rowless
 pub mod RowsInPlace
 pub mod RowsMoved
 pub mod RowsOfLines
@@ -43,6 +51,7 @@ pub mod Showing
 pub mod ShownParts
 pub mod ShownPieces
 pub mod Slices
+pub mod StepWays
 pub mod TableChecks
 pub mod Tests
 pub mod Tiled

@@ -3,11 +3,11 @@
 use Prim.Native.Nat.{ℕ, _+_}
 use native.Mathlib.Omega.{arith}
 use mathlib.Core.Path.{_≡_, refl, sym, _∙_, ap}
-use mathlib.Core.Bool.{Bool, true, false, _&&_, not}
+use mathlib.Core.Bool.{Bool, true, false, _&&_, not, and-eq-true-iff}
 use mathlib.Core.List.{List, [], _∷_, _++_}
 use lib.Dec.{eqb, ltb}
 use lib.ListN.{length}
-use borrow.Author.Tests.{eqb-true, ltb-true, ne-eqb}
+use borrow.Author.Tests.{eqb-true, eq-eqb, ltb-true, ne-eqb}
 use Rattle.der.specs.Tree.{Tree, none, element}
 use Rattle.crmf.specs.declared.walk.Seen.{Seen}
 use Rattle.crmf.specs.declared.walk.Walked.the-variants.{Passed}
@@ -85,7 +85,7 @@ lengthy-long kind p w s = go (longId kind w && eqb (s .long) 0) refl
     go false t = rw (lengthy, longer, t)
 
 -- what is known with an element in a line's form
-met-long : (x : Line) (p w : ℕ) (s : Seen) → (met x p w s .long, met x p w s .«long_at») ≡ longer (s .long, s .«long_at») (x .kind) p w
+pub met-long : (x : Line) (p w : ℕ) (s : Seen) → (met x p w s .long, met x p w s .«long_at») ≡ longer (s .long, s .«long_at») (x .kind) p w
 unfolding met
 met-long x p w s =
     lengthy-long (x .kind) p w (noted (x .mark) p s) ∙ ap (λ (h : ℕ × ℕ). longer h (x .kind) p w) (noted-long (x .mark) p s)
@@ -178,3 +178,26 @@ long-known h (r ∷ rs) =
 -- Where nothing was known, nothing is known exactly where no row is one.
 pub long-none : (rs : List Row) → eqb (firstLong (0, 0) rs .0) 0 ≡ allShort rs
 long-none rs = long-known (0, 0) rs
+
+-- Where nothing is known behind some rows, nothing was known before them.
+none-before : (s r : Seen) (rs : List Row) → firstLong (known s) rs ≡ known r → r .long ≡ 0 → s .long ≡ 0
+none-before s r rs is zero =
+    let both-none = ap (λ (h : ℕ × ℕ). eqb (h .0) 0) is ∙ eq-eqb (r .long) 0 zero in
+    eqb-true (s .long) 0 (and-eq-true-iff (eqb (s .long) 0) (allShort rs) .0 (sym (long-known (known s) rs) ∙ both-none) .0)
+
+-- Before a walk that passes and has met no long certReqId none was met.
+pub walk-short : (R : ℕ → Bool) (t : Tree) (s r : Seen) (k around : ℕ) → walk R s k around t ≡ Passed r → r .long ≡ 0 → s .long ≡ 0
+walk-short R t s r k around passed = none-before s r (rowsFrom k t 0 0 0 0) (rows-long R t s r k around 0 0 0 0 passed)
+
+-- So it is before an inside.
+pub inner-short : (R : ℕ → Bool) (m r : Seen) (i first : ℕ) (inside : Tree) → innerWalk R m i first inside ≡ Passed r → r .long ≡ 0 → m .long ≡ 0
+inner-short R m r i first inside passed =
+    none-before m r (rowsWithin i inside 0 0 0 0)
+    (inner-long R m r i first inside 0 0 0 0 (rows-long R inside m r i first 0 0 0 0) passed)
+
+-- With an element in a line's form none is known: it is none.
+pub met-short : (x : Line) (p w : ℕ) (s : Seen) → met x p w s .long ≡ 0 → not (longId (x .kind) w) ≡ true
+met-short x p w s zero =
+    let nothing = ap (λ (h : ℕ × ℕ). eqb (h .0) 0 && true) (sym (met-long x p w s)) ∙ ap (λ (n : ℕ). eqb n 0 && true) zero in
+    and-eq-true-iff (not (longId (x .kind) w)) true .0
+    (and-eq-true-iff (eqb (s .long) 0) _ .0 (sym (longer-none (known s) (x .kind) p w true) ∙ nothing) .1) .0

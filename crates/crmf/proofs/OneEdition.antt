@@ -24,7 +24,7 @@ abbrev pub other : ℕ → ℕ
 other e = 3 - e
 
 -- it is an edition
-other-edition : {e : ℕ} → Edition e → Edition (other e)
+pub other-edition : {e : ℕ} → Edition e → Edition (other e)
 other-edition first-edition = second-edition
 other-edition second-edition = first-edition
 

@@ -3,7 +3,6 @@ use Prim.Native.Nat.{ℕ}
 use mathlib.Core.Path.{_≡_, refl}
 use mathlib.Core.List.{List, [], _∷_, _++_, map}
 use Rattle.der.specs.Each.{Each}
-use Rattle.der.specs.Identifier.{constructed, universal, primitiveType, constructedType, universalType, allowed}
 use Rattle.der.specs.Length.{valueFrom, shortest, longForm, lengthOf, base256}
 use Rattle.der.specs.Header.{sizedBy, headOf}
 use Rattle.der.specs.Reading.{given, read, treeOf, tree}
@@ -66,7 +65,7 @@ examples =
 
 -- every example has such rows
 worked : Each Shows examples
-unfolding constructed universal primitiveType constructedType universalType allowed valueFrom shortest longForm lengthOf base256 sizedBy headOf
+unfolding valueFrom shortest longForm lengthOf base256 sizedBy headOf
     given read treeOf tree same number typeNumber selected among named order content
     partSize size startsFrom start insideLine passOf formLines nextLine wayLine partLines containerLines linesFrom lines
     line seekIn seek goes rowsFrom rowsOf numbers
@@ -79,7 +78,7 @@ before more = 7 ∷ 7 ∷ 7 ∷ 7 ∷ 7 ∷ 7 ∷ 7 ∷ 7 ∷ 7 ∷ 7 ∷ 7 ∷ 
 -- "19 and 20 numbers of table for S": one number short the table stays; with room it holds the rows, and the number behind them stays
 tables : map (filled (batch 0x3009300730050201003000) 5) (before [] ∷ before (7 ∷ []) ∷ before (7 ∷ 8 ∷ []) ∷ [])
     ≡ before [] ∷ first 11 9 ∷ (first 11 9 ++ (8 ∷ [])) ∷ []
-unfolding constructed universal primitiveType constructedType universalType allowed valueFrom shortest longForm lengthOf base256 sizedBy headOf
+unfolding valueFrom shortest longForm lengthOf base256 sizedBy headOf
     given read treeOf tree same number typeNumber selected among named order content
     partSize size startsFrom start insideLine passOf formLines nextLine wayLine partLines containerLines linesFrom lines
     line seekIn seek goes rowsFrom rowsOf numbers filled

@@ -96,7 +96,7 @@ rows-one-same kind item p w f g h i n up place whole inner behind =
     (fun-ext (λ j. fun-ext (λ u. inner j u))) (fun-ext behind)
 
 -- an element with no row, whose inside has none
-rows-one-none : (p w : ℕ) (f : ℕ → ℕ → List Row) (h : ℕ → List Row) (n up place whole : ℕ) → ((j u : ℕ) → f j u ≡ [])
+pub rows-one-none : (p w : ℕ) (f : ℕ → ℕ → List Row) (h : ℕ → List Row) (n up place whole : ℕ) → ((j u : ℕ) → f j u ≡ [])
     → rowsOne 0 0 p w f h n up place whole ≡ h n
 unfolding rowsOne
 rows-one-none p w f h n up place whole inner =
@@ -236,7 +236,7 @@ lengthy-count kind p w s = go (longId kind w && eqb (s .long) 0) refl
     go false t = rw (lengthy, t)
 
 -- an element's line counts the rows of its kinds
-met-count : (x : Line) (p w : ℕ) (s : Seen) → met x p w s .count ≡ s .count + (rowsOf (x .item) + rowsOf (x .kind))
+pub met-count : (x : Line) (p w : ℕ) (s : Seen) → met x p w s .count ≡ s .count + (rowsOf (x .item) + rowsOf (x .kind))
 unfolding met
 met-count x p w s =
     ap (λ (n : ℕ). n + (rowsOf (x .item) + rowsOf (x .kind))) (lengthy-count (x .kind) p w (noted (x .mark) p s) ∙ noted-count (x .mark) p s)

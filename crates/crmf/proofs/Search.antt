@@ -1,18 +1,23 @@
 -- The search for an element's line and for a container's end, one line at a time: what a line's codes make of it. Assumes nothing.
-use Prim.Native.Nat.{ℕ, suc, _+_, _<_, _≤_}
-use mathlib.Core.Bool.{Bool, true, false}
+use Prim.Native.Nat.{ℕ, zero, suc, _+_, _<_, _≤_}
+use mathlib.Core.Bool.{Bool, true, false, not, _&&_, _||_, and-eq-true-iff, false≢true}
 use mathlib.Core.List.{List, [], _∷_}
-use mathlib.Core.Path.{_≡_, refl, sym}
+use mathlib.Core.Logic.{⊎-elim}
+use mathlib.Core.Path.{_≡_, refl, sym, _∙_}
 use native.Mathlib.Omega.{arith}
-use lib.Dec.{eqb}
+use native.Mathlib.Numerals.{add-one}
+use borrow.Author.Tests.{eqb-true, eq-eqb, ne-eqb, leb-true, ltb-true, ltb-false, not-true}
+use lib.Dec.{eqb, leb, ltb}
 use lib.ListN.{getD, drop, drop-of-length-le}
 use lib.Seq.{getD-drop, drop-cons}
+use Rattle.der.proofs.Range.{every, each}
 use Rattle.crmf.specs.declared.table.Found.the-variants.{At, Nowhere}
-use Rattle.crmf.specs.Notation.{named}
+use Rattle.crmf.specs.Notation.{Identifiers, octet, generalName, anything, nothing, named}
 use Rattle.crmf.specs.Table.{Pass, ends, needed, another, over, Line, endLine, lines}
-use Rattle.crmf.specs.Packed.{passCode}
+use Rattle.crmf.specs.Packed.{passCode, identifiersCode}
 use Rattle.crmf.specs.Walk.{line, goesOn, seekIn, seek, closedIn, closed}
-use Rattle.crmf.proofs.Fields.{lines-count}
+use Rattle.crmf.proofs.Tests.{either}
+use Rattle.crmf.proofs.Fields.{computed, lines-count}
 
 -- what the code of a line's pass says
 pub stays : (p : Pass) → passCode p < 2 → goesOn p ≡ false
@@ -28,6 +33,28 @@ moves ends h = absurd (omega arith)
 moves needed h = absurd (omega arith)
 moves another h = refl
 moves over h = refl
+
+-- what the code of a line's identifiers says: of a code from 3 on they are the one three below it, and of code 0 they are none
+pub own-code : (i : Identifiers) (id : ℕ) → identifiersCode i ≡ id + 3 → named i id ≡ true
+unfolding identifiersCode named
+own-code (octet a) id e = eq-eqb id a (omega arith)
+own-code generalName id e = absurd (omega arith)
+own-code anything id e = refl
+own-code nothing id e = absurd (omega arith)
+
+pub other-code : (i : Identifiers) (id : ℕ) → 3 ≤ identifiersCode i → (identifiersCode i ≡ id + 3 → ⊥) → named i id ≡ false
+unfolding identifiersCode named
+other-code (octet a) id h n = ne-eqb id a (λ e. n (omega arith))
+other-code generalName id h n = absurd (omega arith)
+other-code anything id h n = absurd (omega arith)
+other-code nothing id h n = absurd (omega arith)
+
+no-code : (i : Identifiers) (id : ℕ) → identifiersCode i ≡ 0 → named i id ≡ false
+unfolding identifiersCode named
+no-code (octet a) id e = absurd (omega arith)
+no-code generalName id e = absurd (omega arith)
+no-code anything id e = absurd (omega arith)
+no-code nothing id e = refl
 
 ending : (x : Line) (xs : List Line) → passCode (x .pass) < 3 → eqb (passCode (x .pass)) 0 ≡ closedIn (x ∷ xs)
 unfolding closedIn passCode
@@ -102,6 +129,43 @@ module _ (k : ℕ) (h : 146 ≤ k) where
   unfolding closed closedIn
   closed-past = rw (closed, none-left)
 
+-- a line where the search stays and that has no identifier; and the test that such a line is behind each line for identifiers of a code
+-- below 3 that may be passed over
+abbrev bars : Line → Bool
+bars x = eqb (identifiersCode (x .identifiers)) 0 && not (goesOn (x .pass))
+
+abbrev barred : ℕ → Bool
+barred k = leb 3 (identifiersCode (line k .identifiers)) || (not (goesOn (line k .pass)) || ltb (k + 1) 146 && bars (line (k + 1)))
+
+all-barred : every 146 barred ≡ true
+unfolding computed line
+all-barred = refl
+
+-- what the test says of a line
+bar : (k : ℕ) → k < 146 → identifiersCode (line k .identifiers) < 3 → goesOn (line k .pass) ≡ true → (k + 1 < 146) × (bars (line (k + 1)) ≡ true)
+bar k h low on =
+    ⊎-elim (λ (p : leb 3 (identifiersCode (line k .identifiers)) ≡ true). absurd (omega (arith, leb-true 3 (identifiersCode (line k .identifiers)) p)))
+    (λ q. ⊎-elim (λ p. absurd (false≢true (sym (not-true _ p) ∙ on)))
+    (λ p. let (i, b) = and-eq-true-iff _ _ .0 p in (ltb-true _ _ i, b))
+    (either _ _ q))
+    (either _ _ (each 146 barred all-barred k h))
+
+-- at a line for identifiers of a code below 3 the search ends
+pub seek-ends : (k : ℕ) → k < 146 → (id : ℕ) → identifiersCode (line k .identifiers) < 3
+    → (elim (named (line k .identifiers) id) [ true ↦ At k | false ↦ Nowhere ]) ≡ seek k id
+seek-ends k h id low = by-name (named (line k .identifiers) id) refl
+  where
+    by-pass : (b : Bool) → named (line k .identifiers) id ≡ false → goesOn (line k .pass) ≡ b → Nowhere ≡ seek k id
+    by-pass false e g = seek-stops k h id e g
+    by-pass true e g =
+        let (i, b) = bar k h low g in
+        let (none, stops) = and-eq-true-iff _ _ .0 b in
+        seek-stops (k + 1) i id (no-code _ id (eqb-true _ _ none)) (not-true _ stops) ∙ rw add-one (seek-next k h id e g)
+
+    by-name : (b : Bool) → named (line k .identifiers) id ≡ b → (elim b [ true ↦ At k | false ↦ Nowhere ]) ≡ seek k id
+    by-name true e = seek-here k h id e
+    by-name false e = by-pass (goesOn (line k .pass)) e refl
+
 -- a line's place behind others, and that it has an identifier
 abbrev Named : List Line → ℕ → ℕ → ℕ → Type 0
 Named xs k id n = (m : ℕ) × (n ≡ k + m) × (named (getD xs m endLine .identifiers) id ≡ true)
@@ -129,3 +193,25 @@ unfolding seek line
 found-names k id n e =
     let (m, place, fits) = seek-names (drop k lines) k id n e in
     rw place (rw (getD-drop k lines m endLine) at fits)
+
+-- What holds at the line where a search begins, and goes on where a line may be passed over, holds at the line that is found.
+module _ (P : ℕ → Type 0) (on : (k : ℕ) → P k → goesOn (line k .pass) ≡ true → P (suc k)) (id n : ℕ) where
+  -- with so many lines to the table's end
+  kept-from : (f k : ℕ) → 146 ≤ k + f → P k → seek k id ≡ At n → P n
+  kept-from zero k h p e = let past = seek-past k (omega arith) id in let z : _≡_ {A = ℕ} 0 1 = cc in absurd (omega arith)
+  kept-from (suc f) k h p e = by-place (ltb k 146) refl (kept-from f (suc k) (omega arith))
+    where
+      by-pass : k < 146 → named (line k .identifiers) id ≡ false → (b : Bool) → goesOn (line k .pass) ≡ b → (P (suc k) → seek (suc k) id ≡ At n → P n) → P n
+      by-pass l f true g further = further (on k p g) (seek-next k l id f g ∙ e)
+      by-pass l f false g further = let stops = seek-stops k l id f g in let z : _≡_ {A = ℕ} 0 1 = cc in absurd (omega arith)
+
+      by-name : k < 146 → (b : Bool) → named (line k .identifiers) id ≡ b → (P (suc k) → seek (suc k) id ≡ At n → P n) → P n
+      by-name l true f further = let here = seek-here k l id f in let same : k ≡ n = cc in rw same at p
+      by-name l false f further = by-pass l f (goesOn (line k .pass)) refl further
+
+      by-place : (b : Bool) → ltb k 146 ≡ b → (P (suc k) → seek (suc k) id ≡ At n → P n) → P n
+      by-place true l further = by-name (ltb-true _ _ l) (named (line k .identifiers) id) refl further
+      by-place false l further = let past = seek-past k (ltb-false _ _ l) id in let z : _≡_ {A = ℕ} 0 1 = cc in absurd (omega arith)
+
+  pub found-kept : (k : ℕ) → P k → seek k id ≡ At n → P n
+  found-kept k = kept-from 146 k (omega arith)

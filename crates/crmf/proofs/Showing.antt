@@ -8,7 +8,7 @@ use native.Mathlib.Omega.{arith}
 use lib.Dec.{eqb}
 use lib.ListN.{length, length-append}
 use lib.Seq.{slice, take-length}
-use borrow.Author.Tests.{eq-eqb, ne-eqb, le-leb, lt-leb}
+use borrow.Author.Tests.{ne-eqb, le-leb, lt-leb}
 use Rattle.der.specs.declared.reading.Element.{Element}
 use Rattle.der.specs.Identifier.{constructed}
 use Rattle.der.specs.Tree.{Tree, none, element}
@@ -22,7 +22,7 @@ use Rattle.crmf.specs.Notation.{order}
 use Rattle.crmf.specs.Table.{start, startsFrom}
 use Rattle.crmf.specs.Walk.{line, seek, rowsOf as rowsGiven}
 use Rattle.crmf.specs.Rows.{Row, rowIf, parentIf, width}
-use Rattle.crmf.specs.Fill.{goes, rowsFrom, rowsAt, ownRows, rowAbove, innerRows, written, fits, rowsOf, filled, Wrote, Going, Shown}
+use Rattle.crmf.specs.Fill.{goes, rowsFrom, rowsAt, ownRows, rowAbove, innerRows, written, fits, rowsOf, filled, Wrote, Going, Shown, within}
 use Rattle.crmf.proofs.Walking.{tree-read, found-constructed, at-end}
 use Rattle.crmf.proofs.RowsOfLines.{rowsOne, rowsWithin, inner-no-rows, rows-nowhere, rows-found}
 use Rattle.crmf.proofs.Writing.{rows-given, wrote-none, wrote-two}
@@ -100,28 +100,24 @@ pub shown-end : (s : List ℕ) (p e k row : ℕ) (a : Around) → p ≡ e → ro
 unfolding rowsFrom
 shown-end s p e k row a h = rw (at-end s p e h)
 
--- the rows inside an element in the form of a line that has no inside, and of one that has
-pub inner-free : (k : ℕ) (s : List ℕ) (p e row : ℕ) (a : Around) → line k .inside ≡ 0 → innerRows k s p e row a ≡ []
-inner-free k s p e row a h = rw (innerRows, eq-eqb _ _ h)
-
+-- the rows inside an element in the form of a line that has an inside
 pub inner-held : (k : ℕ) (s : List ℕ) (p e row : ℕ) (a : Around) → (line k .inside ≡ 0 → ⊥) → innerRows k s p e row a ≡ rowsAt s p e (line k .inside) row a
 inner-held k s p e row a some = rw (innerRows, ne-eqb _ _ some)
 
 -- The rows of one element are written: its own, then those inside it.
 pub shown-step : (s : List ℕ) (p e : ℕ) (some : p < e) (fits : e ≤ length s) (high : length s ≤ longest) (x : Element) (is : x ≡ readAt s p e)
-    (k row : ℕ) (a : Around) (n : ℕ) → seek k (x .identifier) ≡ At n → (limit : ℕ) (old mid new : List ℕ) (m b st u : ℕ)
+    (k row : ℕ) (a : Around) (n : ℕ) → seek k (x .identifier) ≡ At n → (limit : ℕ) (old mid new : List ℕ) (m b st : ℕ)
     → Wrote (ownRows (line n) p (x .end - p) row a) row limit old m mid
-    → u ≡ rowAbove (line n) row (a .up)
-    → Wrote (innerRows n s (x .content) (x .end) m (record { up = u; place = p; whole = x .end - p })) m limit mid b new
+    → Wrote (innerRows n s (x .content) (x .end) m (within (line n) row (a .up) p (x .end))) m limit mid b new
     → st ≡ goes (line n .judge) (line n .next) (slice (x .content) (x .end) s)
     → width * limit ≤ length old → b ≤ 2 * x .end → InOrder p e x
     → Shown s p e k row a limit old (record { state = st; at = x .end; row = b }) new
-shown-step s p e some fits high x is k row a n f limit old mid new m b st u own above inner onward room few order =
+shown-step s p e some fits high x is k row a n f limit old mid new m b st own inner onward room few order =
     let o = ownRows (line n) p (x .end - p) row a in
-    let l = innerRows n s (x .content) (x .end) m (record { up = u; place = p; whole = x .end - p }) in
+    let l = innerRows n s (x .content) (x .end) m (within (line n) row (a .up) p (x .end)) in
     let l′ = innerRows n s (x .content) (x .end) (row + length o) (here n p (x .end - p) row a) in
     let same : l ≡ l′ =
-    ap₂ (λ (i v : ℕ). innerRows n s (x .content) (x .end) i (record { up = v; place = p; whole = x .end - p })) (own .next-row) above in
+    ap (λ (i : ℕ). innerRows n s (x .content) (x .end) i (within (line n) row (a .up) p (x .end))) (own .next-row) in
     let size = ap length same in
     let number : row + length o + length l′ ≡ b = omega (arith, own .next-row, inner .next-row) in
     record {

@@ -5,7 +5,6 @@ use mathlib.Core.Bool.{Bool, true}
 use mathlib.Core.List.{List, [], _∷_, map}
 use lib.Dec.{eqb}
 use Rattle.der.specs.Each.{Each, _&_}
-use Rattle.der.specs.Identifier.{constructed, universal, primitiveType, constructedType, universalType, allowed}
 use Rattle.der.specs.Length.{valueFrom, shortest, longForm, lengthOf, base256}
 use Rattle.der.specs.Header.{sizedBy, headOf}
 use Rattle.der.specs.Content.{boolean, integer, lastOf, bitString}
@@ -111,7 +110,7 @@ examples =
 
 -- every example is walked so
 worked : Each Walks examples
-unfolding constructed universal primitiveType constructedType universalType allowed valueFrom shortest longForm lengthOf base256 sizedBy headOf
+unfolding valueFrom shortest longForm lengthOf base256 sizedBy headOf
     boolean integer lastOf bitString given read treeOf tree
     same isEmpty isUpTo number isTrue pairAt leap daysIn isMoment century isUtcTime isGeneralizedTime keeps typeNumber selected among named order content
     partSize size startsFrom start insideLine passOf formLines nextLine wayLine partLines containerLines linesFrom lines

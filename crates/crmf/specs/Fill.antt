@@ -13,7 +13,7 @@ use Rattle.crmf.specs.declared.fill.Around.{Around}
 use Rattle.crmf.specs.declared.fill.Spot.{Spot}
 use Rattle.crmf.specs.declared.table.Found.the-variants.{At, Nowhere}
 use Rattle.crmf.specs.Value.{selected}
-use Rattle.crmf.specs.Notation.{Top}
+use Rattle.crmf.specs.Notation.{among, Top, Time, AlgId, Spki, OneName, Extension}
 use Rattle.crmf.specs.Table.{Judge, keep, choose, Line, start}
 use Rattle.crmf.specs.Packed.{packed}
 use Rattle.crmf.specs.Walk.{line, seek, rowsOf as rowsGiven}
@@ -42,6 +42,10 @@ rowsFrom k (element id p w c inside rest) n up place whole =
           ] in
           item ++ (own ++ (inner ++ rowsFrom (goes (x .judge) (x .next) c) rest (next + length own + length inner) up place whole))
     ]
+
+-- whether the lines of an inside give no row: it is free, or the inside of a container without rows
+unfoldable pub rowless : ℕ → Bool
+rowless k = among (0 ∷ start Time ∷ start AlgId ∷ start Spki ∷ start OneName ∷ start Extension ∷ []) k
 
 -- a list with others written over it from a place on
 abbrev pub over : List ℕ → ℕ → List ℕ → List ℕ
@@ -94,6 +98,10 @@ ownRows x p w row around =
 
 abbrev pub rowAbove : Line → ℕ → ℕ → ℕ
 rowAbove x row up = parentIf (x .kind) (row + rowsGiven (x .item)) (parentIf (x .item) row up)
+
+-- what is around the rows inside an element in a line's form, at a place and up to an end, whose own rows begin with a number
+abbrev pub within : Line → ℕ → ℕ → ℕ → ℕ → Around
+within x row up place end = record { up = rowAbove x row up; place = place; whole = end - place }
 
 -- the rows inside an element in a line's form
 abbrev pub innerRows : ℕ → List ℕ → ℕ → ℕ → ℕ → Around → List Row

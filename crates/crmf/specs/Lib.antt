@@ -12,3 +12,5 @@ pub mod Pieces
 pub mod Fill
 pub mod Fields
 pub mod Messages
+pub mod Quick
+pub mod QuickSteps

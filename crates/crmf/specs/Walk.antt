@@ -86,6 +86,10 @@ unreadDetail (alone e d) = elim (eqb d 3) [ true ↦ 4 | false ↦ 1 ]
 abbrev pub rowsOf : ℕ → ℕ
 rowsOf k = elim (eqb k 0) [ true ↦ 0 | false ↦ 1 ]
 
+-- the rows that an element of a line's form gives by itself: an item's, and its own
+abbrev pub rowsBy : Line → ℕ
+rowsBy x = rowsOf (x .item) + rowsOf (x .kind)
+
 -- what was met, with an element at a place in a form of a mark: the first of each edition stays
 unfoldable pub noted : Mark → ℕ → Seen → Seen
 noted both p s = s
@@ -121,7 +125,7 @@ counted n s =
 
 -- what was met, with an element at a place and of a whole length that a line is chosen for
 unfoldable pub met : Line → ℕ → ℕ → Seen → Seen
-met x p whole s = counted (rowsOf (x .item) + rowsOf (x .kind)) (lengthy (x .kind) p whole (noted (x .mark) p s))
+met x p whole s = counted (rowsBy x) (lengthy (x .kind) p whole (noted (x .mark) p s))
 
 -- The walk over the elements of a container from a line on, where the container's own place is `around`, and R says which editions' own
 -- forms may be read: an element's line is chosen by its identifier alone, its inside is walked first, then its value is judged.

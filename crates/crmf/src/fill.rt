@@ -12,7 +12,8 @@ ghost use Rattle.der.specs.Reading.{tree};
 ghost use Rattle.crmf.specs.Packed.{packed};
 ghost use Rattle.crmf.specs.Walk.{line};
 ghost use Rattle.crmf.specs.Rows.{rowIf, parentIf, width};
-ghost use Rattle.crmf.specs.Fill.{goes, written, fits, filled, ownRows, rowAbove, Room, Wrote, Shown, Listed, Inner};
+ghost use Rattle.crmf.specs.Fill as spec;
+ghost use Rattle.crmf.specs.Fill.{goes, written, fits, filled, ownRows, rowAbove, within, Room, Wrote, Shown, Listed, Inner};
 
 // The numbers of a row.
 pub const WIDTH: usize = 4;
@@ -35,8 +36,9 @@ struct Spot {
 }
 
 // Writes the rows of the bytes as far as their numbers are below the count, and answers whether the table has room for so many; where it
-// has none, it stays as it is. For an accepted batch and its own count these are the batch's rows.
-pub fn fill(bytes: &[u8], count: usize, out: &mut [usize]) -> bool
+// has none, it stays as it is. For an accepted batch and its own count these are the batch's rows. The table of lines is lent.
+pub(crate) fn fill(bytes: &[u8], count: usize, table: &[u64; 146], out: &mut [usize]) -> bool
+    requires { ⌜ now table ≡ packed ⌝ }
     ensures { λ r. ⌜ (r ≡ fits count (now (out .entry))) × (now (out .exit) ≡ filled (now (bytes .entry)) count (now (out .entry))) ⌝ }
 {
     if out.len() / WIDTH < count {
@@ -45,13 +47,12 @@ pub fn fill(bytes: &[u8], count: usize, out: &mut [usize]) -> bool
     if der::input::LONGEST < bytes.len() {
         return true;
     }
-    let table = table::words();
     let around = Around {
         up: 0,
         place: 0,
         whole: 0,
     };
-    list(bytes, 0, bytes.len(), TOP, 0, around, count, &table, out);
+    list(bytes, 0, bytes.len(), TOP, 0, around, count, table, out);
     true
 }
 
@@ -112,14 +113,21 @@ fn element(
     let word = table::word(table, k);
     let whole = to - at;
     let own = own_rows(word, at, whole, row, around, limit, out);
-    let here = Around {
-        up: row_above(word, row, around.up),
-        place: at,
-        whole,
-    };
-    let behind = inside(bytes, from, to, word, own, here, limit, table, out);
+    let behind = inside(
+        bytes,
+        from,
+        to,
+        word,
+        at,
+        row,
+        around.up,
+        own,
+        limit,
+        table,
+        out,
+    );
     Spot {
-        state: onward(table, word, &bytes[from..to]),
+        state: onward(table, word, bytes, from, to),
         at: to,
         row: behind,
     }
@@ -161,39 +169,54 @@ fn row_above(word: u64, row: usize, up: usize) -> usize
     parent_if(table::kind_of(word), own, parent_if(item, row, up))
 }
 
-// The rows inside an element, if its line has an inside; answers the number of the next row.
+// Whether no row comes from the lines of an inside: there are none, or they are Time's, AlgId's, Spki's, OneName's or Extension's.
+fn rowless(start: usize) -> bool
+    ensures { λ r. ⌜ r ≡ spec.rowless start ⌝ }
+{
+    (start == 0) | (start == 31) | (start == 34) | (start == 37) | (start == 40) | (start == 53)
+}
+
+// The rows inside an element at `place`, from its content's first byte to its end, if its line has an inside that has some: `row` is the
+// number that its own rows began with, `next` the first behind them. Answers the number of the next row.
 fn inside(
     bytes: &[u8],
     at: usize,
     end: usize,
     word: u64,
+    place: usize,
     row: usize,
-    around: Around,
+    up: usize,
+    next: usize,
     limit: usize,
     table: &[u64; 146],
     out: &mut [usize],
 ) -> usize
-    requires { ⌜ Room (now bytes) at end row limit (now table) (now out) ⌝ }
-    ensures { λ r. ⌜ ((k : ℕ) → word ≡ getD packed k 0 → Inner k (now (bytes .entry)) at end row around limit (now (out .entry)) r (now (out .exit))) × (r ≤ 2 * end) ⌝ }
+    requires { ⌜ Room (now bytes) at end next limit (now table) (now out) × (place ≤ end) × (row ≤ 131070) ⌝ }
+    ensures { λ r. ⌜ ((k : ℕ) → word ≡ getD packed k 0 → Inner k (now (bytes .entry)) at end next (within (line k) row up place end) limit (now (out .entry)) r (now (out .exit))) × (r ≤ 2 * end) ⌝ }
 {
     let start = table::inside_of(word);
-    if start == 0 {
-        return row;
+    if rowless(start) {
+        return next;
     }
-    list(bytes, at, end, start, row, around, limit, table, out)
+    let around = Around {
+        up: row_above(word, row, up),
+        place,
+        whole: end - place,
+    };
+    list(bytes, at, end, start, next, around, limit, table, out)
 }
 
-// The line to go on with behind an element whose value keeps its rule.
-fn onward(table: &[u64; 146], word: u64, content: &[u8]) -> usize
-    requires { ⌜ now table ≡ packed ⌝ }
-    ensures { λ r. ⌜ ((k : ℕ) → word ≡ getD packed k 0 → r ≡ goes (line k .judge) (line k .next) (now (content .entry))) ⌝ }
+// The line to go on with behind an element whose value, its content from `from` to `to`, keeps its rule.
+fn onward(table: &[u64; 146], word: u64, bytes: &[u8], from: usize, to: usize) -> usize
+    requires { ⌜ (now table ≡ packed) × (from ≤ to) × (to ≤ length (now bytes)) ⌝ }
+    ensures { λ r. ⌜ ((k : ℕ) → word ≡ getD packed k 0 → r ≡ goes (line k .judge) (line k .next) (slice from to (now (bytes .entry)))) ⌝ }
 {
     let code = table::judge_of(word);
     let next = table::next_of(word);
     if code < 16 {
         return next;
     }
-    table::next_of(table::word(table, next + value::selected(code, content)))
+    table::next_of(table::word(table, next + value::selected(code, &bytes[from..to])))
 }
 
 // Writes a row where it has a kind and its number is below the limit; answers the number of the next row.

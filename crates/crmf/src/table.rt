@@ -1,10 +1,14 @@
 // The grammar's lines, each packed into a number, and the search among them.
+ghost use Prim.Native.Nat.{ℕ, _≤_, _<_};
 ghost use mathlib.Core.Path.{_≡_};
+ghost use mathlib.Core.Bool.{true, false};
 ghost use lib.ListN.{getD};
-ghost use Rattle.crmf.specs.Notation.{Identifiers, named};
-ghost use Rattle.crmf.specs.Packed.{packed, identifiersCode};
+ghost use Rattle.crmf.specs.declared.table.Found.the-variants.{At, Nowhere};
+ghost use Rattle.crmf.specs.Notation.{Identifiers, named, among, generalNames};
+ghost use Rattle.crmf.specs.Packed.{packed, identifiersCode, actionOf};
 ghost use Rattle.crmf.specs.Packed.{insideField, judgeField, kindField, itemField, markField, nextField};
 ghost use Rattle.crmf.specs.Walk as walk;
+ghost use Rattle.crmf.specs.Walk.{line, rowsBy};
 
 // What the search for an element's line finds.
 pub enum Found {
@@ -69,28 +73,48 @@ pub(crate) fn next_of(word: u64) -> usize
     (word / 8796093022208 % 256) as usize
 }
 
-// Whether the identifiers of a code have an identifier: 0 none, 1 all, 2 the GeneralNames', and else the one three below the code.
-fn names(code: usize, id: u8) -> bool
-    ensures { λ r. ⌜ ((i : Identifiers) → identifiersCode i ≡ code → r ≡ named i id) ⌝ }
+// What the quick walk does with an element of the line.
+pub(crate) fn action_of(word: u64) -> usize
+    ensures { λ r. ⌜ ((k : ℕ) → word ≡ getD packed k 0 → r ≡ actionOf (line k)) ⌝ }
 {
-    if code < 3 {
-        if code == 2 {
-            return (id == 0xA0)
-                | (id == 0x81)
-                | (id == 0x82)
-                | (id == 0xA3)
-                | (id == 0xA4)
-                | (id == 0xA5)
-                | (id == 0x86)
-                | (id == 0x87)
-                | (id == 0x88);
-        }
-        return code == 1;
-    }
-    id as usize == code - 3
+    (word / 2251799813685248 % 16) as usize
 }
 
-// The first line from a line on that has the identifier, where no needed part is passed over.
+// How many rows an element of the line gives by itself: no more than two.
+pub(crate) fn rows_of(word: u64) -> usize
+    ensures { λ r. ⌜ ((k : ℕ) → word ≡ getD packed k 0 → (r ≡ rowsBy (line k)) × (r ≤ 2)) ⌝ }
+{
+    (word / 36028797018963968 % 4) as usize
+}
+
+// Whether the GeneralNames have an identifier.
+fn general(id: u8) -> bool
+    ensures { λ r. ⌜ r ≡ among generalNames id ⌝ }
+{
+    (id == 0xA0)
+        | (id == 0x81)
+        | (id == 0x82)
+        | (id == 0xA3)
+        | (id == 0xA4)
+        | (id == 0xA5)
+        | (id == 0x86)
+        | (id == 0x87)
+        | (id == 0x88)
+}
+
+// Whether the identifiers of a code below 3 have an identifier: 0 none, 1 all, 2 the GeneralNames'.
+fn names(code: usize, id: u8) -> bool
+    requires { ⌜ code < 3 ⌝ }
+    ensures { λ r. ⌜ ((i : Identifiers) → identifiersCode i ≡ code → r ≡ named i id) ⌝ }
+{
+    if code == 2 {
+        return general(id);
+    }
+    code == 1
+}
+
+// The first line from a line on that has the identifier, where no needed part is passed over. Identifiers of a code from 3 on are the one
+// three below it.
 pub(crate) fn seek(table: &[u64; 146], from: usize, id: u8) -> Found
     requires { ⌜ now table ≡ packed ⌝ }
     ensures { λ r. ⌜ r ≡ walk.seek from id ⌝ }
@@ -98,13 +122,28 @@ pub(crate) fn seek(table: &[u64; 146], from: usize, id: u8) -> Found
     let mut k = from;
     while k < 146 {
         let word = table[k];
-        if names((word / 4 % 512) as usize, id) {
+        let code = (word / 4 % 512) as usize;
+        if code == id as usize + 3 {
             return Found::At(k);
+        }
+        if code < 3 {
+            return here(k, code, id);
         }
         if word % 4 < 2 {
             return Found::Nowhere;
         }
         k += 1;
+    }
+    Found::Nowhere
+}
+
+// The line itself, if its identifiers, of a code below 3, have the identifier: behind it none is found.
+fn here(k: usize, code: usize, id: u8) -> Found
+    requires { ⌜ code < 3 ⌝ }
+    ensures { λ r. ⌜ ((i : Identifiers) → identifiersCode i ≡ code → r ≡ (elim (named i id) [ true ↦ At k | false ↦ Nowhere ])) ⌝ }
+{
+    if names(code, id) {
+        return Found::At(k);
     }
     Found::Nowhere
 }
@@ -128,85 +167,85 @@ pub(crate) fn closed(table: &[u64; 146], from: usize) -> bool
 // The table: specs/Packed.antt says what it is computed from.
 const TABLE: [u64; 146] = [
     0,
-    17592202827981,
+    54060787731273933,
     0,
-    35184405655757,
-    35184405655759,
+    54078379934101709,
+    54078379934101711,
     0,
-    61572701513933,
-    96757864202767,
-    96757878999699,
-    96757895803543,
-    96757912580763,
-    105554290940111,
+    54104768229959885,
+    63147152647389711,
+    54139953407445651,
+    54139953424249495,
+    54139953441026715,
+    54148749819386063,
     0,
-    123145369419797,
-    131941479254221,
-    140737991827663,
+    45159141643124757,
+    54175137007700173,
+    54183933520273615,
     0,
-    158329842696719,
-    167125952496147,
-    175922061841047,
-    184718171652763,
-    193514286146207,
-    202310391251619,
-    211106501044903,
-    219902612341291,
-    228698722140719,
-    237494830469811,
+    42942526302716431,
+    42951322412515859,
+    56470917403972247,
+    67738712582210203,
+    63243909069333151,
+    67756304801809059,
+    65513301097917095,
+    47507698699731499,
+    47516494809530927,
+    54280690358915763,
     0,
-    255087033252495,
-    263883143051923,
+    54298282561698447,
+    54307078671497875,
     0,
-    290271073402986,
-    290271073927277,
+    27311868837625962,
+    27311868838150253,
     0,
-    307863255777317,
-    316659348799495,
+    4811462883147813,
+    16079258044596231,
     0,
-    334251534913741,
-    343047627866137,
+    20600449858080973,
+    11602046696292377,
     0,
-    360639813996749,
+    18375038323478733,
     0,
-    369435907023059,
+    25139233857560787,
     0,
-    395824186095821,
-    395824186095823,
+    22913822322948301,
+    22913822322948303,
     0,
-    422212465066021,
-    431008558088197,
+    4925812092436517,
+    16193607253884933,
     0,
-    448601113340109,
-    448601113340111,
+    54491796641786061,
+    54491796641786063,
     0,
-    474989023199269,
-    483785119367187,
-    492581209243677,
+    4978588650569765,
+    27505382883590163,
+    2744381022928925,
     0,
-    510174301383311,
-    518970411126989,
-    527766520856601,
+    54553369829829263,
+    56813965753258189,
+    47815562608246809,
     0,
-    554153860532878,
-    554153860536525,
-    562949953497293,
+    18568552370014862,
+    18568552370018509,
+    29836347531405517,
     0,
-    580542139465737,
+    27602139903688713,
     0,
-    598134325579981,
-    606930418532377,
+    20864332648747213,
+    11865929486958617,
     0,
-    659707984871950,
-    659708002697746,
-    659708018426390,
-    664380958186138,
-    664380974826141,
+    47947504072262158,
+    63710102785884690,
+    47947504105816598,
+    63714775741373082,
+    63714775758013085,
     0,
-    677299162872013,
-    677299162872015,
+    18691697672353997,
+    18691697672353999,
     0,
-    703687451213861,
+    27725285215436837,
     774056185954305,
     791648371998721,
     809240558043137,
@@ -215,62 +254,62 @@ const TABLE: [u64; 146] = [
     879609302220801,
     897201488265217,
     0,
-    782918850969605,
+    52574314565730309,
     0,
-    800532511850557,
+    50340128412926013,
     0,
-    818126845378621,
+    50357722746454077,
     0,
-    835721179119821,
+    54878916707565773,
     0,
-    870907698735758,
-    870907698479634,
-    870907699528213,
+    54914103227181710,
+    39151504531128850,
+    63921302482715157,
     0,
-    888502032269517,
+    54931697560715469,
     0,
-    906096365611213,
+    66208290962483405,
     0,
-    923589775720469,
+    27945187539943445,
     949978046398465,
     967570232442881,
     0,
-    958774144893135,
+    27980371909116111,
     0,
-    976366325694671,
+    18990764835176655,
     0,
-    993958511745229,
-    993958511745231,
+    19008357021227213,
+    19008357021227215,
     0,
-    1020346799489045,
+    28041944563712021,
     1064327255687169,
     1081919441731585,
     1081919441731585,
     1081919441731585,
     0,
-    1076147005685771,
+    28097744769908747,
     0,
-    1090715534753803,
+    28112313298976779,
     0,
-    1117103813820622,
-    1117103813821069,
+    28138701578043598,
+    28138701578044045,
     0,
-    1134695999864841,
-    1143492092887061,
+    28156293764087817,
+    7898891533942805,
     0,
-    1161084279206093,
-    1161084279206095,
+    19175482788688077,
+    19175482788688079,
     0,
-    1187472567959589,
+    28209070332182565,
     1222656930086913,
     1240249116131329,
     1266637395197953,
     0,
-    1231605494448133,
+    53023001209208837,
     0,
-    1260744700067870,
-    1262945870807101,
+    64311139483254814,
+    64313340653994045,
     0,
-    1275592452368589,
+    91347584999778509,
     0,
 ];

@@ -1,16 +1,15 @@
-// Counts and fills the rows of each batch that it reads, with the forms of both editions readable, and prints them. The crate `cases` says
-// what a case is; its first two octets are the room, how many numbers of the table are lent, and the batch stands behind them. The first
-// 65,536 characters are read. The answer is one of
+// Reads the rows of each batch, in edition 1 or else in edition 2, and prints them. The crate `cases` says what a case is; its first two
+// octets are the room, how many numbers of the table are lent, and the batch stands behind them. The first 65,536 characters are read. The
+// answer is one of
 //
 //     the rows, one row a line: kind, first byte, whole length, parent's row
 //     too short, the table unchanged
-//     -                                 not in the grammar
+//     -                                 in neither edition's grammar
 //
 // and an empty line. Each number of the table is 7777777 before; a line more tells where one has changed that shouldn't.
 use cases::Case;
 use cases::ROOM;
 use crmf::fill::WIDTH;
-use crmf::walk::Walked;
 use libc::STDOUT_FILENO;
 ghost use Prim.Native.Nat.{_≤_};
 
@@ -82,21 +81,31 @@ fn print_short(table: &[usize; NUMBERS]) {
     }
 }
 
-// Fills the first numbers of a table with the rows of a batch, and prints it.
-fn fill(batch: &[u8], count: usize, room: usize) {
-    let mut table = [BEFORE; NUMBERS];
-    if crmf::fill::fill(batch, count, &mut table[..lesser(room, NUMBERS)]) {
-        print_filled(&table, count);
+// Prints a table of which so many numbers were lent for so many rows.
+fn print_lent(table: &[usize; NUMBERS], lent: usize, count: usize) {
+    if lent / WIDTH < count {
+        print_short(table);
     } else {
-        print_short(&table);
+        print_filled(table, count);
     }
 }
 
-// Counts the rows of a batch and fills a table of such a room.
+// Reads a batch in an edition into the first numbers of a table, and prints it; answers whether it is a batch of the edition.
+fn fill(edition: usize, batch: &[u8], room: usize) -> bool {
+    let mut table = [BEFORE; NUMBERS];
+    let lent = lesser(room, NUMBERS);
+    let rows = crmf::quick::read(edition, batch, &mut table[..lent]);
+    if rows == 0 {
+        return false;
+    }
+    print_lent(&table, lent, rows - 1);
+    true
+}
+
+// Reads a batch in the first edition whose batch it is, with a table of such a room.
 fn answer(batch: &[u8], room: usize) {
-    match crmf::walk::count(batch) {
-        Walked::Passed(seen) => fill(batch, seen.count, room),
-        Walked::Broken { .. } => {
+    if !fill(1, batch, room) {
+        if !fill(2, batch, room) {
             io::write_all(STDOUT_FILENO, b"-\n");
         }
     }

@@ -11,20 +11,20 @@ lesser-requires c κs = search needs
 array-borrow-prefix-table : tie.Need-array-borrow-prefix-table
 array-borrow-prefix-table c = search needs
 
-slice-aggregate-fill : tie.Need-slice-aggregate-fill
-slice-aggregate-fill c = simp length-take (omega arith)
+slice-aggregate-read : tie.Need-slice-aggregate-read
+slice-aggregate-read c = simp length-take (omega arith)
 
-fill-requires : tie.Need-fill-requires
-fill-requires c κs = search needs
-
-print-filled-requires : tie.Need-print-filled-requires
-print-filled-requires c κs = search needs
-
-print-short-requires : tie.Need-print-short-requires
-print-short-requires c κs = search needs
+read-requires : tie.Need-read-requires
+read-requires c κs = search needs
 
 returns : tie.Need-returns
 returns c = search needs
+
+sub-print-lent : tie.Need-sub-print-lent
+sub-print-lent c = search needs
+
+print-lent-requires : tie.Need-print-lent-requires
+print-lent-requires c κs = search needs
 
 returns-2 : tie.Need-returns-2
 returns-2 c = search needs
@@ -35,9 +35,9 @@ fill-spec =
     (tie.spec
     lesser-requires
     array-borrow-prefix-table
-    slice-aggregate-fill
-    fill-requires
-    print-filled-requires
-    print-short-requires
+    slice-aggregate-read
+    read-requires
     returns
+    sub-print-lent
+    print-lent-requires
     returns-2)

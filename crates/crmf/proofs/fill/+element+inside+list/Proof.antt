@@ -2,7 +2,8 @@
 -- loop keeps what is written before its place, and what is left of the list's rows; an element writes its own rows and those inside it.
 -- Assumes nothing.
 use Prim.Native.Nat.{ℕ, _+_, _-_, _*_, _≤_, _<_}
-use mathlib.Core.Path.{_≡_, refl, sym, ap, subst, _∙_}
+use mathlib.Core.Path.{_≡_, refl, sym, ap, ap₂, subst, _∙_}
+use mathlib.Core.Bool.{true}
 use mathlib.Core.List.{List, [], _++_, append-nil}
 use native.Mathlib.Omega.{arith}
 use borrow.Author.Needs.{needs}
@@ -19,15 +20,17 @@ use Rattle.crmf.specs.declared.table.Found.the-variants.{At}
 use Rattle.crmf.specs.Packed.{packed, insideField}
 use Rattle.crmf.specs.Walk.{line}
 use Rattle.crmf.specs.Rows.{Row, width}
-use Rattle.crmf.specs.Fill.{goes, rowsAt, innerRows, Room, Wrote, Going}
+use Rattle.crmf.specs.Fill.{rowless, rowAbove, within, rowsAt, Inner, Room, Wrote, Going}
 use Rattle.crmf.proofs.Fields.{inside-at as inside-field}
 use Rattle.crmf.proofs.Slices.{take-slice}
 use Rattle.crmf.proofs.Writing.{length-written, wrote-none}
-use Rattle.crmf.proofs.Showing.{shown-nowhere, shown-end, shown-step, going-on, inner-free, inner-held}
+use Rattle.crmf.proofs.Rowless.{inner-none, inside-some}
+use Rattle.crmf.proofs.Showing.{shown-nowhere, shown-end, shown-step, going-on, inner-held}
 use Rattle.crmf.proofs.table.inside_of.Reads as inside-of-reads
 use Rattle.crmf.proofs.table.seek.Reads as seek-reads
 use Rattle.crmf.proofs.table.word.Reads as word-reads
 use Rattle.crmf.proofs.fill.own_rows.Reads as own-rows-reads
+use Rattle.crmf.proofs.fill.rowless.Reads as rowless-reads
 use Rattle.crmf.proofs.fill.row_above.Reads as row-above-reads
 use Rattle.crmf.proofs.fill.onward.Reads as onward-reads
 use Rattle.der.proofs.reading.read_at.Reads as read-at-reads
@@ -61,6 +64,16 @@ list-Inv-loop bytes at end state row around limit table out₀ place₀ line₀ 
 abbrev list-μ-loop : list-lts.MeasureT-loop
 list-μ-loop bytes at end state row around limit table out₀ place₀ line₀ next₀ out place line next = end - place
 
+-- the rows of a list that is an element's inside are those inside the element
+held-rows : (k : ℕ) (s : List ℕ) (at end row up place next limit : ℕ) (old new : List ℕ) (after start above : ℕ) → start ≡ line k .inside
+    → above ≡ rowAbove (line k) row up → (line k .inside ≡ 0 → ⊥)
+    → Wrote (rowsAt s at end start next (record { up = above; place = place; whole = end - place })) next limit old after new
+    → Inner k s at end next (within (line k) row up place end) limit old after new
+held-rows k s at end row up place next limit old new after start above starts is some wrote =
+    subst (λ (l : List Row). Wrote l next limit old after new)
+    (ap₂ (λ (i u : ℕ). rowsAt s at end i next (record { up = u; place = place; whole = end - place })) starts is
+    ∙ sym (inner-held k s at end next (within (line k) row up place end) some)) wrote
+
 -- With the measure t: what holds before a call of that measure, and before one of a lower.
 module _ (t : ℕ) where
   abbrev element-at : In 3 element-kinds.ps
@@ -83,11 +96,11 @@ module _ (t : ℕ) where
 
   -- what `element` knows of the functions that it calls
   abbrev element-calls : element-lts.Claims
-  element-calls = (read-at-reads.Asked, read-at-reads.Learnt, seek-reads.Asked, seek-reads.Learnt, word-reads.Asked, word-reads.Learnt, own-rows-reads.Asked, own-rows-reads.Learnt, row-above-reads.Asked, row-above-reads.Learnt, inside-below, inside.Post, onward-reads.Asked, onward-reads.Learnt)
+  element-calls = (read-at-reads.Asked, read-at-reads.Learnt, seek-reads.Asked, seek-reads.Learnt, word-reads.Asked, word-reads.Learnt, own-rows-reads.Asked, own-rows-reads.Learnt, inside-below, inside.Post, onward-reads.Asked, onward-reads.Learnt)
 
   -- what `inside` knows of the functions that it calls
   abbrev inside-calls : inside-lts.Claims
-  inside-calls = (inside-of-reads.Asked, inside-of-reads.Learnt, list-below, list.Post)
+  inside-calls = (inside-of-reads.Asked, inside-of-reads.Learnt, rowless-reads.Asked, rowless-reads.Learnt, row-above-reads.Asked, row-above-reads.Learnt, list-below, list.Post)
 
   -- what `list` knows of the functions that it calls
   abbrev list-calls : list-lts.Claims
@@ -144,81 +157,87 @@ module _ (t : ℕ) where
   element-own-rows-requires : element-lts.Need-own-rows-requires element-calls element-at element.Post
   element-own-rows-requires c κs = (omega (arith, lent (c .before .before .before .before .before .before)), lent (c .before .before .before .before .before .before) .room)
 
-  element-row-above-requires : element-lts.Need-row-above-requires element-calls element-at element.Post
-  element-row-above-requires c κs = omega (arith, lent (c .before .before .before .before .before .before .before .before .before))
-
   element-inside-requires : element-lts.Need-inside-requires element-calls element-at element.Post
   element-inside-requires c κs =
-      let o = ordered (c .before .before .before .before .before .before .before .before .before .before .before) in
-      let l = lent (c .before .before .before .before .before .before .before .before .before .before .before) in (
-        omega (arith, c .before .before .before .before .before .before .before .before .before .before .before .before .before .before .pre .0, o),
-        record {
-          short = l .short;
-          order = o .ordered;
-          inside = omega (arith, o .within, l .inside);
-          few = omega (arith, c .before .before .before .before .own-rows .ensures .1, l .few, o .headed);
-          right = l .right;
-          room = omega (arith, c .before .before .before .before .own-rows .kept .1 .1 .1 .1 .1 .1 .0, l .room);
-        },
+      let d = c .before .before .before .before .before .before .before .before .before .before in
+      let o = ordered d in
+      let l = lent d in (
+        omega (arith, d .before .before .before .pre .0, o),
+        (
+          record {
+            short = l .short;
+            order = o .ordered;
+            inside = omega (arith, o .within, l .inside);
+            few = omega (arith, c .before .before .before .own-rows .ensures .1, l .few, o .headed);
+            right = l .right;
+            room = omega (arith, c .before .before .before .own-rows .kept .1 .1 .1 .1 .1 .1 .0, l .room);
+          },
+          omega (arith, o),
+          omega (arith, l),
+        ),
       )
 
-  element-sub-onward : element-lts.Need-sub-onward element-calls element-at element.Post
-  element-sub-onward c = ordered (c .before .before .before .before .before .before .before .before .before .before .before .before .before .before) .ordered
-
-  element-part-onward-start : element-lts.Need-part-onward-start element-calls element-at element.Post
-  element-part-onward-start c = ordered (c .before .before .before .before .before .before .before .before .before .before .before .before .before .before) .ordered
-
-  element-part-onward-end : element-lts.Need-part-onward-end element-calls element-at element.Post
-  element-part-onward-end c = omega (arith, ordered (c .before .before .before .before .before .before .before .before .before .before .before .before .before .before) .within, lent (c .before .before .before .before .before .before .before .before .before .before .before .before .before .before) .inside)
-
   element-onward-requires : element-lts.Need-onward-requires element-calls element-at element.Post
-  element-onward-requires c κs = lent (c .before .before .before .before .before .before .before .before .before .before .before .before .before .before .before) .right
+  element-onward-requires c κs =
+      let d = c .before .before .before .before .before .before .before .before .before .before .before .before .before in
+      (lent d .right, ordered d .ordered, omega (arith, ordered d .within, lent d .inside))
 
   element-same-length : element-lts.Need-same-length element-calls element-at element.Post
-  element-same-length c = c .before .before .before .before .inside .kept .1 .1 .1 .1 .1 .1 .1 .1 .0 ∙ c .before .before .before .before .before .before .before .before .before .own-rows .kept .1 .1 .1 .1 .1 .1 .0
+  element-same-length c = c .before .before .before .inside .kept .1 .1 .1 .1 .1 .1 .1 .1 .1 .1 .0 ∙ c .before .before .before .before .before .before .before .own-rows .kept .1 .1 .1 .1 .1 .1 .0
 
   element-returns-2 : element-lts.Need-returns-2 element-calls element-at element.Post
   element-returns-2 c =
-      let a = c .before .before .before .before .before .before .before .before .before .before .before .before .before .before .before .before .before .before .before .args in
-      let x = read (c .before .before .before .before .before .before .before .before .before .before .before .before .before .before .before .before) in
-      let l = lent (c .before .before .before .before .before .before .before .before .before .before .before .before .before .before .before .before) in
-      let n = c .before .before .before .before .before .before .before .before .before .before .before .before .before .found .given .0 .0 in
-      let w = c .before .before .before .before .before .before .before .before .before .before .before .word .ensures in
-      shown-step (a .bytes .now) (a .at) (a .end) (c .before .before .before .before .before .before .before .before .before .before .before .before .before .before .before .before .before .before .before .pre .1 .1) (l .inside) (l .short) x (c .before .before .before .before .before .before .before .before .before .before .before .before .before .before .before .before .read-at .ensures) (a .state) (a .row) (a .around) n
-      (sym (c .before .before .before .before .before .before .before .before .before .before .before .before .before .before .before .seek .ensures) ∙ c .before .before .before .before .before .before .before .before .before .before .before .before .before .found .given .1) (a .limit) (a .out .now) (c .before .before .before .before .before .before .before .before .before .own-rows .last .1 .1 .1 .1 .1 .1 .0) (c .before .before .before .before .inside .last .1 .1 .1 .1 .1 .1 .1 .1 .0)
-      (c .before .before .before .before .before .before .before .before .before .own-rows .result) (c .before .before .before .before .inside .result) (c .onward .result) (c .before .before .before .before .before .before .row-above .result) (c .before .before .before .before .before .before .before .before .before .own-rows .ensures .0 n w) (c .before .before .before .before .before .before .row-above .ensures n w) (c .before .before .before .before .inside .ensures .0 n w)
-      (c .onward .ensures n w ∙ ap (goes (line n .judge) (line n .next)) (take-slice (x .content) (x .end) (a .bytes .now) (ordered (c .before .before .before .before .before .before .before .before .before .before .before .before .before .before .before .before) .ordered)))
-      (l .room) (c .before .before .before .before .inside .ensures .1) (ordered (c .before .before .before .before .before .before .before .before .before .before .before .before .before .before .before .before))
+      let d = c .before .before .before .before .before .before .before .before .before .before .before .before .before .before in
+      let a = d .before .before .before .args in
+      let n = c .before .before .before .before .before .before .before .before .before .before .before .found .given .0 .0 in
+      let w = c .before .before .before .before .before .before .before .before .before .word .ensures in
+      let own = c .before .before .before .before .before .before .before .own-rows in
+      let inner = c .before .before .before .inside in
+      shown-step (a .bytes .now) (a .at) (a .end) (d .before .before .before .pre .1 .1) (lent d .inside) (lent d .short) (read d) (d .read-at .ensures) (a .state) (a .row) (a .around) n
+      (sym (c .before .before .before .before .before .before .before .before .before .before .before .before .before .seek .ensures) ∙ c .before .before .before .before .before .before .before .before .before .before .before .found .given .1) (a .limit) (a .out .now) (own .last .1 .1 .1 .1 .1 .1 .0) (inner .last .1 .1 .1 .1 .1 .1 .1 .1 .1 .1 .0)
+      (own .result) (inner .result) (c .onward .result) (own .ensures .0 n w) (inner .ensures .0 n w) (c .onward .ensures n w)
+      (lent d .room) (inner .ensures .1) (ordered d)
 
   inside-inside-of-requires : inside-lts.Need-inside-of-requires inside-calls inside-at inside.Post
   inside-inside-of-requires c κs = search needs
 
+  inside-rowless-requires : inside-lts.Need-rowless-requires inside-calls inside-at inside.Post
+  inside-rowless-requires c κs = search needs
+
   inside-returns : inside-lts.Need-returns inside-calls inside-at inside.Post
   inside-returns c =
-      let a = c .before .before .before .before .args in (
+      let a = c .before .before .before .before .before .args in (
         λ k e.
-            let free : line k .inside ≡ 0 = sym (inside-field k) ∙ ap insideField (sym e) ∙ sym (c .before .inside-of .ensures) ∙ c .if1 .taken in
-            subst (λ (l : List Row). Wrote l (a .row) (a .limit) (a .out .now) (a .row) (a .out .now)) (sym (inner-free k (a .bytes .now) (a .at) (a .end) (a .row) (a .around) free))
-            (wrote-none (a .row) (a .limit) (a .out .now)),
-        omega (arith, c .before .before .before .before .pre .1 .few, c .before .before .before .before .pre .1 .order),
+            let starts : c .before .before .inside-of .result ≡ line k .inside = c .before .before .inside-of .ensures ∙ ap insideField e ∙ inside-field k in
+            let none : rowless (line k .inside) ≡ true = ap rowless (sym starts) ∙ sym (c .before .rowless .ensures) ∙ c .if1 .taken in
+            subst (λ (l : List Row). Wrote l (a .next) (a .limit) (a .out .now) (a .next) (a .out .now))
+            (sym (inner-none k (a .bytes .now) (a .at) (a .end) (a .next) (within (line k) (a .row) (a .up) (a .place) (a .end)) none))
+            (wrote-none (a .next) (a .limit) (a .out .now)),
+        omega (arith, c .before .before .before .before .before .pre .1 .0 .few, c .before .before .before .before .before .pre .1 .0 .order),
       )
 
+  inside-row-above-requires : inside-lts.Need-row-above-requires inside-calls inside-at inside.Post
+  inside-row-above-requires c κs = c .before .before .before .before .before .pre .1 .2
+
+  inside-sub-t16 : inside-lts.Need-sub-t16 inside-calls inside-at inside.Post
+  inside-sub-t16 c = c .before .before .before .before .before .before .pre .1 .1
+
   inside-list-requires : inside-lts.Need-list-requires inside-calls inside-at inside.Post
-  inside-list-requires c κs = (omega (arith, c .before .before .before .before .before .pre .0), c .before .before .before .before .before .pre .1)
+  inside-list-requires c κs = (omega (arith, c .before .before .before .before .before .before .before .pre .0), c .before .before .before .before .before .before .before .pre .1 .0)
 
   inside-same-length : inside-lts.Need-same-length inside-calls inside-at inside.Post
   inside-same-length c = c .before .before .list .kept .1 .1 .1 .1 .1 .1 .1 .1 .0
 
   inside-returns-2 : inside-lts.Need-returns-2 inside-calls inside-at inside.Post
   inside-returns-2 c =
-      let a = c .before .before .before .before .before .before .before .before .args in (
+      let a = c .before .before .before .before .before .before .before .before .before .before .args in
+      let listed = c .before .before .list in (
         λ k e.
-            let starts : c .before .before .before .before .before .inside-of .result ≡ line k .inside = c .before .before .before .before .before .inside-of .ensures ∙ ap insideField e ∙ inside-field k in
-            let held : rowsAt (a .bytes .now) (a .at) (a .end) (c .before .before .before .before .before .inside-of .result) (a .row) (a .around) ≡ innerRows k (a .bytes .now) (a .at) (a .end) (a .row) (a .around) =
-            ap (λ (n : ℕ). rowsAt (a .bytes .now) (a .at) (a .end) n (a .row) (a .around)) starts
-            ∙ sym (inner-held k (a .bytes .now) (a .at) (a .end) (a .row) (a .around) (λ free. c .before .before .before .before .if1 .left (starts ∙ free))) in
-            subst (λ (l : List Row). Wrote l (a .row) (a .limit) (a .out .now) (c .before .before .list .result) (c .before .before .list .last .1 .1 .1 .1 .1 .1 .1 .1 .0)) held (c .before .before .list .ensures .wrote),
-        c .before .before .list .ensures .few,
+            let starts : c .before .before .before .before .before .before .before .inside-of .result ≡ line k .inside = c .before .before .before .before .before .before .before .inside-of .ensures ∙ ap insideField e ∙ inside-field k in
+            let some = inside-some (line k .inside) (ap rowless (sym starts) ∙ sym (c .before .before .before .before .before .before .rowless .ensures) ∙ c .before .before .before .before .before .if1 .left) in
+            let above = c .before .before .before .before .row-above .ensures k e in
+            held-rows k (a .bytes .now) (a .at) (a .end) (a .row) (a .up) (a .place) (a .next) (a .limit) (a .out .now) (listed .last .1 .1 .1 .1 .1 .1 .1 .1 .0) (listed .result) _ _ starts above some (listed .ensures .wrote),
+        listed .ensures .few,
       )
 
   list-loop-holds : list-lts.Need-loop-holds list-calls list-at list.Post list-Inv-loop list-μ-loop
@@ -290,17 +309,16 @@ pub +element+inside+list-spec : {M : Type 1} → statement M
     (element-word-requires t)
     (element-sub-whole t)
     (element-own-rows-requires t)
-    (element-row-above-requires t)
     (element-inside-requires t)
-    (element-sub-onward t)
-    (element-part-onward-start t)
-    (element-part-onward-end t)
     (element-onward-requires t)
     (element-same-length t)
     (element-returns-2 t))
     (λ t. inside-lts.spec (inside-calls t) (inside-at t) inside.Post
     (inside-inside-of-requires t)
+    (inside-rowless-requires t)
     (inside-returns t)
+    (inside-row-above-requires t)
+    (inside-sub-t16 t)
     (inside-list-requires t)
     (inside-same-length t)
     (inside-returns-2 t))

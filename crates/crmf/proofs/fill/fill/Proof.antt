@@ -11,9 +11,6 @@ returns c = let a = c .before .before .before .args in fill-short (a .bytes .now
 returns-2 : tie.Need-returns-2
 returns-2 c = let a = c .before .before .before .before .args in fill-long (a .bytes .now) (a .count) (a .out .now) (omega arith) (c .if2 .taken)
 
-words-requires : tie.Need-words-requires
-words-requires c κs = search needs
-
 list-requires : tie.Need-list-requires
 list-requires c κs = search needs
 
@@ -22,9 +19,9 @@ same-length c = search needs
 
 returns-3 : tie.Need-returns-3
 returns-3 c =
-    let a = c .before .before .before .before .before .before .before .before .before .before .args in
-    fill-rows (a .bytes .now) (a .count) (a .out .now) (omega arith) (c .before .before .before .before .before .before .if2 .left) _ (c .before .before .list .ensures .wrote .kept)
+    let a = c .before .before .before .before .before .before .before .before .args in
+    fill-rows (a .bytes .now) (a .count) (a .out .now) (omega arith) (c .before .before .before .before .if2 .left) _ (c .before .before .list .ensures .wrote .kept)
 
 pub fill-spec : {M : Type 1} → statement M
 fill-spec =
-    tie.close (tie.spec returns returns-2 words-requires list-requires same-length returns-3)
+    tie.close (tie.spec returns returns-2 list-requires same-length returns-3)

@@ -1,12 +1,15 @@
 -- `crmf::fill::onward` meets its contract: the word's fields are the line's, and its code says whether the value selects. Assumes nothing.
 use borrow.Author.Needs.{needs}
-use Prim.Native.Nat.{ℕ, _+_}
+use Prim.Native.Nat.{ℕ, _+_, _-_}
 use mathlib.Core.Path.{_≡_, sym, ap, _∙_}
-use lib.ListN.{getD}
+use lib.ListN.{getD, take, drop}
+use lib.Seq.{slice}
 use Rattle.crmf.specs.Packed.{packed, judgeCode, judgeField, nextField}
 use Rattle.crmf.specs.Walk.{line}
+use Rattle.crmf.specs.Fill.{goes}
 use Rattle.crmf.proofs.Fields.{judge-at, next-at}
 use Rattle.crmf.proofs.Judging.{goes-on, goes-by}
+use Rattle.crmf.proofs.Slices.{take-slice}
 use Rattle.crmf.proofs.fill.onward.Statement.{statement}
 use Rattle.crmf.proofs.fill.onward.Tie as tie
 
@@ -21,8 +24,18 @@ returns c = λ k e.
     let j = line k .judge in
     let coded : judgeCode j ≡ c .before .before .judge-of .result = sym (judge-at k) ∙ ap judgeField (sym e) ∙ sym (c .before .before .judge-of .ensures) in
     let next : c .before .next-of .result ≡ line k .next = c .before .next-of .ensures ∙ ap nextField e ∙ next-at k in
-    let content = c .before .before .before .before .args .content .now in
+    let a = c .before .before .before .before .args in
+    let content = slice (a .from) (a .to) (a .bytes .now) in
     next ∙ goes-on (line k .next) _ content (c .if1 .taken) j coded
+
+sub-selected : tie.Need-sub-selected
+sub-selected c = search needs
+
+part-selected-start : tie.Need-part-selected-start
+part-selected-start c = search needs
+
+part-selected-end : tie.Need-part-selected-end
+part-selected-end c = search needs
 
 selected-requires : tie.Need-selected-requires
 selected-requires c κs = search needs
@@ -39,13 +52,16 @@ next-of-requires-2 c κs = search needs
 returns-2 : tie.Need-returns-2
 returns-2 c = λ k e.
     let j = line k .judge in
-    let coded : judgeCode j ≡ c .before .before .before .before .before .judge-of .result = sym (judge-at k) ∙ ap judgeField (sym e) ∙ sym (c .before .before .before .before .before .judge-of .ensures) in
-    let next : c .before .before .before .before .next-of .result ≡ line k .next = c .before .before .before .before .next-of .ensures ∙ ap nextField e ∙ next-at k in
-    let content = c .before .before .before .before .before .before .before .args .content .now in
+    let given = c .before .before .before .before .before in
+    let a = given .before .before .before .args in
+    let coded : judgeCode j ≡ given .before .judge-of .result = sym (judge-at k) ∙ ap judgeField (sym e) ∙ sym (given .before .judge-of .ensures) in
+    let next : given .next-of .result ≡ line k .next = given .next-of .ensures ∙ ap nextField e ∙ next-at k in
+    let part = take-slice (a .from) (a .to) (a .bytes .now) (given .before .before .before .pre .1) in
     c .next-of2 .ensures
     ∙ ap nextField (c .before .word .ensures ∙ ap (λ (n : ℕ). getD packed (n + c .before .before .selected .result) 0) next)
     ∙ next-at (line k .next + c .before .before .selected .result)
-    ∙ goes-by (line k .next) _ content (c .before .before .before .if1 .left) _ (c .before .before .selected .ensures .0) j coded
+    ∙ goes-by (line k .next) _ (take (a .to - a .from) (drop (a .from) (a .bytes .now))) (c .before .before .before .before .if1 .left) _ (c .before .before .selected .ensures .0) j coded
+    ∙ ap (goes j (line k .next)) part
 
 pub onward-spec : {M : Type 1} → statement M
 onward-spec =
@@ -54,6 +70,9 @@ onward-spec =
     judge-of-requires
     next-of-requires
     returns
+    sub-selected
+    part-selected-start
+    part-selected-end
     selected-requires
     add-word
     word-requires

@@ -1,16 +1,17 @@
 -- `crmf::table::seek` meets its contract. The loop's invariant: the search from the line looked at finds what it finds from where it began.
 -- Assumes nothing.
 use Prim.Native.Nat.{_-_}
-use mathlib.Core.Path.{_≡_, refl, sym, _∙_}
+use mathlib.Core.Bool.{false}
+use mathlib.Core.Path.{_≡_, refl, sym, ap, _∙_}
 use native.Mathlib.Omega.{arith}
 use borrow.Author.Needs.{needs}
 use native.Mathlib.Numerals.{add-one}
 use lib.ListN.{getD}
 use Rattle.crmf.specs.Notation.{named}
-use Rattle.crmf.specs.Packed.{passField, passCode}
+use Rattle.crmf.specs.Packed.{passField, passCode, identifiersField, identifiersCode}
 use Rattle.crmf.specs.Walk.{line, seek}
 use Rattle.crmf.proofs.Fields.{pass-at, identifiers-at}
-use Rattle.crmf.proofs.Search.{stays, moves, seek-here, seek-stops, seek-next, seek-past}
+use Rattle.crmf.proofs.Search.{stays, moves, own-code, other-code, seek-here, seek-stops, seek-next, seek-ends, seek-past}
 use Rattle.crmf.proofs.table.seek.Statement.{statement}
 use Rattle.crmf.proofs.table.seek.Tie as tie
 
@@ -29,35 +30,51 @@ mul-word c = search needs
 element-copy-out-word : tie.Need-element-copy-out-word Inv-loop μ-loop
 element-copy-out-word c = search needs
 
-names-requires : tie.Need-names-requires Inv-loop μ-loop
-names-requires c κs = search needs
-
 -- what the identifiers and the pass of the line that is looked at say
-fits : (c : tie.After-names Inv-loop μ-loop) →
-    let a = c .before .before .before in
-    c .names .result ≡ named (line (a .loop .k) .identifiers) (a .before .args .id)
-fits c =
-    let a = c .before .before .before in
-    c .names .ensures (line (a .loop .k) .identifiers) (rw (a .before .pre) (sym (identifiers-at (a .loop .k))))
+module _ (c : tie.After-word Inv-loop μ-loop) where
+  abbrev a : tie.At-loop Inv-loop μ-loop
+  a = c .before .before
 
-looked : (c : tie.After-names Inv-loop μ-loop) →
-    let a = c .before .before .before in
-    passField (getD (a .before .args .table .now) (a .loop .k) 0) ≡ passCode (line (a .loop .k) .pass)
-looked c =
-    let a = c .before .before .before in
-    rw (a .before .pre) (pass-at (a .loop .k))
+  coded : identifiersField (getD (a .before .args .table .now) (a .loop .k) 0) ≡ identifiersCode (line (a .loop .k) .identifiers)
+  coded = ap (λ t. identifiersField (getD t (a .loop .k) 0)) (a .before .pre) ∙ identifiers-at (a .loop .k)
+
+  looked : passField (getD (a .before .args .table .now) (a .loop .k) 0) ≡ passCode (line (a .loop .k) .pass)
+  looked = ap (λ t. passField (getD t (a .loop .k) 0)) (a .before .pre) ∙ pass-at (a .loop .k)
+
+add-if1 : tie.Need-add-if1 Inv-loop μ-loop
+add-if1 c = search needs
 
 returns : tie.Need-returns Inv-loop μ-loop
 returns c =
-    let a = c .before .before .before .before in
-    seek-here (a .loop .k) (omega arith) (a .before .args .id) (sym (fits (c .before)) ∙ c .if1 .taken) ∙ a .loop .inv
+    let d = c .before in
+    let k = a d .loop .k in
+    seek-here k (omega arith) (a d .before .args .id) (own-code (line k .identifiers) _ (sym (coded d) ∙ c .if1 .taken)) ∙ a d .loop .inv
+
+here-requires : tie.Need-here-requires Inv-loop μ-loop
+here-requires c κs = search needs
 
 returns-2 : tie.Need-returns-2 Inv-loop μ-loop
 returns-2 c =
-    let a = c .before .before .before .before .before in
-    let e = looked (c .before .before) in
-    let n = sym (fits (c .before .before)) ∙ c .before .if1 .left in
-    seek-stops (a .loop .k) (omega arith) (a .before .args .id) n (stays (line (a .loop .k) .pass) (omega arith)) ∙ a .loop .inv
+    let d = c .before .before .before in
+    let k = a d .loop .k in
+    let e = coded d in
+    c .here .ensures (line k .identifiers) (sym e) ∙ seek-ends k (omega arith) (a d .before .args .id) (omega arith) ∙ a d .loop .inv
+
+-- behind the two tests of its identifiers the line doesn't have the identifier
+unfit : (c : tie.Else2 Inv-loop μ-loop) →
+    let d = c .before .before in
+    named (line (a d .loop .k) .identifiers) (a d .before .args .id) ≡ false
+unfit c =
+    let d = c .before .before in
+    let e = coded d in
+    other-code (line (a d .loop .k) .identifiers) _ (omega arith) (λ q. c .before .if1 .left (e ∙ q))
+
+returns-3 : tie.Need-returns-3 Inv-loop μ-loop
+returns-3 c =
+    let d = c .before .before .before in
+    let k = a d .loop .k in
+    let e = looked d in
+    seek-stops k (omega arith) (a d .before .args .id) (unfit (c .before)) (stays (line k .pass) (omega arith)) ∙ a d .loop .inv
 
 add-k : tie.Need-add-k Inv-loop μ-loop
 add-k c = search needs
@@ -67,13 +84,13 @@ loop-less c = search needs
 
 loop-again : tie.Need-loop-again Inv-loop μ-loop
 loop-again c =
-    let a = c .before .before .before .before .before in
-    let e = looked (c .before .before) in
-    let n = sym (fits (c .before .before)) ∙ c .before .if1 .left in
-    rw add-one (seek-next (a .loop .k) (omega arith) (a .before .args .id) n (moves (line (a .loop .k) .pass) (omega arith)) ∙ a .loop .inv)
+    let d = c .before .before .before in
+    let k = a d .loop .k in
+    let e = looked d in
+    rw add-one (seek-next k (omega arith) (a d .before .args .id) (unfit (c .before)) (moves (line k .pass) (omega arith)) ∙ a d .loop .inv)
 
-returns-3 : tie.Need-returns-3 Inv-loop μ-loop
-returns-3 c = seek-past (c .before .loop .k) (c .loop-test .left) (c .before .before .args .id) ∙ c .before .loop .inv
+returns-4 : tie.Need-returns-4 Inv-loop μ-loop
+returns-4 c = seek-past (c .before .loop .k) (c .loop-test .left) (c .before .before .args .id) ∙ c .before .loop .inv
 
 pub seek-spec : {M : Type 1} → statement M
 seek-spec =
@@ -84,10 +101,12 @@ seek-spec =
     loop-holds
     mul-word
     element-copy-out-word
-    names-requires
+    add-if1
     returns
+    here-requires
     returns-2
+    returns-3
     add-k
     loop-less
     loop-again
-    returns-3)
+    returns-4)

@@ -1,0 +1,202 @@
+-- What a step says of an element, a law for each shape of a line: any of a mark, a value, a certReqId, and one with lines inside. Assumes nothing.
+use Prim.Native.Nat.{ℕ, _+_, _/_, _≤_, _<_}
+use mathlib.Core.Path.{_≡_, refl, sym, ap, ap₂, subst, _∙_}
+use mathlib.Core.Bool.{Bool, true, false, not, _&&_, and-eq-true-iff, and-true, and-false, Bool·not-not}
+use mathlib.Core.List.{List}
+use mathlib.Core.Logic.{inl, inr}
+use native.Mathlib.Omega.{arith}
+use lib.Dec.{eqb, ltb, leb}
+use lib.ListN.{length}
+use borrow.Author.Tests.{ltb-true, leb-true, leb-false, le-ltb, lt-ltb, ne-eqb}
+use Rattle.der.specs.Content.{holds, integer}
+use Rattle.der.specs.Sound.{wholeOf}
+use Rattle.der.proofs.Laws.{whole-value, holds-integer, holds-free, ruled}
+use Rattle.crmf.specs.declared.judge.Onward.{Onward}
+use Rattle.crmf.specs.declared.judge.Onward.the-variants.{To, Breaks}
+use Rattle.crmf.specs.declared.step.Step.the-variants.{Stop, On, Into}
+use Rattle.crmf.specs.Value.{Rule, always, keeps}
+use Rattle.crmf.specs.Notation.{Mark, both, alone, named, Name}
+use Rattle.crmf.specs.Language.{readable}
+use Rattle.crmf.specs.Rows.{longId}
+use Rattle.crmf.specs.Table.{keep, start}
+use Rattle.crmf.specs.Packed.{markCode, actionOf}
+use Rattle.crmf.specs.Walk.{line, judged, ruleDetail}
+use Rattle.crmf.specs.Quick.{stands, countsAt}
+use Rattle.crmf.specs.QuickSteps.{inner, outcome, Sized, Taken, Fine}
+use Rattle.crmf.proofs.Fields.{computed, at-line}
+use Rattle.crmf.proofs.Actions.{Plain, plain-names, Asked, id-kind, Opens}
+
+-- a mark names an edition that is not 0 and a difference below 8
+abbrev sure : Mark → Bool
+sure both = true
+sure (alone e d) = leb 1 e && ltb d 8
+
+-- at every line of the table
+sure-at : (k : ℕ) → sure (line k .mark) ≡ true
+unfolding computed
+sure-at = at-line (λ x. sure (x .mark)) refl
+
+-- whether a form of such a mark is read in an edition, by the mark's code
+by-code : (m : Mark) (code e : ℕ) → sure m ≡ true → markCode m ≡ code → readable (λ y. eqb y e) m ≡ not (not (eqb code 0) && not (eqb (code / 8) e))
+unfolding markCode
+by-code both code e good coded = rw (sym coded)
+by-code (alone x d) code e good coded =
+    let both-tests = and-eq-true-iff (leb 1 x) (ltb d 8) .0 good in
+    let some : 1 ≤ x = leb-true 1 x (both-tests .0) in
+    let few : d < 8 = ltb-true d 8 (both-tests .1) in
+    let other : eqb code 0 ≡ false = ne-eqb code 0 (λ z. absurd (omega (arith, z))) in
+    let high : code / 8 ≡ x = omega arith in
+    rw (other, high) (sym (Bool·not-not (eqb x e)))
+
+-- and so at every line
+pub reads : (k code e : ℕ) → markCode (line k .mark) ≡ code → readable (λ y. eqb y e) (line k .mark) ≡ not (not (eqb code 0) && not (eqb (code / 8) e))
+reads k code e coded = by-code (line k .mark) code e (sure-at k) coded
+
+-- an element of a line that isn't a certReqId's stands there where the line's mark is read
+pub stands-by : (e k whole : ℕ) → eqb (line k .kind) 4 ≡ false → stands e (line k) whole ≡ readable (λ y. eqb y e) (line k .mark)
+stands-by e k whole short = rw short (and-true _)
+
+-- and of a line of both editions by its kind and its length
+stands-common : (e k whole : ℕ) → line k .mark ≡ both → (b : Bool) → longId (line k .kind) whole ≡ b → stands e (line k) whole ≡ not b
+stands-common e k whole common b long = ap₂ _&&_ (ap (readable (λ y. eqb y e)) common) (ap not long)
+
+-- so it stands in a line of both editions whose action isn't a certReqId's
+pub stands-at : (e k whole a : ℕ) → line k .mark ≡ both → actionOf (line k) ≡ a → eqb a 4 ≡ false → stands e (line k) whole ≡ true
+stands-at e k whole a common is other =
+    stands-by e k whole (id-kind k ∙ ap (λ (x : ℕ). eqb x 4) is ∙ other) ∙ ap (readable (λ y. eqb y e)) common
+
+-- a value's line with one of two rules is of both editions
+pub asked-mark : {k i : ℕ} {r : Rule} → Asked k i r → line k .mark ≡ both
+asked-mark (inl x) = x .mark
+asked-mark (inr (j, x, free)) = x .mark
+
+-- What a step says of an element.
+module _ (e k whole left id : ℕ) (c : List ℕ) where
+  -- what its value says
+  abbrev says : Onward
+  says = judged (line k .judge) (line k .next) c
+
+  -- its value breaks its rule
+  pub stop-breaks : (d : ℕ) → says ≡ Breaks d → Taken e k whole left id c Stop
+  unfolding outcome
+  stop-breaks d breaks n p = rw (outcome, breaks)
+
+  -- its inside comes to nothing
+  stop-none : ((n p : ℕ) → inner e k whole left n p id c ≡ 0) → Taken e k whole left id c Stop
+  unfolding outcome
+  stop-none nothing n p = go says refl
+    where
+      go : (o : Onward) → says ≡ o → outcome e k whole left n p id c ≡ 0
+      go (To next) on = rw (outcome, on) (nothing n p)
+      go (Breaks d) breaks = rw (outcome, breaks)
+
+  -- it may not stand there
+  pub stop-wrong : stands e (line k) whole ≡ false → Taken e k whole left id c Stop
+  unfolding inner
+  stop-wrong wrong = stop-none (λ n p. rw (inner, wrong))
+
+  module _ (good : stands e (line k) whole ≡ true) (next : ℕ) where
+    -- an inside with lines of its own
+    pub into : says ≡ To next → eqb (line k .inside) 0 ≡ false → Taken e k whole left id c (Into next)
+    unfolding inner
+    into on lined = (on, λ n p some. rw (inner, good, lined))
+
+    -- the same that is fine
+    on-inside : says ≡ To next → eqb (line k .inside) 0 ≡ false → ((n p : ℕ) → 1 ≤ n → countsAt e left (line k .inside) n p c ≡ n)
+        → Taken e k whole left id c (On next)
+    unfolding inner
+    on-inside on lined fine = (on, λ n p some. rw (inner, good, lined) (fine n p some))
+
+    -- an element with a free inside
+    pub on-whole : says ≡ To next → eqb (line k .inside) 0 ≡ true → (t : Bool) → wholeOf id left c ≡ t
+        → Taken e k whole left id c (elim t [ true ↦ On next | false ↦ Stop ])
+    unfolding inner
+    on-whole on free true is = (on, λ n p some. rw (inner, good, free, is))
+    on-whole on free false is = stop-none (λ n p. rw (inner, good, free, is))
+
+    module _ (to : next ≡ line k .next) where
+      -- what the line's rule says
+      said : (r : Rule) → line k .judge ≡ keep r → (b : Bool) → keeps r c ≡ b → says ≡ elim b [ true ↦ To next | false ↦ Breaks (ruleDetail r) ]
+      unfolding judged
+      said r is true kept = rw (is, judged, kept, to)
+      said r is false kept = rw (is, judged, kept)
+
+      -- no rule says to go on
+      said-always : line k .judge ≡ keep always → says ≡ To next
+      unfolding keeps
+      said-always is = said always is true refl
+
+      -- an element with a free inside, and a rule
+      on-kept : (r : Rule) → line k .judge ≡ keep r → eqb (line k .inside) 0 ≡ true → (w b : Bool) → wholeOf id left c ≡ w → keeps r c ≡ b
+          → Taken e k whole left id c (elim (w && b) [ true ↦ On next | false ↦ Stop ])
+      on-kept r is free true true fine kept = on-whole (said r is true kept) free true fine
+      on-kept r is free false true fault kept = on-whole (said r is true kept) free false fault
+      on-kept r is free true false fine broken = stop-breaks (ruleDetail r) (said r is false broken)
+      on-kept r is free false false fault broken = stop-breaks (ruleDetail r) (said r is false broken)
+
+      -- any element
+      pub on-any : line k .judge ≡ keep always → eqb (line k .inside) 0 ≡ true → (t : Bool) → wholeOf id left c ≡ t
+          → Taken e k whole left id c (elim t [ true ↦ On next | false ↦ Stop ])
+      on-any is free t fine = on-whole (said-always is) free t fine
+
+      module _ (fits : named (line k .identifiers) id ≡ true) where
+        -- a value, by its type's rule and its line's
+        on-plain : {i : ℕ} {r : Rule} → Plain k i r false → (t : Bool) → (holds i c && keeps r c) ≡ t
+            → Taken e k whole left id c (elim t [ true ↦ On next | false ↦ Stop ])
+        on-plain {i} {r} x t both-hold =
+            let same : id ≡ i = plain-names x id fits in
+            let whole-is : wholeOf id left c ≡ holds i c = rw same (whole-value i left c (x .may) (x .lists)) in
+            subst (λ (b : Bool). Taken e k whole left id c (elim b [ true ↦ On next | false ↦ Stop ])) both-hold
+            (on-kept r (x .judge) (x .free) (holds i c) (keeps r c) whole-is refl)
+
+        -- by its type's alone
+        pub on-typed : {i : ℕ} → Plain k i always false → (t : Bool) → holds i c ≡ t
+            → Taken e k whole left id c (elim t [ true ↦ On next | false ↦ Stop ])
+        unfolding keeps
+        on-typed {i} x t held = on-plain x t (and-true (holds i c) ∙ held)
+
+        -- by its line's alone
+        on-free : {i : ℕ} {r : Rule} → Plain k i r false → ruled i ≡ false → (t : Bool) → keeps r c ≡ t
+            → Taken e k whole left id c (elim t [ true ↦ On next | false ↦ Stop ])
+        on-free {i} x free t kept = on-plain x t (rw (holds-free i c free) kept)
+
+        -- by one of them, which are the same
+        pub on-asked : {i : ℕ} {r : Rule} → Asked k i r → (t : Bool) → holds i c ≡ t → keeps r c ≡ t
+            → Taken e k whole left id c (elim t [ true ↦ On next | false ↦ Stop ])
+        on-asked (inl x) t held kept = on-typed x t held
+        on-asked (inr (j, x, free)) t held kept = on-free x free t kept
+
+        -- a value that is free
+        pub on-untyped : {i : ℕ} → Plain k i always false → ruled i ≡ false → Taken e k whole left id c (On next)
+        unfolding keeps
+        on-untyped x free = on-free x free true refl
+
+      -- an element with lines inside
+      pub into-lines : {i : ℕ} → Plain k i always true → Taken e k whole left id c (Into next)
+      into-lines x = into (said-always (x .judge)) (x .free)
+
+      -- the same where the inside may be seen to be fine, with levels enough
+      pub past : (n : Name) (levels least : ℕ) → Opens k n → levels ≤ least + 1 → (r : Bool) → (r ≡ true → Fine (start n) levels c)
+          → Taken e k whole left id c (elim (ltb least left && r) [ true ↦ On next | false ↦ Into next ])
+      past n levels least (i, x, is) enough r fine = go (ltb least left && r) refl
+        where
+          go : (t : Bool) → (ltb least left && r) ≡ t → Taken e k whole left id c (elim t [ true ↦ On next | false ↦ Into next ])
+          go false test = into-lines x
+          go true test =
+              let (deep, seen) = and-eq-true-iff (ltb least left) r .0 test in
+              let room : levels ≤ left = omega (arith, ltb-true least left deep, enough) in
+              on-inside (said-always (x .judge)) (x .free)
+              (λ m p some. ap (λ (j : ℕ). countsAt e left j m p c) is ∙ fine seen e left m p room some)
+
+-- A certReqId: its content has 8 octets at most, and is an INTEGER's.
+pub on-id : (e k whole left id : ℕ) (c : List ℕ) (next : ℕ) → next ≡ line k .next → actionOf (line k) ≡ 4 → Plain k 0x02 always false
+    → named (line k .identifiers) id ≡ true → Sized whole c → (s t : Bool) → leb (length c) 8 ≡ s → integer c ≡ t
+    → Taken e k whole left id c (elim (s && t) [ true ↦ On next | false ↦ Stop ])
+on-id e k whole left id c next to is x fits sized true t small value =
+    let few : ltb 10 whole ≡ false = le-ltb _ _ (sized .small (leb-true _ _ small)) in
+    let short : longId (line k .kind) whole ≡ false = rw few (and-false (eqb (line k .kind) 4)) in
+    on-typed e k whole left id c (stands-common e k whole (x .mark) false short) next to fits x t (holds-integer c ∙ value)
+on-id e k whole left id c next to is x fits sized false t large value =
+    let many : ltb 10 whole ≡ true = lt-ltb _ _ (sized .large (leb-false _ _ large)) in
+    let long : longId (line k .kind) whole ≡ true = rw (id-kind k, is, many) in
+    stop-wrong e k whole left id c (stands-common e k whole (x .mark) true long)
