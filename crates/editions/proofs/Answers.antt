@@ -65,6 +65,15 @@ either false false t = sym t
 either false true t = refl
 either true b t = refl
 
+-- a number from 1 to 2 is one
+pub an-edition : (e : ℕ) → (1 ≤ e) × (e ≤ 2) → (not (eqb e 1) && not (eqb e 2)) ≡ false
+an-edition e range = go (eqb e 1) refl (eqb e 2) refl
+  where
+    go : (a : Bool) → eqb e 1 ≡ a → (b : Bool) → eqb e 2 ≡ b → (not (eqb e 1) && not (eqb e 2)) ≡ false
+    go true one b is = rw one
+    go false more true two = rw (more, two)
+    go false more false other = absurd (omega (arith, range, eqb-false e 1 more, eqb-false e 2 other))
+
 -- the answer by the order of the refusals
 module _ (e : ℕ) (s : List ℕ) where
   pub no-edition : (not (eqb e 1) && not (eqb e 2)) ≡ true → refusal 13 0 ≡ answer e s

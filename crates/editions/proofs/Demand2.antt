@@ -50,7 +50,8 @@ module _ (e : ℕ) (s : List ℕ) where
   by-walk (Passed r) is zero = (r, (is, by-long (eqb (firstLong (0, 0) (rowsOf s) .0) 0) zero))
   by-walk (Broken p d r) is zero = absurd (by-stop p (passes (ownWalk (opposite e) (tree 0 s))) zero)
 
-  batch-inverse : batchAnswer e s .number ≡ 0 → (r : Seen) × ((ownWalk e (tree 0 s) ≡ Passed r) × (eqb (firstLong (0, 0) (rowsOf s) .0) 0 ≡ true))
+  -- An answer of acceptance comes from a walk of the edition's own that passes, with no long certReqId among the rows.
+  pub batch-inverse : batchAnswer e s .number ≡ 0 → (r : Seen) × ((ownWalk e (tree 0 s) ≡ Passed r) × (eqb (firstLong (0, 0) (rowsOf s) .0) 0 ≡ true))
   unfolding batchAnswer
   batch-inverse zero = by-walk (ownWalk e (tree 0 s)) refl zero
 

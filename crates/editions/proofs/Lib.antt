@@ -5,5 +5,6 @@ pub mod Demand3
 pub mod OneElement
 pub mod OneWalk
 pub mod PaperVectors
+pub mod QuickAnswer
 pub mod RefusalNumbers
 pub mod Tables

@@ -1,7 +1,6 @@
 -- Document 01's batches marked [P], read: one statement over the list of them, computed on the definitions. Assumes nothing.
 use mathlib.Core.Path.{_≡_, refl}
 use Rattle.der.specs.Each.{Each, _&_}
-use Rattle.der.specs.Identifier.{constructed, universal, primitiveType, constructedType, universalType, allowed}
 use Rattle.der.specs.Length.{valueFrom, shortest, longForm, lengthOf}
 use Rattle.der.specs.Header.{sizedBy, headOf}
 use Rattle.der.specs.Utf8.{classOf, leads, tails, lowest, highest, utf8From, utf8}
@@ -26,7 +25,7 @@ Reads x =
 
 -- Every entry of the list is read as document 01 says.
 pub paper : Each Reads entries
-unfolding constructed universal primitiveType constructedType universalType allowed valueFrom shortest longForm lengthOf sizedBy headOf
+unfolding valueFrom shortest longForm lengthOf sizedBy headOf
     classOf leads tails lowest highest utf8From utf8 integer lastOf unpadded objectIdentifier holds listOf primitiveOf elementOf walkAt
     given read treeOf tree same isUpTo keeps typeNumber selected among named order content
     partSize size startsFrom start insideLine passOf formLines nextLine wayLine partLines containerLines linesFrom lines

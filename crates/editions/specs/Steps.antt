@@ -1,10 +1,11 @@
 -- The answer as one walk over every form gives it: what it has met of the opposite edition's forms decides. Assumes nothing.
-use Prim.Native.Nat.{ℕ}
+use Prim.Native.Nat.{ℕ, _*_}
 use mathlib.Core.Bool.{true, false}
-use lib.Dec.{eqb}
+use lib.Dec.{eqb, leb}
 use Rattle.crmf.specs.declared.walk.Seen.{Seen}
+use Rattle.crmf.specs.Rows.{width}
 use Rattle.editions.specs.declared.reader.Answer.{Answer}
-use Rattle.editions.specs.Reading.{refusal, opposite, eightOrNine, counted}
+use Rattle.editions.specs.Reading.{refusal, accepted, opposite, eightOrNine, counted}
 
 -- of what was met, the first form of an edition alone: its difference's number (0: none) and its place
 abbrev pub formOf : ℕ → Seen → ℕ × ℕ
@@ -28,3 +29,7 @@ unfoldable pub brokenAnswer : ℕ → ℕ → Seen → Answer
 brokenAnswer e p s =
     let foreign = formOf (opposite e) s in
     refusal 8 (elim (eqb (foreign .0) 0) [ true ↦ p | false ↦ foreign .1 ])
+
+-- so many rows in a table of a length: acceptance, or 11 where it is too short
+abbrev pub shownAnswer : ℕ → ℕ → Answer
+shownAnswer n room = elim (leb (width * n) room) [ true ↦ accepted n | false ↦ refusal 11 0 ]

@@ -4,10 +4,12 @@ use crmf::walk::Walked;
 use der::walk::Nest;
 ghost use Prim.Native.Nat.{ℕ, _≤_};
 ghost use mathlib.Core.Path.{_≡_};
+ghost use mathlib.Core.Bool.{_&&_, not};
+ghost use lib.Dec.{eqb};
 ghost use lib.ListN.{length};
 ghost use Rattle.der.specs.Walk.{longest};
-ghost use Rattle.editions.specs.Reading.{refusal, batchAnswer, answer, readAnswer, tableAfter};
-ghost use Rattle.editions.specs.Steps.{formOf, stopNumber, passedAnswer, brokenAnswer};
+ghost use Rattle.editions.specs.Reading.{refusal, accepted, batchAnswer, answer, readAnswer, tableAfter};
+ghost use Rattle.editions.specs.Steps.{formOf, stopNumber, passedAnswer, brokenAnswer, shownAnswer};
 
 // What a call answers: document 01's number (0: accepted), its place, and the count of rows. C is handed it as it is.
 #[repr(C)]
@@ -22,23 +24,52 @@ pub fn read(edition: usize, bytes: &[u8], table: &mut [usize]) -> Answer
     ensures { λ r. ⌜ (r ≡ readAnswer edition (now (bytes .entry)) (now (table .entry)))
         × (now (table .exit) ≡ tableAfter edition (now (bytes .entry)) (now (table .entry))) ⌝ }
 {
-    let found = accept(edition, bytes);
-    if found.number != 0 {
-        return found;
+    if is_none(edition) {
+        return refuse(13, 0);
     }
-    if crmf::fill::fill(bytes, found.count, table) {
-        return found;
+    let rows = crmf::quick::read(edition, bytes, table);
+    if rows != 0 {
+        return shown(rows - 1, table.len());
     }
-    refuse(11, 0)
+    exact(edition, bytes)
+}
+
+// The answer for so many rows, in a table of a length that holds them if it can.
+fn shown(count: usize, room: usize) -> Answer
+    ensures { λ r. ⌜ r ≡ shownAnswer count room ⌝ }
+{
+    if room / crmf::fill::WIDTH < count {
+        return refuse(11, 0);
+    }
+    admit(count)
 }
 
 // Judges a batch in an edition: the same answer without a table, so without 11.
 pub fn accept(edition: usize, bytes: &[u8]) -> Answer
     ensures { λ r. ⌜ r ≡ answer edition (now (bytes .entry)) ⌝ }
 {
-    if (edition != 1) & (edition != 2) {
+    if is_none(edition) {
         return refuse(13, 0);
     }
+    let rows = crmf::quick::count(edition, bytes);
+    if rows != 0 {
+        return admit(rows - 1);
+    }
+    exact(edition, bytes)
+}
+
+// Whether a number is none of the two editions.
+fn is_none(edition: usize) -> bool
+    ensures { λ r. ⌜ r ≡ (not (eqb edition 1) && not (eqb edition 2)) ⌝ }
+{
+    (edition != 1) & (edition != 2)
+}
+
+// The answer in one of the two editions, by one look after the other: at the length, the nest, and the grammar.
+fn exact(edition: usize, bytes: &[u8]) -> Answer
+    requires { ⌜ (1 ≤ edition) × (edition ≤ 2) ⌝ }
+    ensures { λ r. ⌜ r ≡ answer edition (now (bytes .entry)) ⌝ }
+{
     if der::input::LONGEST < bytes.len() {
         return refuse(1, 0);
     }
@@ -85,11 +116,7 @@ fn passed(edition: usize, seen: Seen) -> Answer
     if seen.long != 0 {
         return refuse(10, seen.long_at);
     }
-    Answer {
-        number: 0,
-        place: 0,
-        count: seen.count,
-    }
+    admit(seen.count)
 }
 
 // The number where a form of the opposite edition stands in what is else a batch, by the difference of this edition's own that was met.
@@ -130,6 +157,17 @@ fn first_form(edition: usize, seen: Seen) -> Form
     Form {
         difference: seen.two,
         place: seen.two_at,
+    }
+}
+
+// An acceptance's answer.
+fn admit(count: usize) -> Answer
+    ensures { λ r. ⌜ r ≡ accepted count ⌝ }
+{
+    Answer {
+        number: 0,
+        place: 0,
+        count,
     }
 }
 

@@ -39,13 +39,17 @@ returns-2 c =
     c .refuse2 .ensures
     ∙ passed-long (a .edition) _ _ (a .seen) (f .ensures .0) (f .ensures .1) (c .before .before .before .if1 .left) (c .before .if2 .taken)
 
+admit-requires : tie.Need-admit-requires
+admit-requires c κs = search needs
+
 returns-3 : tie.Need-returns-3
 returns-3 c =
-    let f = c .before .before .before .before .first-form in
-    let a = c .before .before .before .before .before .args in
-    passed-accepted (a .edition) _ _ (a .seen) (f .ensures .0) (f .ensures .1) (c .before .before .if1 .left) (c .if2 .left)
+    let f = c .before .before .before .before .before .first-form in
+    let a = c .before .before .before .before .before .before .args in
+    c .admit .ensures
+    ∙ passed-accepted (a .edition) _ _ (a .seen) (f .ensures .0) (f .ensures .1) (c .before .before .before .if1 .left) (c .before .if2 .left)
 
 pub passed-spec : {M : Type 1} → statement M
 passed-spec =
     tie.close
-    (tie.spec sub-first-form first-form-requires first-form-requires-2 stop-number-requires refuse-requires returns refuse-requires-2 returns-2 returns-3)
+    (tie.spec sub-first-form first-form-requires first-form-requires-2 stop-number-requires refuse-requires returns refuse-requires-2 returns-2 admit-requires returns-3)

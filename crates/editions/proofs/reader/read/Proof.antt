@@ -1,52 +1,78 @@
--- `editions::reader::read` meets its contract: refused as without a table, no room, or the rows. Assumes nothing.
+-- `editions::reader::read` meets its contract: no edition; the quick reading; or, where that counts none and leaves the table, refused as
+-- without a table. Assumes nothing.
 use borrow.Author.Needs.{needs}
-use mathlib.Core.Path.{sym, _∙_}
-use Rattle.editions.proofs.Tables.{read-refused, read-short, read-accepted}
+use mathlib.Core.Path.{sym, ap, _∙_}
+use Prim.Native.Nat.{_-_}
+use Rattle.der.specs.Octets.{Octets}
+use Rattle.crmf.proofs.Laws.{quick-stays}
+use Rattle.editions.specs.declared.reader.Answer.{Answer}
+use Rattle.editions.specs.Steps.{shownAnswer}
+use Rattle.editions.proofs.Answers.{in-range}
+use Rattle.editions.proofs.Tables.{read-refused}
+use Rattle.editions.proofs.QuickAnswer.{quick-none, quick-shown, refused-thirteen}
 use Rattle.editions.proofs.reader.read.Statement.{statement}
 use Rattle.editions.proofs.reader.read.Tie as tie
 
-accept-requires : tie.Need-accept-requires
-accept-requires c κs = search needs
+is-none-requires : tie.Need-is-none-requires
+is-none-requires c κs = search needs
+
+refuse-requires : tie.Need-refuse-requires
+refuse-requires c κs = search needs
 
 returns : tie.Need-returns
 returns c =
-    let a = c .before .before .before .before .before .args in
-    let found = c .before .before .accept in
-    read-refused (a .edition) (a .bytes .now) (a .table .now) (found .result) (found .ensures) (c .if1 .taken)
+    let tested = c .before .before in
+    let a = tested .before .before .before .args in
+    let (answered, after) = refused-thirteen (a .edition) (a .bytes .now) (a .table .now) (sym (tested .is-none .ensures) ∙ c .before .if1 .taken) in
+    (c .refuse .ensures ∙ answered, after)
 
-fill-requires : tie.Need-fill-requires
-fill-requires c κs = search needs
+read-requires : tie.Need-read-requires
+read-requires c κs = search needs
+
+sub-shown : tie.Need-sub-shown
+sub-shown c = search needs
+
+shown-requires : tie.Need-shown-requires
+shown-requires c κs = search needs
 
 same-length : tie.Need-same-length
 same-length c = search needs
 
 returns-2 : tie.Need-returns-2
 returns-2 c =
-    let start = c .before .before .before .before .before .before .before .before .before .before in
-    let a = start .args in
-    let found = c .before .before .before .before .before .before .before .accept in
-    let filling = c .before .before .before .fill in
+    let r = c .before .before .before .before in
+    let tested = r .before .before .before in
+    let a = tested .before .before .before .args in
     let (answered, after) =
-    read-accepted (a .edition) (a .bytes .now) (a .table .now) (found .result) (found .ensures) (c .before .before .before .before .before .if1 .left)
-    (λ i. c .before .before .before .before .before .before .before .before .before .shared-slice-known .given i .fits) (sym (filling .ensures .0) ∙ c .if2 .taken) in
-    (answered, filling .ensures .1 ∙ after)
+    quick-shown (a .edition) (a .bytes .now) (a .table .now) (λ i. tested .before .before .shared-slice-known .given i .fits) (sym (tested .is-none .ensures) ∙ r .before .before .if1 .left) _ (r .read .ensures .0)
+    (c .before .if2 .taken) in
+    (c .shown .ensures ∙ ap (shownAnswer (r .read .result - 1)) (r .read .kept .1 .1 .0) ∙ answered, r .read .ensures .1 ∙ after)
 
-refuse-requires : tie.Need-refuse-requires
-refuse-requires c κs = search needs
+exact-requires : tie.Need-exact-requires
+exact-requires c κs =
+    let r = c .before .before .before in
+    let tested = r .before .before .before in
+    let a = tested .before .before .before .args in
+    in-range (a .edition) (a .bytes .now) (sym (tested .is-none .ensures) ∙ r .before .before .if1 .left)
 
 same-length-2 : tie.Need-same-length-2
 same-length-2 c = search needs
 
 returns-3 : tie.Need-returns-3
 returns-3 c =
-    let a = c .before .before .before .before .before .before .before .before .before .before .before .args in
-    let found = c .before .before .before .before .before .before .before .before .accept in
-    let filling = c .before .before .before .before .fill in
+    let r = c .before .before .before .before in
+    let tested = r .before .before .before in
+    let a = tested .before .before .before .args in
+    let none = c .before .if2 .left in
+    let stays = r .read .ensures .1 ∙ sym (quick-stays (a .edition) (a .bytes .now) (a .table .now) _ (r .read .ensures .0) none) in
+    let found = c .exact in
+    let octets : Octets (a .bytes .now) = λ i. tested .before .before .shared-slice-known .given i .fits in
     let (answered, after) =
-    read-short (a .edition) (a .bytes .now) (a .table .now) (found .result) (found .ensures) (c .before .before .before .before .before .before .if1 .left)
-    (sym (filling .ensures .0) ∙ c .before .if2 .left) in
-    (c .refuse .ensures ∙ answered, filling .ensures .1 ∙ after)
+    read-refused (a .edition) (a .bytes .now) (a .table .now) (found .result) (found .ensures)
+    (λ zero. quick-none (a .edition) (a .bytes .now) octets (sym (r .read .ensures .0) ∙ none) (ap (λ (x : Answer). x .number) (sym (found .ensures)) ∙ zero)) in
+    (answered, stays ∙ after)
 
 pub read-spec : {M : Type 1} → statement M
 read-spec =
-    tie.close (tie.spec accept-requires returns fill-requires same-length returns-2 refuse-requires same-length-2 returns-3)
+    tie.close
+    (tie.spec is-none-requires refuse-requires returns read-requires sub-shown shown-requires same-length returns-2 exact-requires same-length-2 returns-3)

@@ -1,0 +1,78 @@
+-- `editions::reader::exact` meets its contract: the refusals in document 01's order. Assumes nothing.
+use borrow.Author.Needs.{needs}
+use mathlib.Core.Path.{sym, _∙_}
+use Rattle.editions.proofs.Answers.{an-edition, too-long, nest-fault, bytes-after, one-element}
+use Rattle.editions.proofs.reader.exact.Statement.{statement}
+use Rattle.editions.proofs.reader.exact.Tie as tie
+
+refuse-requires : tie.Need-refuse-requires
+refuse-requires c κs = search needs
+
+returns : tie.Need-returns
+returns c =
+    let start = c .before .before .before in
+    c .refuse .ensures ∙ too-long (start .args .edition) (start .args .bytes .now) (an-edition _ (start .pre)) (c .before .if1 .taken)
+
+walk-requires : tie.Need-walk-requires
+walk-requires c κs = search needs
+
+enum-known-number : tie.Need-enum-known-number
+enum-known-number c = search needs
+
+refuse-requires-2 : tie.Need-refuse-requires-2
+refuse-requires-2 c κs = search needs
+
+enum-known-end : tie.Need-enum-known-end
+enum-known-end c = search needs
+
+refuse-requires-3 : tie.Need-refuse-requires-3
+refuse-requires-3 c κs = search needs
+
+returns-2 : tie.Need-returns-2
+returns-2 c =
+    let walked = c .before .before .before .before .before in
+    let start = walked .before .before .before in
+    let a = start .args in
+    c .refuse3 .ensures
+    ∙ bytes-after (a .edition) (a .bytes .now) (an-edition _ (start .pre)) (walked .before .if1 .left) _
+    (sym (walked .walk .ensures) ∙ c .before .before .before .end .given .1) (c .before .if2 .taken)
+
+batch-requires : tie.Need-batch-requires
+batch-requires c κs =
+    let walked = c .before .before .before .before in
+    let start = walked .before .before .before in
+    (start .pre .0, start .pre .1, walked .before .if1 .left)
+
+returns-3 : tie.Need-returns-3
+returns-3 c =
+    let walked = c .before .before .before .before in
+    let start = walked .before .before .before in
+    let a = start .args in
+    c .refuse2 .ensures
+    ∙ nest-fault (a .edition) (a .bytes .now) (an-edition _ (start .pre)) (walked .before .if1 .left) _ _ _
+    (sym (walked .walk .ensures) ∙ c .before .before .number .given .1)
+
+returns-4 : tie.Need-returns-4
+returns-4 c =
+    let walked = c .before .before .before .before .before in
+    let start = walked .before .before .before in
+    let a = start .args in
+    c .batch .ensures
+    ∙ one-element (a .edition) (a .bytes .now) (an-edition _ (start .pre)) (walked .before .if1 .left) _
+    (sym (walked .walk .ensures) ∙ c .before .before .before .end .given .1) (c .before .if2 .left)
+
+pub exact-spec : {M : Type 1} → statement M
+exact-spec =
+    tie.close
+    (tie.spec
+    refuse-requires
+    returns
+    walk-requires
+    enum-known-number
+    refuse-requires-2
+    enum-known-end
+    refuse-requires-3
+    returns-2
+    batch-requires
+    returns-3
+    returns-4)
