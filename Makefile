@@ -9,8 +9,11 @@ ARCHIVE = target/staticlib/libcapi.a
 SOURCES = $(wildcard tools/*.c)
 HEADERS = $(wildcard tools/*.h) include/phagundro.h
 SAMPLE = tests/corpus/crmf/openssl-sig-p256.der
+MEASURED = openssl-sig-rsa2048 openssl-batch-10-ec-sig bc-batch-100-rsa-sig-near-64k openssl-batch-259-ec-sig-near-64k \
+	pyasn1-batch-913-nokey-near-64k openssl-regToken-60000
+CRYPTO = $(shell pkg-config --libs libcrypto 2>/dev/null)
 
-.PHONY: all install demo test clean
+.PHONY: all install demo bench test clean
 
 all: $(BUILD)/phagundro
 
@@ -47,6 +50,13 @@ demo: all
 	$(BUILD)/phagundro editions $(SAMPLE)
 	$(BUILD)/phagundro read --edition 2 $(SAMPLE)
 	$(BUILD)/phagundro verdict --edition 2 --position 0 $(SAMPLE)
+
+$(BUILD)/bench: $(wildcard bench/*) include/phagundro.h $(ARCHIVE) Makefile
+	mkdir -p $(BUILD)
+	$(CC) -std=c11 -D_POSIX_C_SOURCE=199309L -Wall -Wextra -Werror $(CFLAGS) $(if $(CRYPTO),-DWITH_OPENSSL) -Iinclude -o $@ bench/*.c $(ARCHIVE) $(LDFLAGS) $(CRYPTO)
+
+bench: $(BUILD)/bench
+	$(BUILD)/bench $(MEASURED:%=tests/corpus/crmf/%.der)
 
 test:
 	.ci/run

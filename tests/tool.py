@@ -351,6 +351,14 @@ def other_demo():
     return [f"make demo doesn't show: {words}" for words in wanted if words not in shown]
 
 
+@scratch
+def other_benchmarks(folder):
+    """Inputs of which the benchmarks show nothing. What they take is not looked at."""
+    made(f"BUILD={folder}", f"{folder}/bench")
+    shown = host.did([folder / "bench", path("openssl-minimal"), path("openssl-sig-rsa2048")])
+    return [f"{name}: {shown[-500:]}" for name in ("openssl-minimal.der | 11 | 5", "openssl-sig-rsa2048.der | 651 | 10") if shown.count(name) != 2]
+
+
 TESTS = [
     ("phagundro read gives the expected answers and rows of the corpus, from files, pipes and hex", other_readings),
     ("phagundro shows a refusal's number, place, meaning and byte", other_refusals),
@@ -364,5 +372,6 @@ TESTS = [
     ("the examples of the README and the man page run as printed, with what make install puts in place", other_examples),
     ("phagundro is sound under AddressSanitizer and valgrind", unsound_memory),
     ("make demo shows a sample batch", other_demo),
+    ("the benchmarks show each input, whatever time it takes", other_benchmarks),
     ("make installs under a package's root, cleans, tests, and builds an archive that isn't there", other_targets),
 ]
