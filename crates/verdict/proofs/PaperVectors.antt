@@ -3,7 +3,6 @@ use Prim.Native.Nat.{ℕ, suc}
 use mathlib.Core.Path.{_≡_, refl}
 use mathlib.Core.List.{List, [], _∷_}
 use Rattle.der.specs.Each.{Each, _&_}
-use Rattle.der.specs.Identifier.{constructed, universal, primitiveType, constructedType, universalType, allowed}
 use Rattle.der.specs.Length.{valueFrom, shortest, longForm, lengthOf}
 use Rattle.der.specs.Header.{sizedBy, headOf}
 use Rattle.der.specs.Content.{integer, lastOf, unpadded, objectIdentifier, holds}
@@ -32,7 +31,7 @@ Judges x i (v ∷ vs) =
     (verdictAnswer (x .edition) (x .octets) i .number ≡ 0) × (verdictAnswer (x .edition) (x .octets) i .verdict ≡ v) × Judges x (suc i) vs
 
 judgings : Each (λ x. Judges x 0 (x .verdicts)) entries
-unfolding constructed universal primitiveType constructedType universalType allowed valueFrom shortest longForm lengthOf sizedBy headOf
+unfolding valueFrom shortest longForm lengthOf sizedBy headOf
     integer lastOf unpadded objectIdentifier holds listOf primitiveOf elementOf walkAt given read treeOf tree same isUpTo keeps typeNumber selected
     among named order content partSize size startsFrom start insideLine passOf formLines nextLine wayLine partLines containerLines linesFrom lines
     line seekIn seek closedIn closed judged noted lengthy met walk firstLong goes rowsFrom rowsOf fields nth Fields.seek messageOf batch messages

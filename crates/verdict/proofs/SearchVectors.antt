@@ -5,7 +5,6 @@ use mathlib.Core.List.{List, [], _∷_, _++_}
 use mathlib.Core.Option.{Option, some, none as absent}
 use lib.IntN.{ℤ, pos, negsuc}
 use Rattle.der.specs.Each.{Each, _&_}
-use Rattle.der.specs.Identifier.{constructed, universal, primitiveType, constructedType, universalType, allowed}
 use Rattle.der.specs.Length.{valueFrom, shortest, longForm, lengthOf}
 use Rattle.der.specs.Header.{sizedBy, headOf}
 use Rattle.der.specs.Content.{integer, lastOf, unpadded, objectIdentifier, holds}
@@ -85,7 +84,7 @@ cases =
 
 -- each is accepted in both editions and searched so
 searches : Each (λ x. (duplicatesAnswer 1 (x .octets) ≡ searched (x .pair)) × (duplicatesAnswer 2 (x .octets) ≡ searched (x .pair))) cases
-unfolding constructed universal primitiveType constructedType universalType allowed valueFrom shortest longForm lengthOf sizedBy headOf
+unfolding valueFrom shortest longForm lengthOf sizedBy headOf
     integer lastOf unpadded objectIdentifier holds listOf primitiveOf elementOf walkAt given read treeOf tree same isUpTo keeps typeNumber selected
     among named order content partSize size startsFrom start insideLine passOf formLines nextLine wayLine partLines containerLines linesFrom lines
     line seekIn seek closedIn closed judged noted lengthy met walk firstLong goes rowsFrom rowsOf fields nth Fields.seek messageOf batch messages

@@ -4,7 +4,6 @@ use mathlib.Core.Path.{_≡_, refl}
 use mathlib.Core.List.{List, [], _∷_, _++_}
 use lib.ListN.{length}
 use Rattle.der.specs.Each.{Each, _&_}
-use Rattle.der.specs.Identifier.{constructed, universal, primitiveType, constructedType, universalType, allowed}
 use Rattle.der.specs.Length.{valueFrom, shortest, longForm, lengthOf}
 use Rattle.der.specs.Header.{sizedBy, headOf}
 use Rattle.der.specs.Content.{integer, lastOf, unpadded, objectIdentifier, bitString, holds}
@@ -102,7 +101,7 @@ Judges x =
 
 -- Every message of the list is judged as document 01 says, and there is none behind it.
 pub each-verdict : Each Judges cases
-unfolding constructed universal primitiveType constructedType universalType allowed valueFrom shortest longForm lengthOf sizedBy headOf
+unfolding valueFrom shortest longForm lengthOf sizedBy headOf
     integer lastOf unpadded objectIdentifier bitString holds listOf primitiveOf elementOf walkAt given read treeOf tree same isEmpty isUpTo keeps typeNumber selected
     among named order content partSize size startsFrom start insideLine passOf formLines nextLine wayLine partLines containerLines linesFrom lines
     line seekIn seek closedIn closed judged noted lengthy met walk firstLong goes rowsFrom rowsOf fields nth Fields.seek messageOf batch messages
