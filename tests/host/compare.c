@@ -92,11 +92,8 @@ static void compare_reading(size_t edition, const uint8_t *bytes, size_t room)
     phagundro_answer answer = phagundro_read(edition, bytes, length, room == 0 && at_end ? NULL : table, room);
     calls++;
 
-    if (answer.number != right.number || answer.place != right.place || answer.count != right.count) {
-        printf("the archive: number %zu, place %zu, count %zu\n", answer.number, answer.place, answer.count);
-        printf("the reference: number %zu, place %zu, count %zu\n", right.number, right.place, right.count);
+    if (!answered_alike(answer, right))
         differs("other answers", edition, room);
-    }
     for (size_t i = 0; i < room; i++)
         if (table[i] != expected[i]) {
             printf("number %zu of the table: the archive %zu, the reference %zu\n", i, table[i], expected[i]);
@@ -160,13 +157,6 @@ static void compare_input(void)
 }
 
 /* -- The account -- */
-
-static int missing(bool occurs, const char *what, size_t which, size_t edition)
-{
-    if (!occurs)
-        printf("never occurred: %s %zu in edition %zu\n", what, which, edition);
-    return !occurs;
-}
 
 static int account(size_t inputs)
 {

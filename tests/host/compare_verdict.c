@@ -142,13 +142,6 @@ static void compare_input(void)
 
 /* -- The account -- */
 
-static int missing(bool occurs, const char *what, size_t which, size_t edition)
-{
-    if (!occurs)
-        printf("never occurred: %s %zu in edition %zu\n", what, which, edition);
-    return !occurs;
-}
-
 static int account_edition(size_t edition)
 {
     static const uint8_t refused[] = {1, 2, 3, 4, 5, 6, 7, 8, 9, 10, 14};

@@ -120,11 +120,8 @@ static void compare_writing(size_t edition, size_t room)
     reference_answer right = reference_write(edition, draft.numbers, draft.count, draft.slice, draft.length, expected, room);
     phagundro_answer answer = phagundro_write(edition, lent(&numbers), draft.count, lent(&slice), draft.length, lent(&output), room);
     calls++;
-    if (answer.number != right.number || answer.place != right.place || answer.count != right.count) {
-        printf("the archive: number %zu, place %zu, count %zu\n", answer.number, answer.place, answer.count);
-        printf("the reference: number %zu, place %zu, count %zu\n", right.number, right.place, right.count);
+    if (!answered_alike(answer, right))
         differs("other answers", edition, room);
-    }
     for (size_t i = 0; i < room; i++)
         if (output.start[i] != expected[i]) {
             printf("octet %zu of the output: the archive %02X, the reference %02X\n", i, output.start[i], expected[i]);
@@ -190,13 +187,6 @@ static void compare_draft(void)
 }
 
 /* -- The account -- */
-
-static int missing(bool occurs, const char *what, size_t which, size_t edition)
-{
-    if (!occurs)
-        printf("never occurred: %s %zu in edition %zu\n", what, which, edition);
-    return !occurs;
-}
 
 static int account_sorts(void)
 {

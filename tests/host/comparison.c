@@ -58,3 +58,19 @@ void comparison_differs(const char *what, size_t edition, const char *other, siz
     show_compared();
     exit(1);
 }
+
+bool answered_alike(phagundro_answer answer, reference_answer right)
+{
+    if (answer.number == right.number && answer.place == right.place && answer.count == right.count)
+        return true;
+    printf("the archive: number %zu, place %zu, count %zu\n", answer.number, answer.place, answer.count);
+    printf("the reference: number %zu, place %zu, count %zu\n", right.number, right.place, right.count);
+    return false;
+}
+
+int missing(bool occurs, const char *what, size_t which, size_t edition)
+{
+    if (!occurs)
+        printf("never occurred: %s %zu in edition %zu\n", what, which, edition);
+    return !occurs;
+}

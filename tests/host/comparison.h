@@ -2,6 +2,10 @@
 #ifndef COMPARISON_H
 #define COMPARISON_H
 
+#include "../../include/phagundro.h"
+#include "reference.h"
+
+#include <stdbool.h>
 #include <stddef.h>
 #include <stdint.h>
 
@@ -17,5 +21,11 @@ void comparison_show(const uint8_t *input, size_t length);
 
 /* Tells a difference in an edition, with what else was given, shows what is compared and ends the program with 1. */
 _Noreturn void comparison_differs(const char *what, size_t edition, const char *other, size_t value);
+
+/* Whether the archive answers as the reference does; shows both answers where it doesn't. */
+bool answered_alike(phagundro_answer answer, reference_answer right);
+
+/* Tells what never occurred among what was compared, and counts it: 0 where it did. */
+int missing(bool occurs, const char *what, size_t which, size_t edition);
 
 #endif
