@@ -8,13 +8,15 @@ use borrow.Author.Tests.{eqb-true, eqb-false, not-true}
 use lib.Dec.{eqb}
 use Rattle.der.specs.Identifier.{allowed, constructed}
 use Rattle.der.proofs.Laws.{ruled}
+use Rattle.crmf.specs.Codes as codes
+use Rattle.crmf.specs.Kinds as kinds
 use Rattle.crmf.specs.Value.{Rule, always, integer, bitString}
 use Rattle.crmf.specs.Notation.{Identifiers, octet, generalName, anything, nothing, named, Mark, both, alone, Name, AlgId, Spki, OneName, Rdn, Attribute}
 use Rattle.crmf.specs.Table.{Judge, keep, choose, Line, lines, start}
 use Rattle.crmf.specs.Packed.{judgeCode, actionOf}
 use Rattle.crmf.specs.Walk.{line}
 use Rattle.crmf.proofs.Tests.{all, either}
-use Rattle.crmf.proofs.Codes.{same-rule, rule-range, selector-range}
+use Rattle.crmf.proofs.JudgeCodes.{same-rule, rule-range, selector-range}
 use Rattle.crmf.proofs.Fields.{computed, at-line}
 
 -- a test of the one octet that identifiers are
@@ -126,10 +128,10 @@ asked i r x = plainly (λ j. eqb j i) always false x || plainly (λ j. not (rule
 asked-right : (i : ℕ) (r : Rule) (k : ℕ) → asked i r (line k) ≡ true → Asked k i r
 asked-right i r k e = ⊎-elim (λ p. inl (typed i k p)) (λ p. inr (untyped r k p)) (either _ _ e)
 
--- 0: the line has no identifier
-pub nothing-line : (k : ℕ) → actionOf (line k) ≡ 0 → line k .identifiers ≡ nothing
+-- the line has no identifier
+pub nothing-line : (k : ℕ) → actionOf (line k) ≡ codes.takeNothing → line k .identifiers ≡ nothing
 unfolding computed
-nothing-line k a = go (line k .identifiers) (at-action 0 (λ x. none (x .identifiers)) refl k a)
+nothing-line k a = go (line k .identifiers) (at-action codes.takeNothing (λ x. none (x .identifiers)) refl k a)
   where
     none : Identifiers → Bool
     none nothing = true
@@ -143,49 +145,49 @@ nothing-line k a = go (line k .identifiers) (at-action 0 (λ x. none (x .identif
     go generalName e = absurd (false≢true e)
     go anything e = absurd (false≢true e)
 
--- 1: a primitive value without a rule
-pub free-line : (k : ℕ) → actionOf (line k) ≡ 1 → (i : ℕ) × Plain k i always false × (ruled i ≡ false)
+-- a primitive value without a rule
+pub free-line : (k : ℕ) → actionOf (line k) ≡ codes.takeUnseen → (i : ℕ) × Plain k i always false × (ruled i ≡ false)
 unfolding computed
-free-line k a = untyped always k (at-action 1 (plainly (λ j. not (ruled j)) always false) refl k a)
+free-line k a = untyped always k (at-action codes.takeUnseen (plainly (λ j. not (ruled j)) always false) refl k a)
 
--- 2, 6: an OBJECT IDENTIFIER, a UTF8String
-pub object-line : (k : ℕ) → actionOf (line k) ≡ 2 → Plain k 0x06 always false
+-- an OBJECT IDENTIFIER, a UTF8String
+pub object-line : (k : ℕ) → actionOf (line k) ≡ codes.takeObjectIdentifier → Plain k 0x06 always false
 unfolding computed
-object-line k a = typed 0x06 k (at-action 2 (plainly (λ j. eqb j 0x06) always false) refl k a)
+object-line k a = typed 0x06 k (at-action codes.takeObjectIdentifier (plainly (λ j. eqb j 0x06) always false) refl k a)
 
-pub text-line : (k : ℕ) → actionOf (line k) ≡ 6 → Plain k 0x0C always false
+pub text-line : (k : ℕ) → actionOf (line k) ≡ codes.takeUtf8String → Plain k 0x0C always false
 unfolding computed
-text-line k a = typed 0x0C k (at-action 6 (plainly (λ j. eqb j 0x0C) always false) refl k a)
+text-line k a = typed 0x0C k (at-action codes.takeUtf8String (plainly (λ j. eqb j 0x0C) always false) refl k a)
 
--- 3, 5: an INTEGER, a BIT STRING
-pub integer-line : (k : ℕ) → actionOf (line k) ≡ 3 → Asked k 0x02 integer
+-- an INTEGER, a BIT STRING
+pub integer-line : (k : ℕ) → actionOf (line k) ≡ codes.takeInteger → Asked k 0x02 integer
 unfolding computed
-integer-line k a = asked-right 0x02 integer k (at-action 3 (asked 0x02 integer) refl k a)
+integer-line k a = asked-right 0x02 integer k (at-action codes.takeInteger (asked 0x02 integer) refl k a)
 
-pub bits-line : (k : ℕ) → actionOf (line k) ≡ 5 → Asked k 0x03 bitString
+pub bits-line : (k : ℕ) → actionOf (line k) ≡ codes.takeBitString → Asked k 0x03 bitString
 unfolding computed
-bits-line k a = asked-right 0x03 bitString k (at-action 5 (asked 0x03 bitString) refl k a)
+bits-line k a = asked-right 0x03 bitString k (at-action codes.takeBitString (asked 0x03 bitString) refl k a)
 
--- 4: a certReqId, and no other line has their kind
-pub id-line : (k : ℕ) → actionOf (line k) ≡ 4 → Plain k 0x02 always false
+-- a certReqId, and no other line has their kind
+pub id-line : (k : ℕ) → actionOf (line k) ≡ codes.takeCertReqId → Plain k 0x02 always false
 unfolding computed
-id-line k a = typed 0x02 k (at-action 4 (plainly (λ j. eqb j 0x02) always false) refl k a)
+id-line k a = typed 0x02 k (at-action codes.takeCertReqId (plainly (λ j. eqb j 0x02) always false) refl k a)
 
-pub id-kind : (k : ℕ) → eqb (line k .kind) 4 ≡ eqb (actionOf (line k)) 4
+pub id-kind : (k : ℕ) → eqb (line k .kind) kinds.certReqId ≡ eqb (actionOf (line k)) codes.takeCertReqId
 unfolding computed
-id-kind k = alike-same _ _ (at-line (λ x. alike (eqb (x .kind) 4) (eqb (actionOf x) 4)) refl k)
+id-kind k = alike-same _ _ (at-line (λ x. alike (eqb (x .kind) kinds.certReqId) (eqb (actionOf x) codes.takeCertReqId)) refl k)
 
--- 7: any element, whose inside is free
+-- any element, whose inside is free
 pub record Free (k : ℕ) : Type 0 where
   pub identifiers : line k .identifiers ≡ anything
   pub free : eqb (line k .inside) 0 ≡ true
   pub judge : line k .judge ≡ keep always
   pub mark : line k .mark ≡ both
 
-pub any-line : (k : ℕ) → actionOf (line k) ≡ 7 → Free k
+pub any-line : (k : ℕ) → actionOf (line k) ≡ codes.takeNest → Free k
 unfolding computed
 any-line k a =
-    let (head, tail) = and-eq-true-iff _ _ .0 (at-action 7 (λ x. (any (x .identifiers) && eqb (x .inside) 0) && judged-by always x) refl k a) in
+    let (head, tail) = and-eq-true-iff _ _ .0 (at-action codes.takeNest (λ x. (any (x .identifiers) && eqb (x .inside) 0) && judged-by always x) refl k a) in
     let (i, f) = and-eq-true-iff _ _ .0 head in
     let (j, m) = judged-right always (line k) tail in
     record { identifiers = go (line k .identifiers) i; free = f; judge = j; mark = m }
@@ -202,12 +204,12 @@ any-line k a =
     go (octet a) e = absurd (false≢true e)
     go generalName e = absurd (false≢true e)
 
--- 8: a list with lines inside
-pub inside-line : (k : ℕ) → actionOf (line k) ≡ 8 → (i : ℕ) × Plain k i always true
+-- a list with lines inside
+pub inside-line : (k : ℕ) → actionOf (line k) ≡ codes.takeInside → (i : ℕ) × Plain k i always true
 unfolding computed
-inside-line k a = let (i, p, t) = plain (λ j. true) always true k (at-action 8 (plainly (λ j. true) always true) refl k a) in (i, p)
+inside-line k a = let (i, p, t) = plain (λ j. true) always true k (at-action codes.takeInside (plainly (λ j. true) always true) refl k a) in (i, p)
 
--- 9, 10, 11, 13, 14: the lines of a container of the name are inside
+-- the lines of a container of the name are inside
 abbrev pub Opens : ℕ → Name → Type 0
 Opens k n = (i : ℕ) × Plain k i always true × (line k .inside ≡ start n)
 
@@ -220,22 +222,22 @@ opens-right n k e =
     let (i, p, t) = plain (λ j. true) always true k h in
     (i, p, eqb-true _ _ s)
 
-pub algorithm-line : (k : ℕ) → actionOf (line k) ≡ 9 → Opens k AlgId
+pub algorithm-line : (k : ℕ) → actionOf (line k) ≡ codes.takeAlgId → Opens k AlgId
 unfolding computed
-algorithm-line k a = opens-right AlgId k (at-action 9 (opens AlgId) refl k a)
+algorithm-line k a = opens-right AlgId k (at-action codes.takeAlgId (opens AlgId) refl k a)
 
-pub attribute-line : (k : ℕ) → actionOf (line k) ≡ 10 → Opens k Attribute
+pub attribute-line : (k : ℕ) → actionOf (line k) ≡ codes.takeAttribute → Opens k Attribute
 unfolding computed
-attribute-line k a = opens-right Attribute k (at-action 10 (opens Attribute) refl k a)
+attribute-line k a = opens-right Attribute k (at-action codes.takeAttribute (opens Attribute) refl k a)
 
-pub part-line : (k : ℕ) → actionOf (line k) ≡ 11 → Opens k Rdn
+pub part-line : (k : ℕ) → actionOf (line k) ≡ codes.takeRdn → Opens k Rdn
 unfolding computed
-part-line k a = opens-right Rdn k (at-action 11 (opens Rdn) refl k a)
+part-line k a = opens-right Rdn k (at-action codes.takeRdn (opens Rdn) refl k a)
 
-pub key-line : (k : ℕ) → actionOf (line k) ≡ 13 → Opens k Spki
+pub key-line : (k : ℕ) → actionOf (line k) ≡ codes.takeSpki → Opens k Spki
 unfolding computed
-key-line k a = opens-right Spki k (at-action 13 (opens Spki) refl k a)
+key-line k a = opens-right Spki k (at-action codes.takeSpki (opens Spki) refl k a)
 
-pub name-line : (k : ℕ) → actionOf (line k) ≡ 14 → Opens k OneName
+pub name-line : (k : ℕ) → actionOf (line k) ≡ codes.takeName → Opens k OneName
 unfolding computed
-name-line k a = opens-right OneName k (at-action 14 (opens OneName) refl k a)
+name-line k a = opens-right OneName k (at-action codes.takeName (opens OneName) refl k a)

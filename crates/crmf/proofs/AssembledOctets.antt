@@ -13,6 +13,7 @@ use Rattle.der.specs.Length.{lengthOctets}
 use Rattle.der.specs.Tree.{Tree, encode, WellFormed}
 use Rattle.der.specs.Walk.{longest}
 use Rattle.der.proofs.Laws.{octets-take, octets-drop, shortest-small, shortest-one, shortest-two}
+use Rattle.crmf.specs.Kinds as kinds
 use Rattle.crmf.specs.Notation.{Top}
 use Rattle.crmf.specs.Grammar.{content}
 use Rattle.crmf.specs.Language.{Matches}
@@ -56,7 +57,7 @@ length-octets n fits = go (ltb n 128) refl (ltb n 256) refl
 
 -- identifiers and implied types are octets
 identifier-octet : (kind : ℕ) → identifierOf kind < 256
-identifier-octet kind = rw (identifier-of kind) (go (eqb kind 14) (eqb kind 19) (eqb kind 51) (eqb kind 52) (eqb kind 53))
+identifier-octet kind = rw (identifier-of kind) (go (eqb kind kinds.validity) (eqb kind kinds.extensions) (eqb kind kinds.signature) (eqb kind kinds.keyEncipherment) (eqb kind kinds.keyAgreement))
   where
     go : (a b c d e : Bool) → elim a as (λ x. ℕ) [
       | true ↦ 0xA4
@@ -73,11 +74,11 @@ identifier-octet kind = rw (identifier-of kind) (go (eqb kind 14) (eqb kind 19) 
     go false false false false false = omega arith
 
 implied-octets : (kind : ℕ) → Octets (implied kind)
-implied-octets kind = go (eqb kind 74) refl
+implied-octets kind = go (eqb kind kinds.carried) refl
   where
-    go : (b : Bool) → eqb kind 74 ≡ b → Octets (implied kind)
-    go true is = rw (eqb-true kind 74 is, implied-type) (all-octets (0x06 ∷ 0x09 ∷ 0x2B ∷ 0x06 ∷ 0x01 ∷ 0x05 ∷ 0x05 ∷ 0x07 ∷ 0x05 ∷ 0x02 ∷ 0x02 ∷ []) refl)
-    go false is = rw (implied-none kind (eqb-false kind 74 is)) octets-none
+    go : (b : Bool) → eqb kind kinds.carried ≡ b → Octets (implied kind)
+    go true is = rw (eqb-true kind kinds.carried is, implied-type) (all-octets (0x06 ∷ 0x09 ∷ 0x2B ∷ 0x06 ∷ 0x01 ∷ 0x05 ∷ 0x05 ∷ 0x07 ∷ 0x05 ∷ 0x02 ∷ 0x02 ∷ []) refl)
+    go false is = rw (implied-none kind (eqb-false kind kinds.carried is)) octets-none
 
 -- the octets of pieces are octets
 abbrev Plain : List Piece → Type 0

@@ -11,6 +11,7 @@ use Rattle.der.specs.Identifier.{constructed}
 use Rattle.der.specs.Length.{lengthOctets}
 use Rattle.der.specs.Tree.{Tree, none, element, header, encode, WellFormed}
 use Rattle.der.proofs.Laws.{constructed-bit, header-octets, length-some, shortest-small, encode-none, encode-element}
+use Rattle.crmf.specs.Kinds as kinds
 use Rattle.crmf.specs.Value.{same, Selector, infoType, typeNumber, selected}
 use Rattle.crmf.specs.Notation.{among, named, Name, Top, Inside, Form, Occurs, once, optional, repeated, Part, part}
 use Rattle.crmf.specs.Grammar.{content}
@@ -140,7 +141,7 @@ mutual
   quiet-inside d (parts {n = name} m) n up around test = let (e, deeper) = quiet-name d name test in quiet-pieces e m n up around deeper
 
 -- the octets of a container, where no type is implied
-container-octets : (kind id : ℕ) (c : List ℕ) → id ≡ identifierOf kind → eqb kind 74 ≡ false → front kind (length c) ++ c ≡ header id c ++ c
+container-octets : (kind id : ℕ) (c : List ℕ) → id ≡ identifierOf kind → eqb kind kinds.carried ≡ false → front kind (length c) ++ c ≡ header id c ++ c
 unfolding implied
 container-octets kind id c is no-type =
     let none : implied kind ≡ [] = rw (implied, no-type) in
@@ -150,11 +151,11 @@ container-octets kind id c is no-type =
     ∙ ap (λ (l : List ℕ). l ++ c) (ap (λ (i : ℕ). i ∷ lengthOctets (length c)) (sym is) ∙ sym (header-octets id c))
 
 -- a certReq and an item that carries one are containers
-three-bears : container 3 ≡ true
+three-bears : container kinds.certReq ≡ true
 unfolding container among
 three-bears = refl
 
-carried-bears : container 74 ≡ true
+carried-bears : container kinds.carried ≡ true
 unfolding container among
 carried-bears = refl
 
@@ -170,7 +171,7 @@ piece-leaf : (kind up : ℕ) (os : List ℕ) → container kind ≡ false → pi
 piece-leaf kind up os is = ap (λ (b : Bool). record { kind = kind; parent = up; octets = elim b as (λ x. List ℕ) [ true ↦ [] | false ↦ os ] }) is
 
 -- a container's element, from what is inside it
-bearing-tiled : (kind id : ℕ) (c : List ℕ) (inside : Tree) (xs : List Piece) (n up : ℕ) → up < n → container kind ≡ true → eqb kind 74 ≡ false
+bearing-tiled : (kind id : ℕ) (c : List ℕ) (inside : Tree) (xs : List Piece) (n up : ℕ) → up < n → container kind ≡ true → eqb kind kinds.carried ≡ false
     → id ≡ identifierOf kind → c ≡ encode inside → Tiled (suc n) n xs (encode inside) → Tiled n up (pieceAt kind up (header id c ++ c) ∷ xs) (header id c ++ c)
 bearing-tiled kind id c inside xs n up below is no-type octet filled within =
     let whole : front kind (length (encode inside)) ++ encode inside ≡ header id c ++ c =
@@ -234,7 +235,7 @@ module _ (f : Form) (id : ℕ) (c : List ℕ) (inside rest : Tree) (inner : ℕ 
     (shown : showingIn (f .inside) ≡ true → constructed id ≡ true → Tiled (suc (suc n)) (suc n) (inner (suc (suc n)) (suc n)) (encode inside))
     (quieted : quietIn quiet (f .inside) ≡ true → inner (suc n) n ≡ [])
     (carries : s ≡ infoType → i ≡ 2
-    → around ≡ front 74 (length (encode (element id p size c inside rest))) ++ encode (element id p size c inside rest)) where
+    → around ≡ front kinds.carried (length (encode (element id p size c inside rest))) ++ encode (element id p size c inside rest)) where
   value-form : Valued s i f → Tiled n up (onePieces (f .kind) (f .item) (header id c ++ c) inner more n up around) around
   value-form (aValue is-item is no-kind silent) =
       rw (
@@ -246,22 +247,22 @@ module _ (f : Form) (id : ℕ) (c : List ℕ) (inside rest : Tree) (inner : ℕ 
       (tiled-leaf n up (f .item) around below is two)
   value-form (carriedRequest info way is-item is-kind b) =
       let octets = header id c ++ c in
-      let same = only-octet (f .identifiers) (identifierOf 3) id (b .octet) fits in
-      let con : constructed id ≡ true = rw same (constructed-bit (identifierOf 3) (b .bit)) in
+      let same = only-octet (f .identifiers) (identifierOf kinds.certReq) id (b .octet) fits in
+      let con : constructed id ≡ true = rw same (constructed-bit (identifierOf kinds.certReq) (b .bit)) in
       let xs = inner (suc (suc n)) (suc n) in
-      let value = bearing-tiled 3 id c inside xs (suc n) n (omega arith) three-bears refl same (filled con) (shown (b .inside) con) in
+      let value = bearing-tiled kinds.certReq id c inside xs (suc n) n (omega arith) three-bears refl same (filled con) (shown (b .inside) con) in
       let whole : encode (element id p size c inside rest) ≡ octets =
       encode-element id p size c inside rest ∙ ap (λ (l : List ℕ). octets ++ l) (ap encode last ∙ encode-none) ∙ append-nil octets in
-      let item = tiled-container n up 74 (pieceAt 3 n octets ∷ xs) octets carried-bears value below in
-      let all : around ≡ front 74 (length octets) ++ octets = rw whole at (carries info way) in
+      let item = tiled-container n up kinds.carried (pieceAt kinds.certReq n octets ∷ xs) octets carried-bears value below in
+      let all : around ≡ front kinds.carried (length octets) ++ octets = rw whole at (carries info way) in
       rw (
         is-kind,
         is-item,
-        one-carried 3 74 octets inner more n up around refl refl,
+        one-carried kinds.certReq kinds.carried octets inner more n up around refl refl,
         behind-none (suc (suc n) + length xs),
         append-nil xs,
-        piece-container 74 up around carried-bears,
-      ) (subst (Tiled n up (record { kind = 74; parent = up; octets = [] } ∷ (pieceAt 3 n octets ∷ xs))) (sym all) item)
+        piece-container kinds.carried up around carried-bears,
+      ) (subst (Tiled n up (record { kind = kinds.carried; parent = up; octets = [] } ∷ (pieceAt kinds.certReq n octets ∷ xs))) (sym all) item)
 
 -- the nine octets of the carried certReq's type
 abbrev carriedType : List ℕ
@@ -284,17 +285,17 @@ carried-type c is = go (same c (known n) && leb n 2) refl is
 
 -- the octets of an item that carries a certReq
 carried-octets : (c d : List ℕ) (p w : ℕ) (i rest : Tree) → selected infoType c ≡ 2 → d ≡ encode (element 0x06 p w c i rest)
-    → header 0x30 d ++ d ≡ front 74 (length (encode rest)) ++ encode rest
+    → header 0x30 d ++ d ≡ front kinds.carried (length (encode rest)) ++ encode rest
 unfolding implied identifierOf
 carried-octets c d p w i rest is filled =
     let e = encode rest in
-    let type : header 0x06 c ++ c ≡ implied 74 =
+    let type : header 0x06 c ++ c ≡ implied kinds.carried =
     ap (λ (l : List ℕ). header 0x06 l ++ l) (carried-type c is)
     ∙ ap (λ (l : List ℕ). l ++ carriedType) (header-octets 0x06 carriedType ∙ ap (λ (l : List ℕ). 0x06 ∷ l) (shortest-small 9 (omega arith))) in
-    let octets : d ≡ implied 74 ++ e = filled ∙ encode-element 0x06 p w c i rest ∙ ap (λ (l : List ℕ). l ++ e) type in
-    let size : length d ≡ length (implied 74) + length e = ap length octets ∙ length-append (implied 74) e in
+    let octets : d ≡ implied kinds.carried ++ e = filled ∙ encode-element 0x06 p w c i rest ∙ ap (λ (l : List ℕ). l ++ e) type in
+    let size : length d ≡ length (implied kinds.carried) + length e = ap length octets ∙ length-append (implied kinds.carried) e in
     ap (λ (l : List ℕ). l ++ d) (header-octets 0x30 d) ∙ ap₂ (λ (k : ℕ) (l : List ℕ). (0x30 ∷ lengthOctets k) ++ l) size octets
-    ∙ sym (append-assoc (0x30 ∷ lengthOctets (length (implied 74) + length e)) (implied 74) e)
+    ∙ sym (append-assoc (0x30 ∷ lengthOctets (length (implied kinds.carried) + length e)) (implied kinds.carried) e)
 
 mutual
   unfolding pieces piecesIn itemParts itemIn showingIn shows valueParts quiet
@@ -342,7 +343,7 @@ mutual
 
   value-tiled : {R : ℕ → Bool} {ps : List Part} {t : Tree} (m : Matches R ps t) (left q : ℕ) → WellFormed left q t → (n up : ℕ) (around : List ℕ)
       (s : Selector) (i : ℕ) → valueParts s i ps ≡ true → up < n → 2 ≤ length around
-      → (s ≡ infoType → i ≡ 2 → around ≡ front 74 (length (encode t)) ++ encode t) → Tiled n up (pieces m n up around) around
+      → (s ≡ infoType → i ≡ 2 → around ≡ front kinds.carried (length (encode t)) ++ encode t) → Tiled n up (pieces m n up around) around
   value-tiled end left q wf n up around s i test below two carries = never-both false test refl
   value-tiled (pass {o = o} {fs = fs} {ps = ps} ok m) left q wf n up around s i test below two carries =
       let no-pass : passable o ≡ false = value-alone s i o fs ps test .0 in
@@ -373,9 +374,9 @@ one-together id c inside inner more is filled below nothing =
     let os = header id c ++ c in
     let e = encode inside in
     let xs = inner 1 0 in
-    let whole : front 1 (length e) ++ e ≡ os = ap (λ (l : List ℕ). front 1 (length l) ++ l) (sym filled) ∙ container-octets 1 id c is refl in
+    let whole : front kinds.batch (length e) ++ e ≡ os = ap (λ (l : List ℕ). front kinds.batch (length l) ++ l) (sym filled) ∙ container-octets kinds.batch id c is refl in
     let size = ap length whole in
-    rw (one-shown 1 0 os inner more 0 0 [] refl refl, nothing (1 + length xs), append-nil xs, piece-container 1 0 os refl) (record {
+    rw (one-shown kinds.batch 0 os inner more 0 0 [] refl refl, nothing (1 + length xs), append-nil xs, piece-container kinds.batch 0 os refl) (record {
       octets = front-octets 0 0 1 xs e refl below ∙ whole;
       few = omega (arith, front-few 0 0 1 xs e refl below);
       short = λ limit fits. front-short 0 0 1 xs e refl below limit (omega arith);

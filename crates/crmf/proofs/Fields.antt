@@ -1,12 +1,13 @@
 -- What the fields of the packed table's words say of the grammar's lines. A test that is computed at every line holds at the line of any
 -- number, since past the end stands the end line, which is also the first. So each field is one computed test. Assumes nothing.
-use Prim.Native.Nat.{ℕ, _<_}
+use Prim.Native.Nat.{ℕ, _+_, _<_}
 use mathlib.Core.Bool.{Bool, true}
 use mathlib.Core.List.{List}
 use mathlib.Core.Path.{_≡_, refl, ap, _∙_}
 use borrow.Author.Tests.{eqb-true, ltb-true}
 use lib.Dec.{eqb, ltb}
 use lib.ListN.{length, getD, List·getD-map}
+use Rattle.crmf.specs.Codes as codes
 use Rattle.crmf.specs.Notation.{order, names}
 use Rattle.crmf.specs.Grammar.{content}
 use Rattle.crmf.specs.Table.{Line, endLine, lines, linesFrom, containerLines, partLines, wayLine, nextLine, formLines, passOf, insideLine, start, startsFrom, size, partSize}
@@ -78,23 +79,28 @@ rows-at = field-at rowsField rowsBy refl
 small-at : (f : Line → ℕ) (n : ℕ) → all (λ x. ltb (f x) n) lines ≡ true → (k : ℕ) → f (line k) < n
 small-at f n e k = ltb-true _ _ (at-line (λ x. ltb (f x) n) e k)
 
-pub next-small : (k : ℕ) → line k .next < 146
+-- How many lines the table has. The code has it as a constant: where a proof meets the constant's value, it is this by computing.
+unfoldable pub lineCount : ℕ
 unfolding computed
-next-small = small-at (λ x. x .next) 146 refl
+lineCount = length lines
+
+pub next-small : (k : ℕ) → line k .next < lineCount
+unfolding computed lineCount
+next-small = small-at (λ x. x .next) lineCount refl
 
 pub rows-few : (k : ℕ) → rowsBy (line k) < 3
 unfolding computed
 rows-few = small-at rowsBy 3 refl
 
-pub action-small : (k : ℕ) → actionOf (line k) < 15
+pub action-small : (k : ℕ) → actionOf (line k) < codes.takeName + 1
 unfolding computed
-action-small = small-at actionOf 15 refl
+action-small = small-at actionOf (codes.takeName + 1) refl
 
--- the table has 146 lines, and as many words
-pub lines-count : length lines ≡ 146
-unfolding computed
+-- there are as many words
+pub lines-count : length lines ≡ lineCount
+unfolding lineCount
 lines-count = refl
 
-pub words-count : length packed ≡ 146
-unfolding computed
+pub words-count : length packed ≡ lineCount
+unfolding computed lineCount
 words-count = refl

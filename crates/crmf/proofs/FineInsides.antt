@@ -19,8 +19,9 @@ use Rattle.der.proofs.Laws.{span-fits, whole-value, holds-object-identifier, ho
 use Rattle.crmf.specs.declared.judge.Onward.the-variants.{To}
 use Rattle.crmf.specs.declared.table.Found.the-variants.{At}
 use Rattle.crmf.specs.Value.{keeps}
-use Rattle.crmf.specs.Notation.{named, AlgId, Spki, OneName, RdnSequence, Rdn, Attribute}
-use Rattle.crmf.specs.Table.{start}
+use Rattle.crmf.specs.Notation.{named, Name, AlgId, Spki, OneName, RdnSequence, Rdn, Attribute}
+use Rattle.crmf.specs.Grammar as grammar
+use Rattle.crmf.specs.Table.{start, size}
 use Rattle.crmf.specs.Walk.{line, seekIn, seek, closedIn, closed, judged, rowsBy}
 use Rattle.crmf.specs.Quick.{stands, countsAt}
 use Rattle.crmf.specs.QuickSteps.{inner, Fine}
@@ -35,6 +36,10 @@ record Leads (k id j within next : ℕ) : Type 0 where
   rowless : rowsBy (line j) ≡ 0
   inside : line j .inside ≡ within
   goes : (c : List ℕ) → judged (line j .judge) (line j .next) c ≡ To next
+
+-- the line at a container's end
+abbrev ending : Name → ℕ
+ending n = start n + size (grammar.content n) - 1
 
 -- no octets are fine where a container may end
 fine-end : (k levels : ℕ) → closed k ≡ true → Fine k levels []
@@ -76,42 +81,42 @@ module _ (bs : List ℕ) (short : length bs ≤ longest) (some-octets : spanOf b
         (ap (λ (i : ℕ). countsAt e left i n p content) (leads .inside) ∙ fine e left n p deep some))
 
 -- The lines of the small containers, by the identifiers of their elements. An AlgId's OBJECT IDENTIFIER and value.
-alg-id-type : Leads (start AlgId) 0x06 34 0 (suc (start AlgId))
+alg-id-type : Leads (start AlgId) 0x06 (start AlgId) 0 (suc (start AlgId))
 unfolding computed line seek seekIn named judged keeps
 alg-id-type = record { found = refl; stood = λ e whole. refl; rowless = refl; inside = refl; goes = λ c. refl }
 
-alg-id-value : (id : ℕ) → Leads (suc (start AlgId)) id 35 0 36
+alg-id-value : (id : ℕ) → Leads (suc (start AlgId)) id (suc (start AlgId)) 0 (ending AlgId)
 unfolding computed line seek seekIn named judged keeps
 alg-id-value id = record { found = refl; stood = λ e whole. refl; rowless = refl; inside = refl; goes = λ c. refl }
 
 -- an attribute's OBJECT IDENTIFIER and value
-attribute-type : Leads (start Attribute) 0x06 47 0 (suc (start Attribute))
+attribute-type : Leads (start Attribute) 0x06 (start Attribute) 0 (suc (start Attribute))
 unfolding computed line seek seekIn named judged keeps
 attribute-type = record { found = refl; stood = λ e whole. refl; rowless = refl; inside = refl; goes = λ c. refl }
 
-attribute-value : (id : ℕ) → Leads (suc (start Attribute)) id 48 0 49
+attribute-value : (id : ℕ) → Leads (suc (start Attribute)) id (suc (start Attribute)) 0 (ending Attribute)
 unfolding computed line seek seekIn named judged keeps
 attribute-value id = record { found = refl; stood = λ e whole. refl; rowless = refl; inside = refl; goes = λ c. refl }
 
 -- an attribute in a part of a name, a part in a list of them, and the list in a name
-rdn-attribute : Leads (start Rdn) 0x30 44 (start Attribute) 45
+rdn-attribute : Leads (start Rdn) 0x30 (start Rdn) (start Attribute) (suc (start Rdn))
 unfolding computed line seek seekIn named judged keeps
 rdn-attribute = record { found = refl; stood = λ e whole. refl; rowless = refl; inside = refl; goes = λ c. refl }
 
-sequence-rdn : Leads (start RdnSequence) 0x31 42 (start Rdn) (start RdnSequence)
+sequence-rdn : Leads (start RdnSequence) 0x31 (start RdnSequence) (start Rdn) (start RdnSequence)
 unfolding computed line seek seekIn named judged keeps
 sequence-rdn = record { found = refl; stood = λ e whole. refl; rowless = refl; inside = refl; goes = λ c. refl }
 
-name-sequence : Leads (start OneName) 0x30 40 (start RdnSequence) 41
+name-sequence : Leads (start OneName) 0x30 (start OneName) (start RdnSequence) (ending OneName)
 unfolding computed line seek seekIn named judged keeps
 name-sequence = record { found = refl; stood = λ e whole. refl; rowless = refl; inside = refl; goes = λ c. refl }
 
 -- a key's AlgId and BIT STRING
-key-alg-id : Leads (start Spki) 0x30 37 (start AlgId) (suc (start Spki))
+key-alg-id : Leads (start Spki) 0x30 (start Spki) (start AlgId) (suc (start Spki))
 unfolding computed line seek seekIn named judged keeps
 key-alg-id = record { found = refl; stood = λ e whole. refl; rowless = refl; inside = refl; goes = λ c. refl }
 
-key-bits : Leads (suc (start Spki)) 0x03 38 0 39
+key-bits : Leads (suc (start Spki)) 0x03 (suc (start Spki)) 0 (ending Spki)
 unfolding computed line seek seekIn named judged keeps
 key-bits = record { found = refl; stood = λ e whole. refl; rowless = refl; inside = refl; goes = λ c. refl }
 
@@ -168,22 +173,22 @@ module _ (bs : List ℕ) (short : length bs ≤ longest) (s : Span) (told : s �
     unfolding computed closed closedIn
     fine-single made may kept =
         let whole : (left : ℕ) → wholeOf id left inside ≡ true = λ left. whole-value id left inside may made ∙ kept in
-        (value refl (alg-id-value id) refl (rw all whole) (last 36 1 refl), value refl (attribute-value id) refl (rw all whole) (last 49 1 refl))
+        (value refl (alg-id-value id) refl (rw all whole) (last (ending AlgId) 1 refl), value refl (attribute-value id) refl (rw all whole) (last (ending Attribute) 1 refl))
 
     -- a BIT STRING
     pub fine-bits : id ≡ 0x03 → bitString inside ≡ true → Fine (suc (start Spki)) 1 bs
     unfolding computed closed closedIn
-    fine-bits is kept = value is key-bits refl (rw all (λ left. whole-bits left inside kept)) (last 39 1 refl)
+    fine-bits is kept = value is key-bits refl (rw all (λ left. whole-bits left inside kept)) (last (ending Spki) 1 refl)
 
     -- a name's part with one attribute
     pub fine-attribute : id ≡ 0x30 → Fine (start Attribute) 1 inside → Fine (start Rdn) 2 bs
     unfolding computed closed closedIn
-    fine-attribute is fine = nested is rdn-attribute refl (rw all fine) (last 45 2 refl)
+    fine-attribute is fine = nested is rdn-attribute refl (rw all fine) (last (suc (start Rdn)) 2 refl)
 
     -- a name
     pub fine-name : id ≡ 0x30 → Fine (start RdnSequence) 3 inside → Fine (start OneName) 4 bs
     unfolding computed closed closedIn
-    fine-name is fine = nested is name-sequence refl (rw all fine) (last 41 4 refl)
+    fine-name is fine = nested is name-sequence refl (rw all fine) (last (ending OneName) 4 refl)
 
     -- an OBJECT IDENTIFIER alone
     pub fine-alone : id ≡ 0x06 → objectIdentifier within ≡ true → Fine (start AlgId) 1 bs

@@ -6,15 +6,16 @@ use mathlib.Core.List.{List}
 use native.Mathlib.Omega.{arith}
 use borrow.Author.Tests.{lt-ltb, le-ltb}
 use Rattle.crmf.specs.declared.judge.Onward.the-variants.{To, Breaks}
+use Rattle.crmf.specs.Codes as codes
 use Rattle.crmf.specs.Value.{Rule, keeps, Selector, selected}
 use Rattle.crmf.specs.Table.{Judge, keep, choose}
 use Rattle.crmf.specs.Packed.{judgeCode}
 use Rattle.crmf.specs.Walk.{line, ruleDetail, ways, judged}
 use Rattle.crmf.specs.Fill.{goes}
-use Rattle.crmf.proofs.Codes.{rule-range, selector-range}
+use Rattle.crmf.proofs.JudgeCodes.{rule-range, selector-range}
 
 -- what is said by the answers of the functions for a rule's code
-module _ (next code : ℕ) (c : List ℕ) (rule : code < 16) where
+module _ (next code : ℕ) (c : List ℕ) (rule : code < codes.selectors) where
   pub kept : (j : Judge) → judgeCode j ≡ code → (r : Bool) → ((x : Rule) → judgeCode (keep x) ≡ code → r ≡ keeps x c) → r ≡ true
       → To next ≡ judged j next c
   unfolding judged
@@ -28,7 +29,7 @@ module _ (next code : ℕ) (c : List ℕ) (rule : code < 16) where
   lost (choose s) e r f t d g = absurd (omega (arith, selector-range s))
 
 -- and for a selector's
-module _ (next code : ℕ) (c : List ℕ) (selector : 16 ≤ code) (w : ℕ) (way : (s : Selector) → judgeCode (choose s) ≡ code → w ≡ selected s c)
+module _ (next code : ℕ) (c : List ℕ) (selector : codes.selectors ≤ code) (w : ℕ) (way : (s : Selector) → judgeCode (choose s) ≡ code → w ≡ selected s c)
     (m : ℕ) (most : (s : Selector) → judgeCode (choose s) ≡ code → m ≡ ways s) where
   pub selects : (j : Judge) → judgeCode j ≡ code → w < m → To (line (next + w) .next) ≡ judged j next c
   unfolding judged
@@ -47,12 +48,12 @@ module _ (next code : ℕ) (c : List ℕ) (selector : 16 ≤ code) (w : ℕ) (wa
       rw (judged, le-ltb _ _ l)
 
 -- the line to go on with, by the answers of the functions for a rule's code and for a selector's
-pub goes-on : (next code : ℕ) (c : List ℕ) → code < 16 → (j : Judge) → judgeCode j ≡ code → next ≡ goes j next c
+pub goes-on : (next code : ℕ) (c : List ℕ) → code < codes.selectors → (j : Judge) → judgeCode j ≡ code → next ≡ goes j next c
 unfolding goes
 goes-on next code c rule (keep x) e = refl
 goes-on next code c rule (choose s) e = absurd (omega (arith, selector-range s))
 
-pub goes-by : (next code : ℕ) (c : List ℕ) → 16 ≤ code → (w : ℕ) → ((s : Selector) → judgeCode (choose s) ≡ code → w ≡ selected s c)
+pub goes-by : (next code : ℕ) (c : List ℕ) → codes.selectors ≤ code → (w : ℕ) → ((s : Selector) → judgeCode (choose s) ≡ code → w ≡ selected s c)
     → (j : Judge) → judgeCode j ≡ code → line (next + w) .next ≡ goes j next c
 unfolding goes
 goes-by next code c selector w way (keep x) e = absurd (omega (arith, rule-range x))

@@ -89,7 +89,8 @@ pub use Rattle.crmf.proofs.AscendingPlaces.{Ascends, ascends-least, tra
 pub use Rattle.crmf.proofs.ReadableSets.{firstOf, unread, Follows, own-walk, two-sets}
 pub use Rattle.crmf.proofs.OneEdition.{other, foreign, own-alike, own-stops, own-passes}
 pub use Rattle.crmf.proofs.Differences.{StopsAt, own-difference, other-walk}
-pub use Rattle.crmf.proofs.TableChecks.{Lives, WayLines, rowKinds, inside-starts, start-lives, onward-lives, ways-lines, ways-parts, kind-known, item-known, kind-given}
+pub use Rattle.crmf.specs.Kinds.{rowKinds}
+pub use Rattle.crmf.proofs.TableChecks.{Lives, WayLines, inside-starts, start-lives, onward-lives, ways-lines, ways-parts, kind-known, item-known, kind-given}
 pub use Rattle.crmf.proofs.RowsInPlace.{noRow}
 pub use Rattle.crmf.proofs.RowsOfLines.{rows-lines, rows-same, rows-count, walk-counts}
 pub use Rattle.crmf.proofs.RowLaws.{Inner, row-zero, rows-some, rows-ascend, row-parent, parent-container, row-within}

@@ -6,7 +6,7 @@ pub mod AssembledOctets
 pub mod Assembly
 pub mod Choices
 pub mod ChoicesMatch
-pub mod Codes
+pub mod JudgeCodes
 pub mod Containers
 pub mod CountSteps
 pub mod Differences

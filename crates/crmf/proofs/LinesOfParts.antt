@@ -14,6 +14,7 @@ use lib.Seq.{drop-drop, getD-drop, drop-at}
 use borrow.Author.Tests.{eqb-true, not-true}
 use Rattle.crmf.specs.declared.table.Found.{Found}
 use Rattle.crmf.specs.declared.table.Found.the-variants.{At, Nowhere}
+use Rattle.crmf.specs.Kinds as kinds
 use Rattle.crmf.specs.Value.{Selector}
 use Rattle.crmf.specs.Notation.{octet, named, both, Name, names, order, Form, Occurs, once, optional, repeated, Part, part, select}
 use Rattle.crmf.specs.Grammar.{content}
@@ -242,7 +243,7 @@ seek-chooses (part o fs ∷ ps) k s =
     (and-eq-true-iff (goesOn (passOf o fs)) (complete ps) .0 (s .completed) .0)
     (λ p. rw p (seek-chooses ps (k + length fs) behind-it)) (λ p. rw p)
 seek-chooses (select id t ns ∷ ps) k s =
-    let x : Line = record { identifiers = octet id; inside = 0; judge = choose t; kind = 0; item = 0; mark = both; next = suc k; pass = needed } in
+    let x : Line = record { identifiers = octet id; inside = 0; judge = choose t; kind = kinds.none; item = kinds.none; mark = both; next = suc k; pass = needed } in
     let rest = containerLines (k + suc (length ns)) ps ++ s .more in
     let e : drop k lines ≡ x ∷ (map wayLine ns ++ rest) = s .there ∙ append-assoc (x ∷ map wayLine ns) (containerLines (k + suc (length ns)) ps) (s .more) in
     let ways-count = eqb-true (ways t) (length ns) (and-eq-true-iff (eqb (ways t) (length ns)) (complete ps) .0 (s .completed) .0) in

@@ -11,6 +11,7 @@ use borrow.Author.Tests.{eqb-true, eq-eqb, ltb-true, ne-eqb}
 use Rattle.der.specs.Tree.{Tree, none, element}
 use Rattle.crmf.specs.declared.walk.Seen.{Seen}
 use Rattle.crmf.specs.declared.walk.Walked.the-variants.{Passed}
+use Rattle.crmf.specs.Kinds as kinds
 use Rattle.crmf.specs.Notation.{Mark, both, alone, Name}
 use Rattle.crmf.specs.Grammar.{content}
 use Rattle.crmf.specs.Language.{Matches}
@@ -27,9 +28,9 @@ abbrev known : Seen → ℕ × ℕ
 known s = (s .long, s .«long_at»)
 
 -- no item of the table is a certReqId
-item-not-id : (k : ℕ) → not (eqb (line k .item) 4) ≡ true
+item-not-id : (k : ℕ) → not (eqb (line k .item) kinds.certReqId) ≡ true
 unfolding computed
-item-not-id = at-line (λ x. not (eqb (x .item) 4)) refl
+item-not-id = at-line (λ x. not (eqb (x .item) kinds.certReqId)) refl
 
 -- the first of two lists of rows: that of the second, where one known behind the first stays
 long-append : (h : ℕ × ℕ) (a b : List Row) → firstLong h (a ++ b) ≡ firstLong (firstLong h a) b
@@ -38,7 +39,7 @@ long-append h [] b = refl
 long-append h (r ∷ rs) b = long-append (longer h (r .kind) (r .first) (r .whole)) rs b
 
 -- another kind is no long certReqId
-other-kind : (h : ℕ × ℕ) (kind p w : ℕ) → eqb kind 4 ≡ false → longer h kind p w ≡ h
+other-kind : (h : ℕ × ℕ) (kind p w : ℕ) → eqb kind kinds.certReqId ≡ false → longer h kind p w ≡ h
 other-kind h kind p w e = rw (longer, longId, e)
 
 -- the row of a kind, if it has one
@@ -49,13 +50,13 @@ row-long h kind p w up = go (eqb kind 0) refl
     go : (b : Bool) → eqb kind 0 ≡ b → firstLong h (rowIf kind p w up) ≡ longer h kind p w
     go true e =
         let z : kind ≡ 0 = eqb-true kind 0 e in
-        let o : eqb kind 4 ≡ false = ap (λ (n : ℕ). eqb n 4) z in
+        let o : eqb kind kinds.certReqId ≡ false = ap (λ (n : ℕ). eqb n kinds.certReqId) z in
         ap (firstLong h) (row-none kind p w up e) ∙ sym (other-kind h kind p w o)
     go false e = ap (firstLong h) (row-own kind p w up e)
 
 -- the row of an item is none
-item-long : (h : ℕ × ℕ) (item p w up : ℕ) → not (eqb item 4) ≡ true → firstLong h (rowIf item p w up) ≡ h
-item-long h item p w up e = row-long h item p w up ∙ other-kind h item p w (denied (eqb item 4) e)
+item-long : (h : ℕ × ℕ) (item p w up : ℕ) → not (eqb item kinds.certReqId) ≡ true → firstLong h (rowIf item p w up) ≡ h
+item-long h item p w up e = row-long h item p w up ∙ other-kind h item p w (denied (eqb item kinds.certReqId) e)
   where
     denied : (b : Bool) → not b ≡ true → b ≡ false
     denied true f = sym f
@@ -92,7 +93,7 @@ met-long x p w s =
 
 -- an element's rows: what is known goes from a, with its own row and the rows inside it, to b, and with those behind it to d
 rows-one-long : (kind item p w : ℕ) (inner : ℕ → ℕ → List Row) (behind : ℕ → List Row) (n up place whole : ℕ) (a b d : ℕ × ℕ)
-    → not (eqb item 4) ≡ true → ((j u : ℕ) → firstLong (longer a kind p w) (inner j u) ≡ b) → ((j : ℕ) → firstLong b (behind j) ≡ d)
+    → not (eqb item kinds.certReqId) ≡ true → ((j u : ℕ) → firstLong (longer a kind p w) (inner j u) ≡ b) → ((j : ℕ) → firstLong b (behind j) ≡ d)
     → firstLong a (rowsOne kind item p w inner behind n up place whole) ≡ d
 unfolding rowsOne
 rows-one-long kind item p w inner behind n up place whole a b d other within further =
@@ -159,7 +160,7 @@ longer-none h kind p w c = go (longId kind w) (eqb (h .0) 0) refl refl
 
     go : (a b : Bool) → longId kind w ≡ a → eqb (h .0) 0 ≡ b
         → (eqb (longer h kind p w .0) 0 && c) ≡ (eqb (h .0) 0 && (not (longId kind w) && c))
-    go true true t e = rw (longer, t, e) (rw (past (eqb kind 4) t))
+    go true true t e = rw (longer, t, e) (rw (past (eqb kind kinds.certReqId) t))
     go true false t e = rw (longer, t, e) (rw e)
     go false true t e = rw (longer, t, e)
     go false false t e = rw (longer, t, e)

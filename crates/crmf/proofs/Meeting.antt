@@ -6,6 +6,7 @@ use native.Mathlib.Omega.{arith}
 use borrow.Author.Tests.{ltb-true}
 use lib.Dec.{ltb, eqb}
 use Rattle.crmf.specs.declared.walk.Seen.{Seen}
+use Rattle.crmf.specs.Codes as codes
 use Rattle.crmf.specs.Notation.{Mark, both, alone}
 use Rattle.crmf.specs.Table.{Line}
 use Rattle.crmf.specs.Packed.{markCode}
@@ -23,31 +24,31 @@ unfolding computed
 small-at = at-line (λ x. small (x .mark)) refl
 
 -- a mark is noted by the edition and the difference of its code
-marked : (m : Mark) (code p : ℕ) (s : Seen) → small m ≡ true → markCode m ≡ code → noted m p s ≡ noted (alone (code / 8) (code % 8)) p s
+marked : (m : Mark) (code p : ℕ) (s : Seen) → small m ≡ true → markCode m ≡ code → noted m p s ≡ noted (alone (code / codes.edition) (code % codes.edition)) p s
 unfolding markCode noted
 marked both code p s h coded = rw (sym coded)
 marked (alone e d) code p s h coded =
     let l : d < 8 = ltb-true d 8 h in
-    let high : e ≡ code / 8 = omega arith in
-    let low : d ≡ code % 8 = omega arith in
+    let high : e ≡ code / codes.edition = omega arith in
+    let low : d ≡ code % codes.edition = omega arith in
     ap₂ (λ (e′ d′ : ℕ). noted (alone e′ d′) p s) high low
 
 -- what is noted, by the tests of the edition and of what was met before
 module _ (k code p : ℕ) (s : Seen) (coded : markCode (line k .mark) ≡ code) where
-  by-code : noted (line k .mark) p s ≡ noted (alone (code / 8) (code % 8)) p s
+  by-code : noted (line k .mark) p s ≡ noted (alone (code / codes.edition) (code % codes.edition)) p s
   by-code = marked (line k .mark) code p s (small-at k) coded
 
-  pub met-one : (eqb (code / 8) 1 && eqb (s .one) 0) ≡ true
-      → noted (line k .mark) p s ≡ record { count = s .count; one = code % 8; «one_at» = p; two = s .two; «two_at» = s .«two_at»; long = s .long; «long_at» = s .«long_at» }
+  pub met-one : (eqb (code / codes.edition) 1 && eqb (s .one) 0) ≡ true
+      → noted (line k .mark) p s ≡ record { count = s .count; one = code % codes.edition; «one_at» = p; two = s .two; «two_at» = s .«two_at»; long = s .long; «long_at» = s .«long_at» }
   unfolding noted
   met-one t = by-code ∙ rw (noted, t)
 
-  pub met-two : (eqb (code / 8) 1 && eqb (s .one) 0) ≡ false → (eqb (code / 8) 2 && eqb (s .two) 0) ≡ true
-      → noted (line k .mark) p s ≡ record { count = s .count; one = s .one; «one_at» = s .«one_at»; two = code % 8; «two_at» = p; long = s .long; «long_at» = s .«long_at» }
+  pub met-two : (eqb (code / codes.edition) 1 && eqb (s .one) 0) ≡ false → (eqb (code / codes.edition) 2 && eqb (s .two) 0) ≡ true
+      → noted (line k .mark) p s ≡ record { count = s .count; one = s .one; «one_at» = s .«one_at»; two = code % codes.edition; «two_at» = p; long = s .long; «long_at» = s .«long_at» }
   unfolding noted
   met-two f t = by-code ∙ rw (noted, f) (rw t)
 
-  pub met-none : (eqb (code / 8) 1 && eqb (s .one) 0) ≡ false → (eqb (code / 8) 2 && eqb (s .two) 0) ≡ false
+  pub met-none : (eqb (code / codes.edition) 1 && eqb (s .one) 0) ≡ false → (eqb (code / codes.edition) 2 && eqb (s .two) 0) ≡ false
       → noted (line k .mark) p s ≡ s
   unfolding noted
   met-none f t = by-code ∙ rw (noted, f) (rw t)

@@ -16,6 +16,7 @@ use Rattle.der.specs.Walk.{depth}
 use Rattle.der.specs.Identifier.{constructed}
 use Rattle.der.specs.Tree.{Tree, none, element, header, encode, WellFormed, Single, moved}
 use Rattle.der.proofs.Laws.{encode-none, encode-element, moved-none, moved-element, sequence-constructed, sequence-allowed}
+use Rattle.crmf.specs.Kinds as kinds
 use Rattle.crmf.specs.Value.{keeps, isEmpty, empty}
 use Rattle.crmf.specs.Notation
 use Rattle.crmf.specs.Notation.{among, named, Top, Batch, CertReq, Template, Signature, KeyProof, Controls, RegInfo, Form, repeated, part, plain, holding, ruled, row}
@@ -44,24 +45,24 @@ no-octets (b ∷ c) e = absurd (omega (arith, eqb-true (length (b ∷ c)) 0 (hol
 -- the four forms of a proof
 abbrev proofForms : List Form
 proofForms =
-    row 50 (ruled empty (plain 0x80)) ∷ row 51 (holding 0xA1 Signature) ∷ row 52 (holding 0xA2 KeyProof) ∷ row 53 (holding 0xA3 KeyProof) ∷ []
+    row kinds.raVerified (ruled empty (plain 0x80)) ∷ row kinds.signature (holding 0xA1 Signature) ∷ row kinds.keyEncipherment (holding 0xA2 KeyProof) ∷ row kinds.keyAgreement (holding 0xA3 KeyProof) ∷ []
 
 -- a field that keeps one of them
 proof-matches : {R : ℕ → Bool} (f : Field) → FitsOne R proofForms f → ProofMatches R f
 unfolding named keeps
 proof-matches {R} f fit = first (fits-cons fit)
   where
-    third : Fits R (row 52 (holding 0xA2 KeyProof)) f ⊎ FitsOne R (row 53 (holding 0xA3 KeyProof) ∷ []) f → ProofMatches R f
-    third (inl k) = keyEncipherment (fits-holding 0xA2 KeyProof 52 f k)
-    third (inr more) = keyAgreement (fits-holding 0xA3 KeyProof 53 f (fits-only more))
+    third : Fits R (row kinds.keyEncipherment (holding 0xA2 KeyProof)) f ⊎ FitsOne R (row kinds.keyAgreement (holding 0xA3 KeyProof) ∷ []) f → ProofMatches R f
+    third (inl k) = keyEncipherment (fits-holding 0xA2 KeyProof kinds.keyEncipherment f k)
+    third (inr more) = keyAgreement (fits-holding 0xA3 KeyProof kinds.keyAgreement f (fits-only more))
 
-    second : Fits R (row 51 (holding 0xA1 Signature)) f ⊎ FitsOne R (row 52 (holding 0xA2 KeyProof) ∷ row 53 (holding 0xA3 KeyProof) ∷ []) f
+    second : Fits R (row kinds.signature (holding 0xA1 Signature)) f ⊎ FitsOne R (row kinds.keyEncipherment (holding 0xA2 KeyProof) ∷ row kinds.keyAgreement (holding 0xA3 KeyProof) ∷ []) f
         → ProofMatches R f
-    second (inl k) = signature (fits-holding 0xA1 Signature 51 f k)
+    second (inl k) = signature (fits-holding 0xA1 Signature kinds.signature f k)
     second (inr more) = third (fits-cons more)
 
-    first : Fits R (row 50 (ruled empty (plain 0x80))) f
-        ⊎ FitsOne R (row 51 (holding 0xA1 Signature) ∷ row 52 (holding 0xA2 KeyProof) ∷ row 53 (holding 0xA3 KeyProof) ∷ []) f → ProofMatches R f
+    first : Fits R (row kinds.raVerified (ruled empty (plain 0x80))) f
+        ⊎ FitsOne R (row kinds.signature (holding 0xA1 Signature) ∷ row kinds.keyEncipherment (holding 0xA2 KeyProof) ∷ row kinds.keyAgreement (holding 0xA3 KeyProof) ∷ []) f → ProofMatches R f
     first (inl k) =
         raVerified (eqb-true (f .identifier) 0x80 (holds-true (eqb (f .identifier) 0x80) (k .fits))) (no-octets (f .content) (k .kept))
     first (inr more) = second (fits-cons more)
@@ -108,7 +109,7 @@ message-fields {R} t m =
       split = rw (a .split, p .split, q .split, end-fields (q .further), append-nil);
       isCertReq = fits-holding 0x30 CertReq 3 (a .item) (fits-only (a .keeping));
       isProof = if-any (p .item) (λ f k. proof-matches f k) (p .keeping);
-      isRegInfo = if-any (q .item) (λ f k. fits-holding 0x30 RegInfo 70 f (fits-only k)) (q .keeping);
+      isRegInfo = if-any (q .item) (λ f k. fits-holding 0x30 RegInfo kinds.regInfo f (fits-only k)) (q .keeping);
     }
 
 -- a certReq's fields
@@ -125,7 +126,7 @@ request-fields {R} t m =
       split = rw (x .split, y .split, z .split, end-fields (z .further), append-nil);
       isCertReqId = eqb-true (x .item .identifier) 0x02 (holds-true (eqb (x .item .identifier) 0x02) (fits-only (x .keeping) .fits));
       isTemplate = fits-holding 0x30 Template 5 (y .item) (fits-only (y .keeping));
-      isControls = if-any (z .item) (λ f k. fits-holding 0x30 Controls 30 f (fits-only k)) (z .keeping);
+      isControls = if-any (z .item) (λ f k. fits-holding 0x30 Controls kinds.controls f (fits-only k)) (z .keeping);
     }
 
 -- a proof's identifier is not a regInfo's
@@ -221,14 +222,14 @@ batch-fields {R} t m =
     let b = once-begun m in
     (rw (b .split) (omega arith), rw (b .split) (λ f n. each b f (List·Memᴰ·cases-cons n)))
   where
-    each : (b : Begun R (row 2 (holding 0x30 Notation.Message) ∷ []) (part repeated (row 2 (holding 0x30 Notation.Message) ∷ []) ∷ []) t)
+    each : (b : Begun R (row kinds.message (holding 0x30 Notation.Message) ∷ []) (part repeated (row kinds.message (holding 0x30 Notation.Message) ∷ []) ∷ []) t)
         → (f : Field) → (f ≡ b .item) ⊎ List·Memᴰ f (fields (b .rest)) → Holding R 0x30 Notation.Message f
     each b f (inl e) = rw e (fits-holding 0x30 Notation.Message 2 (b .item) (fits-only (b .keeping)))
-    each b f (inr n) = fits-holding 0x30 Notation.Message 2 f (fits-only (repeated-keep (b .further) f n))
+    each b f (inr n) = fits-holding 0x30 Notation.Message kinds.message f (fits-only (repeated-keep (b .further) f n))
 
 -- any number of messages
 messages-repeat : (R : ℕ → Bool) (fs : List Field) → ((f : Field) → List·Memᴰ f fs → Holding R 0x30 Notation.Message f)
-    → Matches R (part repeated (row 2 (holding 0x30 Notation.Message) ∷ []) ∷ []) (chain fs)
+    → Matches R (part repeated (row kinds.message (holding 0x30 Notation.Message) ∷ []) ∷ []) (chain fs)
 unfolding chain
 messages-repeat R [] each = pass tt end
 messages-repeat R (f ∷ fs) each =

@@ -8,6 +8,7 @@ use lib.Dec.{eqb, leb}
 use lib.ListN.{length, length-append}
 use borrow.Author.Tests.{leb-true, ne-eqb}
 use Rattle.der.specs.Length.{lengthOctets}
+use Rattle.crmf.specs.Kinds as kinds
 use Rattle.crmf.specs.Notation.{among}
 use Rattle.crmf.specs.Rows.{Row, container, numbers}
 use Rattle.crmf.specs.Pieces.{Piece, pieceOf, piecesOf, identifierOf, implied, own, wholeOf, childrenOf, assembled, within}
@@ -15,7 +16,7 @@ use Rattle.crmf.specs.Pieces.{Piece, pieceOf, piecesOf, identifierOf, im
 -- a container's kind is one of these
 pub container-kinds : (k : ℕ)
     → container k
-    ≡ (eqb k 1 || (eqb k 2 || (eqb k 3 || (eqb k 5 || (eqb k 14 || (eqb k 19 || (eqb k 30 || (eqb k 51 || (eqb k 52 || (eqb k 53 || (eqb k 70 || (eqb k 74 || false))))))))))))
+    ≡ (eqb k kinds.batch || (eqb k kinds.message || (eqb k kinds.certReq || (eqb k kinds.template || (eqb k kinds.validity || (eqb k kinds.extensions || (eqb k kinds.controls || (eqb k kinds.signature || (eqb k kinds.keyEncipherment || (eqb k kinds.keyAgreement || (eqb k kinds.regInfo || (eqb k kinds.carried || false))))))))))))
 unfolding container among
 container-kinds k = refl
 
@@ -39,27 +40,27 @@ pieces-row s r rs = refl
 
 -- five containers have identifiers of their own
 pub identifier-of : (k : ℕ) → identifierOf k
-    ≡ elim (eqb k 14) [
+    ≡ elim (eqb k kinds.validity) [
       | true ↦ 0xA4
-      | false ↦ elim (eqb k 19) [
+      | false ↦ elim (eqb k kinds.extensions) [
         | true ↦ 0xA9
-        | false ↦ elim (eqb k 51) [
+        | false ↦ elim (eqb k kinds.signature) [
           | true ↦ 0xA1
-          | false ↦ elim (eqb k 52) [ true ↦ 0xA2 | false ↦ elim (eqb k 53) [ true ↦ 0xA3 | false ↦ 0x30 ] ]
+          | false ↦ elim (eqb k kinds.keyEncipherment) [ true ↦ 0xA2 | false ↦ elim (eqb k kinds.keyAgreement) [ true ↦ 0xA3 | false ↦ 0x30 ] ]
         ]
       ]
     ]
 unfolding identifierOf
 identifier-of k = refl
 
--- a type is implied in a 74 and in no other
-pub implied-type : implied 74 ≡ 0x06 ∷ 0x09 ∷ 0x2B ∷ 0x06 ∷ 0x01 ∷ 0x05 ∷ 0x05 ∷ 0x07 ∷ 0x05 ∷ 0x02 ∷ 0x02 ∷ []
+-- a type is implied in a carried certReq item and in no other
+pub implied-type : implied kinds.carried ≡ 0x06 ∷ 0x09 ∷ 0x2B ∷ 0x06 ∷ 0x01 ∷ 0x05 ∷ 0x05 ∷ 0x07 ∷ 0x05 ∷ 0x02 ∷ 0x02 ∷ []
 unfolding implied
 implied-type = refl
 
-pub implied-none : (k : ℕ) → (k ≡ 74 → ⊥) → implied k ≡ []
+pub implied-none : (k : ℕ) → (k ≡ kinds.carried → ⊥) → implied k ≡ []
 unfolding implied
-implied-none k other = rw (implied, ne-eqb k 74 other)
+implied-none k other = rw (implied, ne-eqb k kinds.carried other)
 
 module _ (x : Piece) (inner : ℕ) where
   -- a container's own octets, and a leaf's

@@ -10,6 +10,7 @@ use lib.Seq.{getD-take}
 use Rattle.der.specs.Identifier.{constructed}
 use Rattle.der.specs.Tree.{Tree, none, element, header, encode, WellFormed}
 use Rattle.der.proofs.Laws.{header-some, encode-none, encode-length}
+use Rattle.crmf.specs.Kinds as kinds
 use Rattle.crmf.specs.Value.{selected}
 use Rattle.crmf.specs.Notation.{among, Top, Batch, Inside, Form, once, Part, part, holding, row}
 use Rattle.crmf.specs.Grammar.{content}
@@ -129,7 +130,7 @@ mutual
 
 -- the batch's row
 abbrev pub batchRow : ℕ → Row
-batchRow w = record { kind = 1; first = 0; whole = w; parent = 0 }
+batchRow w = record { kind = kinds.batch; first = 0; whole = w; parent = 0 }
 
 -- Rows that begin with the batch's, of so many bytes, with the others in place behind it.
 record Batched (rs : List Row) (w : ℕ) : Type 0 where
@@ -148,7 +149,7 @@ nothing-left end n up place whole = (refl, refl)
 
 -- the batch's form
 abbrev pub batchForm : Form
-batchForm = row 1 (holding 0x30 Batch)
+batchForm = row kinds.batch (holding 0x30 Batch)
 
 -- the rows of the batch's element begin so
 batch-first : {R : ℕ → Bool} {inside rest : Tree} (id p w : ℕ) (c : List ℕ) (f : Form) → f ≡ batchForm → (within : Within R (f .inside) inside)
@@ -161,15 +162,15 @@ batch-first {inside = inside} {rest = rest} id p w c f same within m left wf =
     let size = length (encode (element id p w c inside rest)) in
     let h = p + length (header id c) in
     let a = h + length (encode inside) in
-    let own : Row = record { kind = 1; first = p; whole = w; parent = 0 } in
+    let own : Row = record { kind = kinds.batch; first = p; whole = w; parent = 0 } in
     let inner = rowsIn within 1 0 p w in
-    let kind : f .kind ≡ 1 = ap (λ (g : Form). g .kind) same in
+    let kind : f .kind ≡ kinds.batch = ap (λ (g : Form). g .kind) same in
     let item : f .item ≡ 0 = ap (λ (g : Form). g .item) same in
     let in-form = ap (λ (g : Form). g .inside) same in
     let behind = nothing-left m (1 + length inner) 0 0 0 in
     let ended : length (encode rest) ≡ 0 = ap (λ (x : Tree). length (encode x)) (behind .0) ∙ ap length encode-none in
     let here : own ≡ batchRow size =
-    ap₂ (λ (x y : ℕ). record { kind = 1; first = x; whole = y; parent = 0 }) (s .at) (omega (arith, s .at, s .ends)) in
+    ap₂ (λ (x y : ℕ). record { kind = kinds.batch; first = x; whole = y; parent = 0 }) (s .at) (omega (arith, s .at, s .ends)) in
     let room : Room (own ∷ []) 0 true h a =
     record { there = omega arith; bears = λ e. refl; low = omega (arith, s .starts); high = s .holds; before = (s .starts, tt) } in
     let in-place = laid-in within (s .deeper) h (s .within) (own ∷ []) 1 0 p w true refl (rw in-form) room
@@ -200,7 +201,7 @@ module _ {R : ℕ → Bool} {t : Tree} (m : Matches R (content Top) t) (left : �
   top = batched m left wf
 
   -- Row 0 is the batch: kind 1, from byte 0 on, the batch's whole length, its own parent.
-  pub row-zero : getD (batchRows m) 0 noRow ≡ record { kind = 1; first = 0; whole = length (encode t); parent = 0 }
+  pub row-zero : getD (batchRows m) 0 noRow ≡ record { kind = kinds.batch; first = 0; whole = length (encode t); parent = 0 }
   row-zero = ap (λ (rs : List Row). getD rs 0 noRow) (top .table)
 
   -- There is such a row.

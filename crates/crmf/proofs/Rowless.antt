@@ -10,6 +10,7 @@ use Rattle.der.specs.Tree.{Tree, none, element}
 use Rattle.crmf.specs.declared.fill.Around.{Around}
 use Rattle.crmf.specs.declared.table.Found.{Found}
 use Rattle.crmf.specs.declared.table.Found.the-variants.{At, Nowhere}
+use Rattle.crmf.specs.Codes as codes
 use Rattle.crmf.specs.Notation.{among, Name, Time, AlgId, Spki, OneName, RdnSequence, Rdn, Attribute, Extension}
 use Rattle.crmf.specs.Grammar.{content}
 use Rattle.crmf.specs.Table.{start, size}
@@ -48,7 +49,7 @@ quiet =
 abbrev calm : ℕ → Bool
 calm k =
     (eqb (line k .item) 0 && eqb (line k .kind) 0)
-    && ((among quiet (line k .inside) && (ltb (judgeCode (line k .judge)) 16 && among quiet (line k .next)))
+    && ((among quiet (line k .inside) && (ltb (judgeCode (line k .judge)) codes.selectors && among quiet (line k .next)))
     && (not (goesOn (line k .pass)) || among quiet (suc k)))
 
 -- each of the lines passes it

@@ -9,13 +9,14 @@ use mathlib.Core.List.{List, [], _∷_, _++_, append-nil, append-assoc}
 use lib.Dec.{eqb}
 use lib.ListN.{length, getD, take, length-append, List·getD-append}
 use lib.Seq.{getD-at}
+use Rattle.crmf.specs.Kinds as kinds
 use Rattle.crmf.specs.Rows.{Row, container, rowIf, parentIf}
 use Rattle.crmf.proofs.RowsOfLines.{rowsOne, row-none, row-own, parent-none, parent-own}
 use Rattle.crmf.proofs.Containers.{bearsIf, bears-none, bears-own, or-second}
 
 -- where there is no row
 abbrev pub noRow : Row
-noRow = record { kind = 0; first = 0; whole = 0; parent = 0 }
+noRow = record { kind = kinds.none; first = 0; whole = 0; parent = 0 }
 
 -- the rows' first bytes are before a place
 abbrev pub Before : ℕ → List Row → Type 0

@@ -12,65 +12,66 @@ use lib.ListN.{getD, drop, drop-of-length-le}
 use lib.Seq.{getD-drop, drop-cons}
 use Rattle.der.proofs.Range.{every, each}
 use Rattle.crmf.specs.declared.table.Found.the-variants.{At, Nowhere}
+use Rattle.crmf.specs.Codes as codes
 use Rattle.crmf.specs.Notation.{Identifiers, octet, generalName, anything, nothing, named}
 use Rattle.crmf.specs.Table.{Pass, ends, needed, another, over, Line, endLine, lines}
 use Rattle.crmf.specs.Packed.{passCode, identifiersCode}
 use Rattle.crmf.specs.Walk.{line, goesOn, seekIn, seek, closedIn, closed}
 use Rattle.crmf.proofs.Tests.{either}
-use Rattle.crmf.proofs.Fields.{computed, lines-count}
+use Rattle.crmf.proofs.Fields.{computed, lineCount, lines-count}
 
 -- what the code of a line's pass says
-pub stays : (p : Pass) → passCode p < 2 → goesOn p ≡ false
+pub stays : (p : Pass) → passCode p < passCode another → goesOn p ≡ false
 unfolding passCode
 stays ends h = refl
 stays needed h = refl
 stays another h = absurd (omega arith)
 stays over h = absurd (omega arith)
 
-pub moves : (p : Pass) → 2 ≤ passCode p → goesOn p ≡ true
+pub moves : (p : Pass) → passCode another ≤ passCode p → goesOn p ≡ true
 unfolding passCode
 moves ends h = absurd (omega arith)
 moves needed h = absurd (omega arith)
 moves another h = refl
 moves over h = refl
 
--- what the code of a line's identifiers says: of a code from 3 on they are the one three below it, and of code 0 they are none
-pub own-code : (i : Identifiers) (id : ℕ) → identifiersCode i ≡ id + 3 → named i id ≡ true
+-- what the code of a line's identifiers says: an octet's is that of the one identifier, and nothing's is none's
+pub own-code : (i : Identifiers) (id : ℕ) → identifiersCode i ≡ id + codes.octet → named i id ≡ true
 unfolding identifiersCode named
 own-code (octet a) id e = eq-eqb id a (omega arith)
 own-code generalName id e = absurd (omega arith)
 own-code anything id e = refl
 own-code nothing id e = absurd (omega arith)
 
-pub other-code : (i : Identifiers) (id : ℕ) → 3 ≤ identifiersCode i → (identifiersCode i ≡ id + 3 → ⊥) → named i id ≡ false
+pub other-code : (i : Identifiers) (id : ℕ) → codes.octet ≤ identifiersCode i → (identifiersCode i ≡ id + codes.octet → ⊥) → named i id ≡ false
 unfolding identifiersCode named
 other-code (octet a) id h n = ne-eqb id a (λ e. n (omega arith))
 other-code generalName id h n = absurd (omega arith)
 other-code anything id h n = absurd (omega arith)
 other-code nothing id h n = absurd (omega arith)
 
-no-code : (i : Identifiers) (id : ℕ) → identifiersCode i ≡ 0 → named i id ≡ false
+no-code : (i : Identifiers) (id : ℕ) → identifiersCode i ≡ identifiersCode nothing → named i id ≡ false
 unfolding identifiersCode named
 no-code (octet a) id e = absurd (omega arith)
 no-code generalName id e = absurd (omega arith)
 no-code anything id e = absurd (omega arith)
 no-code nothing id e = refl
 
-ending : (x : Line) (xs : List Line) → passCode (x .pass) < 3 → eqb (passCode (x .pass)) 0 ≡ closedIn (x ∷ xs)
+ending : (x : Line) (xs : List Line) → passCode (x .pass) < passCode over → eqb (passCode (x .pass)) (passCode ends) ≡ closedIn (x ∷ xs)
 unfolding closedIn passCode
 ending x xs = go (x .pass)
   where
-    go : (p : Pass) → passCode p < 3 → eqb (passCode p) 0 ≡ (elim p [ ends ↦ true | needed ↦ false | another ↦ false | over ↦ closedIn xs ])
+    go : (p : Pass) → passCode p < passCode over → eqb (passCode p) (passCode ends) ≡ (elim p [ ends ↦ true | needed ↦ false | another ↦ false | over ↦ closedIn xs ])
     go ends h = refl
     go needed h = refl
     go another h = refl
     go over h = absurd (omega arith)
 
-passing : (x : Line) (xs : List Line) → 3 ≤ passCode (x .pass) → closedIn xs ≡ closedIn (x ∷ xs)
+passing : (x : Line) (xs : List Line) → passCode over ≤ passCode (x .pass) → closedIn xs ≡ closedIn (x ∷ xs)
 unfolding closedIn passCode
 passing x xs = go (x .pass)
   where
-    go : (p : Pass) → 3 ≤ passCode p → closedIn xs ≡ (elim p [ ends ↦ true | needed ↦ false | another ↦ false | over ↦ closedIn xs ])
+    go : (p : Pass) → passCode over ≤ passCode p → closedIn xs ≡ (elim p [ ends ↦ true | needed ↦ false | another ↦ false | over ↦ closedIn xs ])
     go ends h = absurd (omega arith)
     go needed h = absurd (omega arith)
     go another h = absurd (omega arith)
@@ -94,7 +95,7 @@ module _ (k : ℕ) (x : Line) (xs : List Line) (there : drop k lines ≡ x ∷ x
   seek-off fails off = rw there (rw (fails, seekIn) (rw off))
 
 -- at a line of the table
-module _ (k : ℕ) (h : k < 146) where
+module _ (k : ℕ) (h : k < lineCount) where
   from-line : drop k lines ≡ line k ∷ drop (suc k) lines
   unfolding line
   from-line = drop-cons lines k endLine (rw lines-count h)
@@ -108,16 +109,16 @@ module _ (k : ℕ) (h : k < 146) where
   pub seek-next : (id : ℕ) → named (line k .identifiers) id ≡ false → goesOn (line k .pass) ≡ true → seek (suc k) id ≡ seek k id
   seek-next id e g = sym (seek-on k _ _ from-line id e g refl)
 
-  pub closed-here : passCode (line k .pass) < 3 → eqb (passCode (line k .pass)) 0 ≡ closed k
+  pub closed-here : passCode (line k .pass) < passCode over → eqb (passCode (line k .pass)) (passCode ends) ≡ closed k
   unfolding closed
   closed-here p = rw from-line (ending (line k) (drop (suc k) lines) p)
 
-  pub closed-next : 3 ≤ passCode (line k .pass) → closed (suc k) ≡ closed k
+  pub closed-next : passCode over ≤ passCode (line k .pass) → closed (suc k) ≡ closed k
   unfolding closed
   closed-next p = rw from-line (passing (line k) (drop (suc k) lines) p)
 
 -- past the table's end
-module _ (k : ℕ) (h : 146 ≤ k) where
+module _ (k : ℕ) (h : lineCount ≤ k) where
   none-left : drop k lines ≡ []
   none-left = drop-of-length-le lines {i = k} (rw lines-count h)
 
@@ -130,28 +131,28 @@ module _ (k : ℕ) (h : 146 ≤ k) where
   closed-past = rw (closed, none-left)
 
 -- a line where the search stays and that has no identifier; and the test that such a line is behind each line for identifiers of a code
--- below 3 that may be passed over
+-- other than an octet's that may be passed over
 abbrev bars : Line → Bool
-bars x = eqb (identifiersCode (x .identifiers)) 0 && not (goesOn (x .pass))
+bars x = eqb (identifiersCode (x .identifiers)) (identifiersCode nothing) && not (goesOn (x .pass))
 
 abbrev barred : ℕ → Bool
-barred k = leb 3 (identifiersCode (line k .identifiers)) || (not (goesOn (line k .pass)) || ltb (k + 1) 146 && bars (line (k + 1)))
+barred k = leb codes.octet (identifiersCode (line k .identifiers)) || (not (goesOn (line k .pass)) || ltb (k + 1) lineCount && bars (line (k + 1)))
 
-all-barred : every 146 barred ≡ true
-unfolding computed line
+all-barred : every lineCount barred ≡ true
+unfolding computed lineCount line
 all-barred = refl
 
 -- what the test says of a line
-bar : (k : ℕ) → k < 146 → identifiersCode (line k .identifiers) < 3 → goesOn (line k .pass) ≡ true → (k + 1 < 146) × (bars (line (k + 1)) ≡ true)
+bar : (k : ℕ) → k < lineCount → identifiersCode (line k .identifiers) < codes.octet → goesOn (line k .pass) ≡ true → (k + 1 < lineCount) × (bars (line (k + 1)) ≡ true)
 bar k h low on =
-    ⊎-elim (λ (p : leb 3 (identifiersCode (line k .identifiers)) ≡ true). absurd (omega (arith, leb-true 3 (identifiersCode (line k .identifiers)) p)))
+    ⊎-elim (λ (p : leb codes.octet (identifiersCode (line k .identifiers)) ≡ true). absurd (omega (arith, leb-true codes.octet (identifiersCode (line k .identifiers)) p)))
     (λ q. ⊎-elim (λ p. absurd (false≢true (sym (not-true _ p) ∙ on)))
     (λ p. let (i, b) = and-eq-true-iff _ _ .0 p in (ltb-true _ _ i, b))
     (either _ _ q))
-    (either _ _ (each 146 barred all-barred k h))
+    (either _ _ (each lineCount barred all-barred k h))
 
--- at a line for identifiers of a code below 3 the search ends
-pub seek-ends : (k : ℕ) → k < 146 → (id : ℕ) → identifiersCode (line k .identifiers) < 3
+-- at a line for identifiers of a code other than an octet's the search ends
+pub seek-ends : (k : ℕ) → k < lineCount → (id : ℕ) → identifiersCode (line k .identifiers) < codes.octet
     → (elim (named (line k .identifiers) id) [ true ↦ At k | false ↦ Nowhere ]) ≡ seek k id
 seek-ends k h id low = by-name (named (line k .identifiers) id) refl
   where
@@ -197,21 +198,21 @@ found-names k id n e =
 -- What holds at the line where a search begins, and goes on where a line may be passed over, holds at the line that is found.
 module _ (P : ℕ → Type 0) (on : (k : ℕ) → P k → goesOn (line k .pass) ≡ true → P (suc k)) (id n : ℕ) where
   -- with so many lines to the table's end
-  kept-from : (f k : ℕ) → 146 ≤ k + f → P k → seek k id ≡ At n → P n
+  kept-from : (f k : ℕ) → lineCount ≤ k + f → P k → seek k id ≡ At n → P n
   kept-from zero k h p e = let past = seek-past k (omega arith) id in let z : _≡_ {A = ℕ} 0 1 = cc in absurd (omega arith)
-  kept-from (suc f) k h p e = by-place (ltb k 146) refl (kept-from f (suc k) (omega arith))
+  kept-from (suc f) k h p e = by-place (ltb k lineCount) refl (kept-from f (suc k) (omega arith))
     where
-      by-pass : k < 146 → named (line k .identifiers) id ≡ false → (b : Bool) → goesOn (line k .pass) ≡ b → (P (suc k) → seek (suc k) id ≡ At n → P n) → P n
+      by-pass : k < lineCount → named (line k .identifiers) id ≡ false → (b : Bool) → goesOn (line k .pass) ≡ b → (P (suc k) → seek (suc k) id ≡ At n → P n) → P n
       by-pass l f true g further = further (on k p g) (seek-next k l id f g ∙ e)
       by-pass l f false g further = let stops = seek-stops k l id f g in let z : _≡_ {A = ℕ} 0 1 = cc in absurd (omega arith)
 
-      by-name : k < 146 → (b : Bool) → named (line k .identifiers) id ≡ b → (P (suc k) → seek (suc k) id ≡ At n → P n) → P n
+      by-name : k < lineCount → (b : Bool) → named (line k .identifiers) id ≡ b → (P (suc k) → seek (suc k) id ≡ At n → P n) → P n
       by-name l true f further = let here = seek-here k l id f in let same : k ≡ n = cc in rw same at p
       by-name l false f further = by-pass l f (goesOn (line k .pass)) refl further
 
-      by-place : (b : Bool) → ltb k 146 ≡ b → (P (suc k) → seek (suc k) id ≡ At n → P n) → P n
+      by-place : (b : Bool) → ltb k lineCount ≡ b → (P (suc k) → seek (suc k) id ≡ At n → P n) → P n
       by-place true l further = by-name (ltb-true _ _ l) (named (line k .identifiers) id) refl further
       by-place false l further = let past = seek-past k (ltb-false _ _ l) id in let z : _≡_ {A = ℕ} 0 1 = cc in absurd (omega arith)
 
   pub found-kept : (k : ℕ) → P k → seek k id ≡ At n → P n
-  found-kept k = kept-from 146 k (omega arith)
+  found-kept k = kept-from lineCount k (omega arith)

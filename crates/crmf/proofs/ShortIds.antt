@@ -10,6 +10,7 @@ use lib.Dec.{ltb}
 use lib.ListN.{length}
 use borrow.Author.Tests.{ltb-false, not-true}
 use Rattle.der.specs.Tree.{Tree}
+use Rattle.crmf.specs.Kinds as kinds
 use Rattle.crmf.specs.Notation
 use Rattle.crmf.specs.Notation.{Name, Top, Batch, CertReq, holds, Form, once, repeated, Part, part, holding, row}
 use Rattle.crmf.specs.Grammar.{content}
@@ -34,7 +35,7 @@ short-append (r ∷ a) b short =
     (rw (own, front), behind)
 
 -- a row of a certReqId that is not long
-short-own : (kind p w up : ℕ) → allShort (rowIf kind p w up) ≡ true → kind ≡ 4 → w ≤ 10
+short-own : (kind p w up : ℕ) → allShort (rowIf kind p w up) ≡ true → kind ≡ kinds.certReqId → w ≤ 10
 unfolding allShort
 short-own kind p w up short id = ltb-false 10 w (not-true (ltb 10 w) (both (not (ltb 10 w)) true (rw id at short) .0))
 
@@ -48,7 +49,7 @@ record NoLong {R : ℕ → Bool} {ps : List Part} {t : Tree} (m : Matches R ps t
 
 -- A field of a form: it is no long certReqId, and there is none inside it.
 record ShortField (R : ℕ → Bool) (form : Form) (f : Field) : Type 0 where
-  own : form .kind ≡ 4 → f .whole ≤ 10
+  own : form .kind ≡ kinds.certReqId → f .whole ≤ 10
   within : Within R (form .inside) (f .inside)
   n : ℕ
   up : ℕ
@@ -152,7 +153,7 @@ each-short {R} t s f at =
     let b = once-short (s .inside) (s .short) in
     by-place b (List·Memᴰ·cases-cons (subst (List·Memᴰ f) (b .split) at))
   where
-    by-place : (b : FirstShort R (row 2 (holding 0x30 Notation.Message) ∷ []) (part repeated (row 2 (holding 0x30 Notation.Message) ∷ []) ∷ []) t)
+    by-place : (b : FirstShort R (row kinds.message (holding 0x30 Notation.Message) ∷ []) (part repeated (row kinds.message (holding 0x30 Notation.Message) ∷ []) ∷ []) t)
         → (f ≡ b .item) ⊎ List·Memᴰ f (fields (b .rest)) → ShortInside R Notation.Message (f .inside)
     by-place b (inl e) = rw e (short-inside 2 0x30 Notation.Message (b .item) (short-only (b .field)))
     by-place b (inr n) = short-inside 2 0x30 Notation.Message f (short-only (repeated-short (b .further) (b .behind) f n))

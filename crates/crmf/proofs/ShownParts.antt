@@ -9,8 +9,9 @@ use mathlib.Core.Option.{some}
 use lib.Dec.{T, eqb}
 use lib.ListN.{getElem?}
 use borrow.Author.Tests.{eqb-true, not-true}
+use Rattle.crmf.specs.Kinds as kinds
 use Rattle.crmf.specs.Value.{Selector, action, method, controlType, infoType}
-use Rattle.crmf.specs.Notation.{Identifiers, octet, generalName, anything, nothing, among, named, Name, names, Batch, order, Inside, free, holds, Form, Occurs, once, optional, repeated, Part, part, select}
+use Rattle.crmf.specs.Notation.{Identifiers, octet, generalName, anything, nothing, among, named, Name, names, Batch, order, Inside, free, holds, Form, Occurs, once, optional, repeated, Part, part, select, Message, CertReq, Template, Validity, Extensions, Signature, KeyProof, Controls, RegInfo}
 use Rattle.crmf.specs.Grammar.{content}
 use Rattle.crmf.specs.Language.{behind, OneOf}
 use Rattle.crmf.specs.Rows.{container}
@@ -38,7 +39,20 @@ only-octet nothing a id is fits = never-both false is refl
 
 -- the containers whose every element is shown: batch, message, certReq, template, validity, extensions, signature, proof, controls and regInfo
 unfoldable pub showing : Name → Bool
-showing n = among (1 ∷ 2 ∷ 3 ∷ 4 ∷ 5 ∷ 13 ∷ 15 ∷ 19 ∷ 20 ∷ 38 ∷ []) (order n)
+showing n =
+    among
+    (order Batch
+    ∷ order Message
+    ∷ order CertReq
+    ∷ order Template
+    ∷ order Validity
+    ∷ order Extensions
+    ∷ order Signature
+    ∷ order KeyProof
+    ∷ order Controls
+    ∷ order RegInfo
+    ∷ [])
+    (order n)
 
 unfoldable pub showingIn : Inside → Bool
 showingIn free = false
@@ -59,7 +73,7 @@ unfoldable pub valueForm : Selector → ℕ → Form → Bool
 valueForm s i f =
     not (eqb (f .item) 0) && elim (container (f .item)) [
       | false ↦ eqb (f .kind) 0 && quietIn quiet (f .inside)
-      | true ↦ isInfo s && (eqb i 2 && (eqb (f .item) 74 && (eqb (f .kind) 3 && bears 3 f)))
+      | true ↦ isInfo s && (eqb i 2 && (eqb (f .item) kinds.carried && (eqb (f .kind) kinds.certReq && bears kinds.certReq f)))
     ]
 
 unfoldable pub valueParts : Selector → ℕ → List Part → Bool
@@ -90,7 +104,7 @@ showsForm f =
     eqb (f .item) 0 && elim (eqb (f .kind) 0) [
       | true ↦ isOctet (f .identifiers) 0x30 && itemIn (f .inside)
       | false ↦ elim (container (f .kind)) [
-        | true ↦ not (eqb (f .kind) 74) && bears (f .kind) f
+        | true ↦ not (eqb (f .kind) kinds.carried) && bears (f .kind) f
         | false ↦ quietIn quiet (f .inside)
       ]
     ]
@@ -129,7 +143,7 @@ bears-says kind f test =
 -- How a form of such a container is shown.
 pub data Shown (f : Form) : Type 0 where
   anItem : eqb (f .item) 0 ≡ true → eqb (f .kind) 0 ≡ true → isOctet (f .identifiers) 0x30 ≡ true → itemIn (f .inside) ≡ true → Shown f
-  aContainer : eqb (f .item) 0 ≡ true → eqb (f .kind) 0 ≡ false → container (f .kind) ≡ true → eqb (f .kind) 74 ≡ false → Bears (f .kind) f → Shown f
+  aContainer : eqb (f .item) 0 ≡ true → eqb (f .kind) 0 ≡ false → container (f .kind) ≡ true → eqb (f .kind) kinds.carried ≡ false → Bears (f .kind) f → Shown f
   aLeaf : eqb (f .item) 0 ≡ true → eqb (f .kind) 0 ≡ false → container (f .kind) ≡ false → quietIn quiet (f .inside) ≡ true → Shown f
 
 form-shown : (f : Form) → showsForm f ≡ true → Shown f
@@ -138,20 +152,20 @@ form-shown f test = by-kind (eqb (f .kind) 0) refl (both .1)
   where
     both : (eqb (f .item) 0 ≡ true) × (elim (eqb (f .kind) 0) as (λ b. Bool) [
       | true ↦ isOctet (f .identifiers) 0x30 && itemIn (f .inside)
-      | false ↦ elim (container (f .kind)) [ true ↦ not (eqb (f .kind) 74) && bears (f .kind) f | false ↦ quietIn quiet (f .inside) ]
+      | false ↦ elim (container (f .kind)) [ true ↦ not (eqb (f .kind) kinds.carried) && bears (f .kind) f | false ↦ quietIn quiet (f .inside) ]
     ] ≡ true)
     both = and-eq-true-iff (eqb (f .item) 0) _ .0 test
 
     by-container : eqb (f .kind) 0 ≡ false → (b : Bool) → container (f .kind) ≡ b
-        → elim b as (λ b. Bool) [ true ↦ not (eqb (f .kind) 74) && bears (f .kind) f | false ↦ quietIn quiet (f .inside) ] ≡ true → Shown f
+        → elim b as (λ b. Bool) [ true ↦ not (eqb (f .kind) kinds.carried) && bears (f .kind) f | false ↦ quietIn quiet (f .inside) ] ≡ true → Shown f
     by-container kept true is more =
-        let two = and-eq-true-iff (not (eqb (f .kind) 74)) (bears (f .kind) f) .0 more in
-        aContainer (both .0) kept is (not-true (eqb (f .kind) 74) (two .0)) (bears-says (f .kind) f (two .1))
+        let two = and-eq-true-iff (not (eqb (f .kind) kinds.carried)) (bears (f .kind) f) .0 more in
+        aContainer (both .0) kept is (not-true (eqb (f .kind) kinds.carried) (two .0)) (bears-says (f .kind) f (two .1))
     by-container kept false is more = aLeaf (both .0) kept is more
 
     by-kind : (b : Bool) → eqb (f .kind) 0 ≡ b → elim b as (λ b. Bool) [
       | true ↦ isOctet (f .identifiers) 0x30 && itemIn (f .inside)
-      | false ↦ elim (container (f .kind)) [ true ↦ not (eqb (f .kind) 74) && bears (f .kind) f | false ↦ quietIn quiet (f .inside) ]
+      | false ↦ elim (container (f .kind)) [ true ↦ not (eqb (f .kind) kinds.carried) && bears (f .kind) f | false ↦ quietIn quiet (f .inside) ]
     ] ≡ true → Shown f
     by-kind true none more =
         let two = and-eq-true-iff (isOctet (f .identifiers) 0x30) (itemIn (f .inside)) .0 more in
@@ -178,7 +192,7 @@ shown-part o fs ps test =
 -- How a value gives its item a row.
 pub data Valued (s : Selector) (i : ℕ) (f : Form) : Type 0 where
   aValue : eqb (f .item) 0 ≡ false → container (f .item) ≡ false → eqb (f .kind) 0 ≡ true → quietIn quiet (f .inside) ≡ true → Valued s i f
-  carriedRequest : s ≡ infoType → i ≡ 2 → f .item ≡ 74 → f .kind ≡ 3 → Bears 3 f → Valued s i f
+  carriedRequest : s ≡ infoType → i ≡ 2 → f .item ≡ kinds.carried → f .kind ≡ kinds.certReq → Bears kinds.certReq f → Valued s i f
 
 info-type : (s : Selector) → isInfo s ≡ true → s ≡ infoType
 unfolding isInfo
@@ -193,22 +207,22 @@ form-valued s i f test = by-container (container (f .item)) refl (both .1)
   where
     both : (not (eqb (f .item) 0) ≡ true) × (elim (container (f .item)) as (λ b. Bool) [
       | false ↦ eqb (f .kind) 0 && quietIn quiet (f .inside)
-      | true ↦ isInfo s && (eqb i 2 && (eqb (f .item) 74 && (eqb (f .kind) 3 && bears 3 f)))
+      | true ↦ isInfo s && (eqb i 2 && (eqb (f .item) kinds.carried && (eqb (f .kind) kinds.certReq && bears kinds.certReq f)))
     ] ≡ true)
     both = and-eq-true-iff (not (eqb (f .item) 0)) _ .0 test
 
     by-container : (b : Bool) → container (f .item) ≡ b → elim b as (λ b. Bool) [
       | false ↦ eqb (f .kind) 0 && quietIn quiet (f .inside)
-      | true ↦ isInfo s && (eqb i 2 && (eqb (f .item) 74 && (eqb (f .kind) 3 && bears 3 f)))
+      | true ↦ isInfo s && (eqb i 2 && (eqb (f .item) kinds.carried && (eqb (f .kind) kinds.certReq && bears kinds.certReq f)))
     ] ≡ true → Valued s i f
     by-container false is more =
         let two = and-eq-true-iff (eqb (f .kind) 0) (quietIn quiet (f .inside)) .0 more in
         aValue (not-true (eqb (f .item) 0) (both .0)) is (two .0) (two .1)
     by-container true is more =
-        let one = and-eq-true-iff (isInfo s) (eqb i 2 && (eqb (f .item) 74 && (eqb (f .kind) 3 && bears 3 f))) .0 more in
-        let two = and-eq-true-iff (eqb i 2) (eqb (f .item) 74 && (eqb (f .kind) 3 && bears 3 f)) .0 (one .1) in
-        let three = and-eq-true-iff (eqb (f .item) 74) (eqb (f .kind) 3 && bears 3 f) .0 (two .1) in
-        let four = and-eq-true-iff (eqb (f .kind) 3) (bears 3 f) .0 (three .1) in
+        let one = and-eq-true-iff (isInfo s) (eqb i 2 && (eqb (f .item) kinds.carried && (eqb (f .kind) kinds.certReq && bears kinds.certReq f))) .0 more in
+        let two = and-eq-true-iff (eqb i 2) (eqb (f .item) kinds.carried && (eqb (f .kind) kinds.certReq && bears kinds.certReq f)) .0 (one .1) in
+        let three = and-eq-true-iff (eqb (f .item) kinds.carried) (eqb (f .kind) kinds.certReq && bears kinds.certReq f) .0 (two .1) in
+        let four = and-eq-true-iff (eqb (f .kind) kinds.certReq) (bears kinds.certReq f) .0 (three .1) in
         carriedRequest (info-type s (one .0)) (eqb-true _ _ (two .0)) (eqb-true _ _ (three .0)) (eqb-true _ _ (four .0)) (bears-says 3 f (four .1))
 
 -- the values that a type selects, each by its way

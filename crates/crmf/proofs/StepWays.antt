@@ -14,6 +14,8 @@ use Rattle.der.proofs.Laws.{whole-value, holds-integer, holds-free, ruled}
 use Rattle.crmf.specs.declared.judge.Onward.{Onward}
 use Rattle.crmf.specs.declared.judge.Onward.the-variants.{To, Breaks}
 use Rattle.crmf.specs.declared.step.Step.the-variants.{Stop, On, Into}
+use Rattle.crmf.specs.Codes as codes
+use Rattle.crmf.specs.Kinds as kinds
 use Rattle.crmf.specs.Value.{Rule, always, keeps}
 use Rattle.crmf.specs.Notation.{Mark, both, alone, named, Name}
 use Rattle.crmf.specs.Language.{readable}
@@ -26,10 +28,10 @@ use Rattle.crmf.specs.QuickSteps.{inner, outcome, Sized, Taken, Fine}
 use Rattle.crmf.proofs.Fields.{computed, at-line}
 use Rattle.crmf.proofs.Actions.{Plain, plain-names, Asked, id-kind, Opens}
 
--- a mark names an edition that is not 0 and a difference below 8
+-- a mark names an edition that is not 0 and a difference that has room below its weight
 abbrev sure : Mark → Bool
 sure both = true
-sure (alone e d) = leb 1 e && ltb d 8
+sure (alone e d) = leb 1 e && ltb d codes.edition
 
 -- at every line of the table
 sure-at : (k : ℕ) → sure (line k .mark) ≡ true
@@ -37,23 +39,23 @@ unfolding computed
 sure-at = at-line (λ x. sure (x .mark)) refl
 
 -- whether a form of such a mark is read in an edition, by the mark's code
-by-code : (m : Mark) (code e : ℕ) → sure m ≡ true → markCode m ≡ code → readable (λ y. eqb y e) m ≡ not (not (eqb code 0) && not (eqb (code / 8) e))
+by-code : (m : Mark) (code e : ℕ) → sure m ≡ true → markCode m ≡ code → readable (λ y. eqb y e) m ≡ not (not (eqb code 0) && not (eqb (code / codes.edition) e))
 unfolding markCode
 by-code both code e good coded = rw (sym coded)
 by-code (alone x d) code e good coded =
-    let both-tests = and-eq-true-iff (leb 1 x) (ltb d 8) .0 good in
+    let both-tests = and-eq-true-iff (leb 1 x) (ltb d codes.edition) .0 good in
     let some : 1 ≤ x = leb-true 1 x (both-tests .0) in
-    let few : d < 8 = ltb-true d 8 (both-tests .1) in
+    let few : d < codes.edition = ltb-true d 8 (both-tests .1) in
     let other : eqb code 0 ≡ false = ne-eqb code 0 (λ z. absurd (omega (arith, z))) in
-    let high : code / 8 ≡ x = omega arith in
+    let high : code / codes.edition ≡ x = omega arith in
     rw (other, high) (sym (Bool·not-not (eqb x e)))
 
 -- and so at every line
-pub reads : (k code e : ℕ) → markCode (line k .mark) ≡ code → readable (λ y. eqb y e) (line k .mark) ≡ not (not (eqb code 0) && not (eqb (code / 8) e))
+pub reads : (k code e : ℕ) → markCode (line k .mark) ≡ code → readable (λ y. eqb y e) (line k .mark) ≡ not (not (eqb code 0) && not (eqb (code / codes.edition) e))
 reads k code e coded = by-code (line k .mark) code e (sure-at k) coded
 
 -- an element of a line that isn't a certReqId's stands there where the line's mark is read
-pub stands-by : (e k whole : ℕ) → eqb (line k .kind) 4 ≡ false → stands e (line k) whole ≡ readable (λ y. eqb y e) (line k .mark)
+pub stands-by : (e k whole : ℕ) → eqb (line k .kind) kinds.certReqId ≡ false → stands e (line k) whole ≡ readable (λ y. eqb y e) (line k .mark)
 stands-by e k whole short = rw short (and-true _)
 
 -- and of a line of both editions by its kind and its length
@@ -61,9 +63,9 @@ stands-common : (e k whole : ℕ) → line k .mark ≡ both → (b : Bool) → l
 stands-common e k whole common b long = ap₂ _&&_ (ap (readable (λ y. eqb y e)) common) (ap not long)
 
 -- so it stands in a line of both editions whose action isn't a certReqId's
-pub stands-at : (e k whole a : ℕ) → line k .mark ≡ both → actionOf (line k) ≡ a → eqb a 4 ≡ false → stands e (line k) whole ≡ true
+pub stands-at : (e k whole a : ℕ) → line k .mark ≡ both → actionOf (line k) ≡ a → eqb a codes.takeCertReqId ≡ false → stands e (line k) whole ≡ true
 stands-at e k whole a common is other =
-    stands-by e k whole (id-kind k ∙ ap (λ (x : ℕ). eqb x 4) is ∙ other) ∙ ap (readable (λ y. eqb y e)) common
+    stands-by e k whole (id-kind k ∙ ap (λ (x : ℕ). eqb x codes.takeCertReqId) is ∙ other) ∙ ap (readable (λ y. eqb y e)) common
 
 -- a value's line with one of two rules is of both editions
 pub asked-mark : {k i : ℕ} {r : Rule} → Asked k i r → line k .mark ≡ both
@@ -189,12 +191,12 @@ module _ (e k whole left id : ℕ) (c : List ℕ) where
               (λ m p some. ap (λ (j : ℕ). countsAt e left j m p c) is ∙ fine seen e left m p room some)
 
 -- A certReqId: its content has 8 octets at most, and is an INTEGER's.
-pub on-id : (e k whole left id : ℕ) (c : List ℕ) (next : ℕ) → next ≡ line k .next → actionOf (line k) ≡ 4 → Plain k 0x02 always false
+pub on-id : (e k whole left id : ℕ) (c : List ℕ) (next : ℕ) → next ≡ line k .next → actionOf (line k) ≡ codes.takeCertReqId → Plain k 0x02 always false
     → named (line k .identifiers) id ≡ true → Sized whole c → (s t : Bool) → leb (length c) 8 ≡ s → integer c ≡ t
     → Taken e k whole left id c (elim (s && t) [ true ↦ On next | false ↦ Stop ])
 on-id e k whole left id c next to is x fits sized true t small value =
     let few : ltb 10 whole ≡ false = le-ltb _ _ (sized .small (leb-true _ _ small)) in
-    let short : longId (line k .kind) whole ≡ false = rw few (and-false (eqb (line k .kind) 4)) in
+    let short : longId (line k .kind) whole ≡ false = rw few (and-false (eqb (line k .kind) kinds.certReqId)) in
     on-typed e k whole left id c (stands-common e k whole (x .mark) false short) next to fits x t (holds-integer c ∙ value)
 on-id e k whole left id c next to is x fits sized false t large value =
     let many : ltb 10 whole ≡ true = lt-ltb _ _ (sized .large (leb-false _ _ large)) in

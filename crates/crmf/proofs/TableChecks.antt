@@ -14,20 +14,22 @@ use Rattle.der.proofs.Range.{every, each}
 use Rattle.crmf.specs.declared.judge.Onward.the-variants.{To, Breaks}
 use Rattle.crmf.specs.declared.table.Found.{Found}
 use Rattle.crmf.specs.declared.table.Found.the-variants.{At, Nowhere}
+use Rattle.crmf.specs.Kinds as kinds
 use Rattle.crmf.specs.Value.{keeps, Selector, selected}
 use Rattle.crmf.specs.Notation.{Identifiers, octet, generalName, anything, nothing, named, among, order, names, Name, Top, Part, part, select}
+use Rattle.crmf.specs.Kinds.{rowKinds}
 use Rattle.crmf.specs.Grammar.{content}
 use Rattle.crmf.specs.Table.{Judge, keep, choose, Pass, ends, needed, another, over, Line, endLine, lines, start}
 use Rattle.crmf.specs.Packed.{passCode, identifiersCode}
 use Rattle.crmf.specs.Walk.{line, seekIn, seek, closedIn, closed, ruleDetail, ways, judged}
 use Rattle.crmf.proofs.Tests.{all, any, all-getElem, any-getD, all-among, either}
-use Rattle.crmf.proofs.Fields.{computed, at-line, next-small}
+use Rattle.crmf.proofs.Fields.{computed, at-line, lineCount, next-small}
 use Rattle.crmf.proofs.Names.{at-each}
 
 -- No name stands twice in the names' order.
-pub ordered : (k : ℕ) → k < 43 → order (getD names k Top) ≡ k
+pub ordered : (k : ℕ) → k < length names → order (getD names k Top) ≡ k
 unfolding order
-ordered k h = eqb-true _ _ (each 43 (λ i. eqb (order (getD names i Top)) i) refl k h)
+ordered k h = eqb-true _ _ (each (length names) (λ i. eqb (order (getD names i Top)) i) refl k h)
 
 -- An inside that isn't free is where a container starts.
 pub inside-starts : (k : ℕ) → (line k .inside ≡ 0) ⊎ ((n : Name) × (line k .inside ≡ start n))
@@ -38,19 +40,14 @@ inside-starts k =
     (λ e. let r = any-getD (starting (line k .inside)) Top names e in inr (getD names (r .0) Top, eqb-true _ _ (r .1)))
     (either _ _ (at-line (λ x. eqb (x .inside) 0 || any (starting (x .inside)) names) refl k))
 
--- the kinds of document 01's section "Rows"
-abbrev pub rowKinds : List ℕ
-rowKinds =
-    1 ∷ 2 ∷ 3 ∷ 4 ∷ 5 ∷ 10 ∷ 11 ∷ 12 ∷ 13 ∷ 14 ∷ 15 ∷ 16 ∷ 17 ∷ 18 ∷ 19 ∷ 20 ∷ 21 ∷ 22 ∷ 30 ∷ 31 ∷ 41 ∷ 42 ∷ 43 ∷ 44 ∷ 45 ∷ 46 ∷ 50 ∷ 51 ∷ 52 ∷ 53 ∷ 54 ∷ 55 ∷ 56 ∷ 60 ∷ 61 ∷ 62 ∷ 63 ∷ 64 ∷ 70 ∷ 71 ∷ 72 ∷ 73 ∷ 74 ∷ []
-
 -- No line gives a row of another kind, and each of them is given by some line.
-pub kind-known : (k : ℕ) → among (0 ∷ rowKinds) (line k .kind) ≡ true
+pub kind-known : (k : ℕ) → among (kinds.none ∷ rowKinds) (line k .kind) ≡ true
 unfolding computed among
-kind-known = at-line (λ x. among (0 ∷ rowKinds) (x .kind)) refl
+kind-known = at-line (λ x. among (kinds.none ∷ rowKinds) (x .kind)) refl
 
-pub item-known : (k : ℕ) → among (0 ∷ rowKinds) (line k .item) ≡ true
+pub item-known : (k : ℕ) → among (kinds.none ∷ rowKinds) (line k .item) ≡ true
 unfolding computed among
-item-known = at-line (λ x. among (0 ∷ rowKinds) (x .item)) refl
+item-known = at-line (λ x. among (kinds.none ∷ rowKinds) (x .item)) refl
 
 pub kind-given : (n : ℕ) → among rowKinds n ≡ true → (k : ℕ) × ((line k .kind ≡ n) ⊎ (line k .item ≡ n))
 unfolding line computed
@@ -88,41 +85,41 @@ lives-right n e =
 
 -- the test of what a line goes on with: a selector's ways, each of which only says where to go on, and then an end line
 abbrev is-way : Line → Bool
-is-way x = eqb (passCode (x .pass)) 1 && eqb (identifiersCode (x .identifiers)) 0
+is-way x = eqb (passCode (x .pass)) (passCode needed) && eqb (identifiersCode (x .identifiers)) (identifiersCode nothing)
 
 abbrev way-at : ℕ → ℕ → Bool
 way-at next w = is-way (line (next + w)) && lives (line (next + w) .next)
 
 abbrev goes-well : Judge → ℕ → Bool
 goes-well (keep r) next = lives next
-goes-well (choose s) next = eqb (passCode (line (next + ways s) .pass)) 0 && every (ways s) (way-at next)
+goes-well (choose s) next = eqb (passCode (line (next + ways s) .pass)) (passCode ends) && every (ways s) (way-at next)
 
 -- what it says of a selector: its last line, and its ways
-last : (s : Selector) (next : ℕ) → goes-well (choose s) next ≡ true → passCode (line (next + ways s) .pass) ≡ 0
-last s next t = eqb-true _ _ (and-eq-true-iff (eqb (passCode (line (next + ways s) .pass)) 0) (every (ways s) (way-at next)) .0 t .0)
+last : (s : Selector) (next : ℕ) → goes-well (choose s) next ≡ true → passCode (line (next + ways s) .pass) ≡ passCode ends
+last s next t = eqb-true _ _ (and-eq-true-iff (eqb (passCode (line (next + ways s) .pass)) (passCode ends)) (every (ways s) (way-at next)) .0 t .0)
 
 way : (s : Selector) (next : ℕ) → goes-well (choose s) next ≡ true → (w : ℕ) → w < ways s →
     (is-way (line (next + w)) ≡ true) × (lives (line (next + w) .next) ≡ true)
 way s next t w h =
-    let p = and-eq-true-iff (eqb (passCode (line (next + ways s) .pass)) 0) (every (ways s) (way-at next)) .0 t .1 in
+    let p = and-eq-true-iff (eqb (passCode (line (next + ways s) .pass)) (passCode ends)) (every (ways s) (way-at next)) .0 t .1 in
     and-eq-true-iff (is-way (line (next + w))) (lives (line (next + w) .next)) .0 (each (ways s) (way-at next) p w h)
 
 -- what the codes of a way and of an end line say
-ends-code : (p : Pass) → passCode p ≡ 0 → p ≡ ends
+ends-code : (p : Pass) → passCode p ≡ passCode ends → p ≡ ends
 unfolding passCode
 ends-code ends e = refl
 ends-code needed e = absurd (omega arith)
 ends-code another e = absurd (omega arith)
 ends-code over e = absurd (omega arith)
 
-needed-code : (p : Pass) → passCode p ≡ 1 → p ≡ needed
+needed-code : (p : Pass) → passCode p ≡ passCode needed → p ≡ needed
 unfolding passCode
 needed-code ends e = absurd (omega arith)
 needed-code needed e = refl
 needed-code another e = absurd (omega arith)
 needed-code over e = absurd (omega arith)
 
-nothing-code : (i : Identifiers) → identifiersCode i ≡ 0 → i ≡ nothing
+nothing-code : (i : Identifiers) → identifiersCode i ≡ identifiersCode nothing → i ≡ nothing
 unfolding identifiersCode
 nothing-code nothing e = refl
 nothing-code anything e = absurd (omega arith)
@@ -131,7 +128,7 @@ nothing-code (octet a) e = absurd (omega arith)
 
 way-code : (x : Line) → is-way x ≡ true → (x .identifiers ≡ nothing) × (x .pass ≡ needed)
 way-code x e =
-    let p = and-eq-true-iff (eqb (passCode (x .pass)) 1) (eqb (identifiersCode (x .identifiers)) 0) .0 e in
+    let p = and-eq-true-iff (eqb (passCode (x .pass)) (passCode needed)) (eqb (identifiersCode (x .identifiers)) (identifiersCode nothing)) .0 e in
     (nothing-code (x .identifiers) (eqb-true _ _ (p .1)), needed-code (x .pass) (eqb-true _ _ (p .0)))
 
 going : (k : ℕ) → goes-well (line k .judge) (line k .next) ≡ true
@@ -144,14 +141,14 @@ to true d next n e = (refl, cc)
 to false d next n e = let z : _≡_ {A = ℕ} 0 1 = cc in absurd (omega arith)
 
 -- Behind an element, whatever its value, the walk goes on with a line of the table where the container may end or an element is found.
-pub onward-lives : (k : ℕ) (c : List ℕ) (n : ℕ) → judged (line k .judge) (line k .next) c ≡ To n → (n < 146) × Lives n
+pub onward-lives : (k : ℕ) (c : List ℕ) (n : ℕ) → judged (line k .judge) (line k .next) c ≡ To n → (n < lineCount) × Lives n
 unfolding judged
 onward-lives k c n = go (line k .judge) (line k .next) (going k) (next-small k)
   where
-    there : (m : ℕ) → m < 146 → lives m ≡ true → m ≡ n → (n < 146) × Lives n
+    there : (m : ℕ) → m < lineCount → lives m ≡ true → m ≡ n → (n < lineCount) × Lives n
     there m h t e = (rw e at h, rw e at (lives-right m t))
 
-    go : (j : Judge) (next : ℕ) → goes-well j next ≡ true → next < 146 → judged j next c ≡ To n → (n < 146) × Lives n
+    go : (j : Judge) (next : ℕ) → goes-well j next ≡ true → next < lineCount → judged j next c ≡ To n → (n < lineCount) × Lives n
     go (keep r) next t h e = there next h t (to (keeps r c) (ruleDetail r) next n e .1)
     go (choose s) next t h e =
         let w = selected s c in

@@ -1,5 +1,7 @@
 -- The request grammar: its notation, document 01's lines, what they mean, and the walk over them.
 pub mod Value
+pub mod Kinds
+pub mod Codes
 pub mod Notation
 pub mod Grammar
 pub mod Language

@@ -3,6 +3,7 @@ use Prim.Native.Nat.{ℕ}
 use mathlib.Core.Bool.{Bool, true, false, _||_}
 use mathlib.Core.List.{List, [], _∷_}
 use lib.Dec.{eqb}
+use Rattle.crmf.specs.Kinds as kinds
 use Rattle.crmf.specs.Value.{Rule, always, Selector}
 
 -- Which identifiers a form has.
@@ -99,7 +100,7 @@ pub data Inside : Type 0 where
   holds : Name → Inside
 
 -- A form of an element: its identifiers, its inside, the rule of its value, the kind of its row and of the row that it gives the element
--- around it (0: none), and the edition that alone allows it.
+-- around it, and the edition that alone allows it.
 pub record Form : Type 0 where
   pub identifiers : Identifiers
   pub inside : Inside
@@ -119,20 +120,20 @@ pub data Part : Type 0 where
 
 -- forms: an element with the identifier alone, with an inside, with a rule
 abbrev pub plain : ℕ → Form
-plain id = record { identifiers = octet id; inside = free; rule = always; kind = 0; item = 0; mark = both }
+plain id = record { identifiers = octet id; inside = free; rule = always; kind = kinds.none; item = kinds.none; mark = both }
 
 abbrev pub holding : ℕ → Name → Form
-holding id name = record { identifiers = octet id; inside = holds name; rule = always; kind = 0; item = 0; mark = both }
+holding id name = record { identifiers = octet id; inside = holds name; rule = always; kind = kinds.none; item = kinds.none; mark = both }
 
 abbrev pub ruled : Rule → Form → Form
 ruled r f =
     record { identifiers = f .identifiers; inside = f .inside; rule = r; kind = f .kind; item = f .item; mark = f .mark }
 
 abbrev pub aGeneralName : Form
-aGeneralName = record { identifiers = generalName; inside = free; rule = always; kind = 0; item = 0; mark = both }
+aGeneralName = record { identifiers = generalName; inside = free; rule = always; kind = kinds.none; item = kinds.none; mark = both }
 
 abbrev pub aValue : Form
-aValue = record { identifiers = anything; inside = free; rule = always; kind = 0; item = 0; mark = both }
+aValue = record { identifiers = anything; inside = free; rule = always; kind = kinds.none; item = kinds.none; mark = both }
 
 -- the form with a row of a kind; with a row of a kind for the element around it; allowed by one edition alone
 abbrev pub row : ℕ → Form → Form

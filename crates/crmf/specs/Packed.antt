@@ -9,6 +9,8 @@ use Rattle.crmf.specs.Value.{action, method, controlType, infoType}
 use Rattle.crmf.specs.Notation.{Identifiers, octet, generalName, anything, nothing, Mark, both, alone, AlgId, Spki, OneName, Rdn, Attribute}
 use Rattle.crmf.specs.Table.{Judge, keep, choose, Pass, ends, needed, another, over, Line, lines, start}
 use Rattle.crmf.specs.Walk.{rowsBy}
+use Rattle.crmf.specs.Kinds as kinds
+use Rattle.crmf.specs.Codes as codes
 
 unfoldable pub passCode : Pass → ℕ
 passCode ends = 0
@@ -20,7 +22,7 @@ unfoldable pub identifiersCode : Identifiers → ℕ
 identifiersCode nothing = 0
 identifiersCode anything = 1
 identifiersCode generalName = 2
-identifiersCode (octet a) = a + 3
+identifiersCode (octet a) = a + codes.octet
 
 unfoldable pub judgeCode : Judge → ℕ
 judgeCode (keep always) = 0
@@ -42,57 +44,76 @@ judgeCode (choose infoType) = 19
 -- the edition alone and the difference's number; 0 where both editions allow the form
 unfoldable pub markCode : Mark → ℕ
 markCode both = 0
-markCode (alone e d) = e * 8 + d
+markCode (alone e d) = e * codes.edition + d
 
 -- the number that stands beside the first entry that is i, and another where there is none
 unfoldable pub beside : List (ℕ × ℕ) → ℕ → ℕ → ℕ
 beside [] i other = other
 beside ((a, n) ∷ more) i other = elim (eqb i a) [ true ↦ n | false ↦ beside more i other ]
 
--- what a primitive value asks by its identifier alone: 2 OBJECT IDENTIFIER, 3 INTEGER, 5 BIT STRING, 6 UTF8String, 12 another type whose
--- content has a rule, 1 nothing
+-- what a primitive value asks by its identifier alone: BOOLEAN, INTEGER, BIT STRING, NULL, OBJECT IDENTIFIER, ENUMERATED, UTF8String, and
+-- another type nothing
 abbrev pub ownAction : ℕ → ℕ
 ownAction i =
-    beside ((0x01, 12) ∷ (0x02, 3) ∷ (0x03, 5) ∷ (0x05, 12) ∷ (0x06, 2) ∷ (0x0A, 12) ∷ (0x0C, 6) ∷ []) i 1
+    beside
+    ((0x01, codes.takeByLine)
+    ∷ (0x02, codes.takeInteger)
+    ∷ (0x03, codes.takeBitString)
+    ∷ (0x05, codes.takeByLine)
+    ∷ (0x06, codes.takeObjectIdentifier)
+    ∷ (0x0A, codes.takeByLine)
+    ∷ (0x0C, codes.takeUtf8String)
+    ∷ [])
+    i
+    codes.takeUnseen
 
 -- and what it asks by its line's judge: an INTEGER or a BIT STRING under an identifier that asks nothing is one of these too
 abbrev pub valueAction : Judge → ℕ → ℕ
 valueAction j i =
     beside
     ((judgeCode (keep always), ownAction i)
-    ∷ (judgeCode (keep integer), elim (eqb (ownAction i) 1) [ true ↦ 3 | false ↦ 12 ])
-    ∷ (judgeCode (keep bitString), elim (eqb (ownAction i) 1) [ true ↦ 5 | false ↦ 12 ])
+    ∷ (judgeCode (keep integer), elim (eqb (ownAction i) codes.takeUnseen) [ true ↦ codes.takeInteger | false ↦ codes.takeByLine ])
+    ∷ (judgeCode (keep bitString), elim (eqb (ownAction i) codes.takeUnseen) [ true ↦ codes.takeBitString | false ↦ codes.takeByLine ])
     ∷ [])
     (judgeCode j)
-    12
+    codes.takeByLine
 
--- what an inside asks by where its lines start: the commonest have a number of their own, 8 has any other, and 12 what is free
+-- what an inside asks by where its lines start: the commonest have an action of their own
 abbrev pub insideAction : ℕ → ℕ
 insideAction j =
-    beside ((0, 12) ∷ (start AlgId, 9) ∷ (start Attribute, 10) ∷ (start Rdn, 11) ∷ (start Spki, 13) ∷ (start OneName, 14) ∷ []) j 8
+    beside
+    ((0, codes.takeByLine)
+    ∷ (start AlgId, codes.takeAlgId)
+    ∷ (start Attribute, codes.takeAttribute)
+    ∷ (start Rdn, codes.takeRdn)
+    ∷ (start Spki, codes.takeSpki)
+    ∷ (start OneName, codes.takeName)
+    ∷ [])
+    j
+    codes.takeInside
 
--- What the quick walk does with an element in a line's form: 0 where the line has no identifier, 7 where it has all of them and the
--- inside is free, 4 for certReqIds, 1 to 6 for primitive values, 8 to 14 for insides, and 12 for every other line.
+-- What the quick walk does with an element in a line's form: by the line's identifiers, and where they are one octet by its inside or its
+-- value. Every line of which no more is known is read as it stands.
 unfoldable pub actionOf : Line → ℕ
 actionOf x =
     let free = eqb (x .inside) 0 in
-    let id = eqb (x .kind) 4 in
+    let id = eqb (x .kind) kinds.certReqId in
     let common = eqb (markCode (x .mark)) 0 in
     let unjudged = eqb (judgeCode (x .judge)) 0 in
     elim (x .identifiers) [
-      | nothing ↦ 0
-      | generalName ↦ 12
-      | anything ↦ elim (common && unjudged && free && not id) [ true ↦ 7 | false ↦ 12 ]
+      | nothing ↦ codes.takeNothing
+      | generalName ↦ codes.takeByLine
+      | anything ↦ elim (common && unjudged && free && not id) [ true ↦ codes.takeNest | false ↦ codes.takeByLine ]
       | octet i ↦
           elim (common && allowed i) [
-            | false ↦ 12
+            | false ↦ codes.takeByLine
             | true ↦
                 elim (constructed i) [
-                  | true ↦ elim (unjudged && not id) [ true ↦ insideAction (x .inside) | false ↦ 12 ]
+                  | true ↦ elim (unjudged && not id) [ true ↦ insideAction (x .inside) | false ↦ codes.takeByLine ]
                   | false ↦
                       elim free [
-                        | false ↦ 12
-                        | true ↦ elim id [ false ↦ valueAction (x .judge) i | true ↦ elim (unjudged && eqb i 0x02) [ true ↦ 4 | false ↦ 12 ] ]
+                        | false ↦ codes.takeByLine
+                        | true ↦ elim id [ false ↦ valueAction (x .judge) i | true ↦ elim (unjudged && eqb i 0x02) [ true ↦ codes.takeCertReqId | false ↦ codes.takeByLine ] ]
                       ]
                 ]
           ]
@@ -101,13 +122,15 @@ actionOf x =
 unfoldable pub pack : Line → ℕ
 pack x =
     passCode (x .pass)
-    + 4
-    * (identifiersCode (x .identifiers)
-    + 512
-    * (x .inside
-    + 256
-    * (judgeCode (x .judge)
-    + 32 * (x .kind + 128 * (x .item + 128 * (markCode (x .mark) + 32 * (x .next + 256 * (actionOf x + 16 * rowsBy x))))))))
+    + codes.id * identifiersCode (x .identifiers)
+    + codes.inside * x .inside
+    + codes.judge * judgeCode (x .judge)
+    + codes.kind * x .kind
+    + codes.item * x .item
+    + codes.mark * markCode (x .mark)
+    + codes.next * x .next
+    + codes.action * actionOf x
+    + codes.rows * rowsBy x
 
 -- the table that code holds
 unfoldable pub packed : List ℕ
@@ -115,31 +138,31 @@ packed = map pack lines
 
 -- the fields of a packed line
 abbrev pub passField : ℕ → ℕ
-passField w = w % 4
+passField w = w % codes.passes
 
 abbrev pub identifiersField : ℕ → ℕ
-identifiersField w = w / 4 % 512
+identifiersField w = w / codes.id % codes.identifiers
 
 abbrev pub insideField : ℕ → ℕ
-insideField w = w / 2048 % 256
+insideField w = w / codes.inside % codes.lineNumbers
 
 abbrev pub judgeField : ℕ → ℕ
-judgeField w = w / 524288 % 32
+judgeField w = w / codes.judge % codes.judges
 
 abbrev pub kindField : ℕ → ℕ
-kindField w = w / 16777216 % 128
+kindField w = w / codes.kind % codes.kinds
 
 abbrev pub itemField : ℕ → ℕ
-itemField w = w / 2147483648 % 128
+itemField w = w / codes.item % codes.kinds
 
 abbrev pub markField : ℕ → ℕ
-markField w = w / 274877906944 % 32
+markField w = w / codes.mark % codes.marks
 
 abbrev pub nextField : ℕ → ℕ
-nextField w = w / 8796093022208 % 256
+nextField w = w / codes.next % codes.lineNumbers
 
 abbrev pub actionField : ℕ → ℕ
-actionField w = w / 2251799813685248 % 16
+actionField w = w / codes.action % codes.actions
 
 abbrev pub rowsField : ℕ → ℕ
-rowsField w = w / 36028797018963968 % 4
+rowsField w = w / codes.rows % codes.rowCounts

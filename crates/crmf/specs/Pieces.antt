@@ -6,6 +6,7 @@ use lib.Dec.{eqb, leb}
 use lib.ListN.{length}
 use lib.Seq.{slice}
 use Rattle.der.specs.Length.{lengthOctets}
+use Rattle.crmf.specs.Kinds as kinds
 use Rattle.crmf.specs.Rows.{Row, container}
 
 -- A piece of a batch: "kinds and parents" and, "in each leaf, the same length and the bytes"; of a container no octets.
@@ -29,21 +30,21 @@ piecesOf s (r ∷ rs) = pieceOf s r ∷ piecesOf s rs
 -- the identifier of a container: "validity A4", "extensions A9", "signature A1", "keyEncipherment A2 or keyAgreement A3", and 30 of the others
 unfoldable pub identifierOf : ℕ → ℕ
 identifierOf kind =
-    elim (eqb kind 14) [
+    elim (eqb kind kinds.validity) [
       | true ↦ 0xA4
-      | false ↦ elim (eqb kind 19) [
+      | false ↦ elim (eqb kind kinds.extensions) [
         | true ↦ 0xA9
-        | false ↦ elim (eqb kind 51) [
+        | false ↦ elim (eqb kind kinds.signature) [
           | true ↦ 0xA1
-          | false ↦ elim (eqb kind 52) [ true ↦ 0xA2 | false ↦ elim (eqb kind 53) [ true ↦ 0xA3 | false ↦ 0x30 ] ]
+          | false ↦ elim (eqb kind kinds.keyEncipherment) [ true ↦ 0xA2 | false ↦ elim (eqb kind kinds.keyAgreement) [ true ↦ 0xA3 | false ↦ 0x30 ] ]
         ]
       ]
     ]
 
--- "its type is implied": the octets before the child of a 74
+-- "its type is implied": the octets before the child of a carried certReq item
 unfoldable pub implied : ℕ → List ℕ
 implied kind =
-    elim (eqb kind 74) [
+    elim (eqb kind kinds.carried) [
       | true ↦ 0x06 ∷ 0x09 ∷ 0x2B ∷ 0x06 ∷ 0x01 ∷ 0x05 ∷ 0x05 ∷ 0x07 ∷ 0x05 ∷ 0x02 ∷ 0x02 ∷ []
       | false ↦ []
     ]

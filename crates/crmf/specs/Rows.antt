@@ -5,6 +5,7 @@ use mathlib.Core.List.{List, [], _∷_, _++_}
 use lib.Dec.{ltb, eqb}
 use lib.ListN.{length}
 use Rattle.der.specs.Tree.{Tree, none, element}
+use Rattle.crmf.specs.Kinds as kinds
 use Rattle.crmf.specs.Notation.{among, Inside, Form, Part, Top}
 use Rattle.crmf.specs.Grammar.{content}
 use Rattle.crmf.specs.Language.{Matches, end, pass, take, choose, Within, unseen, parts}
@@ -23,16 +24,17 @@ width = 4
 -- "Containers: batch 1, message 2, certReq 3, template 5, validity 14, extensions 19, controls 30, signature 51, keyEncipherment 52,
 -- keyAgreement 53, regInfo 70, carried certReq item 74"
 unfoldable pub container : ℕ → Bool
-container = among (1 ∷ 2 ∷ 3 ∷ 5 ∷ 14 ∷ 19 ∷ 30 ∷ 51 ∷ 52 ∷ 53 ∷ 70 ∷ 74 ∷ [])
+container =
+    among (kinds.batch ∷ kinds.message ∷ kinds.certReq ∷ kinds.template ∷ kinds.validity ∷ kinds.extensions ∷ kinds.controls ∷ kinds.signature ∷ kinds.keyEncipherment ∷ kinds.keyAgreement ∷ kinds.regInfo ∷ kinds.carried ∷ [])
 
--- the row of an element that has a kind; a kind of 0 is none
+-- the row of an element that has a kind
 abbrev pub rowIf : ℕ → ℕ → ℕ → ℕ → List Row
 rowIf kind first whole parent =
-    elim (eqb kind 0) [ true ↦ [] | false ↦ record { kind = kind; first = first; whole = whole; parent = parent } ∷ [] ]
+    elim (eqb kind kinds.none) [ true ↦ [] | false ↦ record { kind = kind; first = first; whole = whole; parent = parent } ∷ [] ]
 
 -- the row that the rows behind it have for their parent: the element's own, with the number n, if it has one
 abbrev pub parentIf : ℕ → ℕ → ℕ → ℕ
-parentIf kind n up = elim (eqb kind 0) [ true ↦ up | false ↦ n ]
+parentIf kind n up = elim (eqb kind kinds.none) [ true ↦ up | false ↦ n ]
 
 -- The rows of the elements of a container, in order of first byte, where n is the number of the next row, up the number of the row
 -- around them, and place and whole are the container's own: a value that settles its item's kind gives the item its row.
@@ -64,7 +66,7 @@ numbers (r ∷ rs) = r .kind ∷ r .first ∷ r .whole ∷ r .parent ∷ numbers
 
 -- a row of a kind and a whole length is a certReqId "of more than 8 content octets", which stand behind two others
 abbrev pub longId : ℕ → ℕ → Bool
-longId kind whole = eqb kind 4 && ltb 10 whole
+longId kind whole = eqb kind kinds.certReqId && ltb 10 whole
 
 -- what is known of long certReqIds (whole length, 0: none, and place), with a row more: the first stays
 abbrev pub longer : ℕ × ℕ → ℕ → ℕ → ℕ → ℕ × ℕ

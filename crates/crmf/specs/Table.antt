@@ -3,6 +3,7 @@
 use Prim.Native.Nat.{ℕ, suc, _+_}
 use mathlib.Core.List.{List, [], _∷_, _++_, map}
 use lib.ListN.{length, getD}
+use Rattle.crmf.specs.Kinds as kinds
 use Rattle.crmf.specs.Value.{Rule, always, Selector}
 use Rattle.crmf.specs.Notation.{Identifiers, octet, nothing, Mark, both, Name, Inside, free, holds, Form, Occurs, once, optional, repeated, Part, part, select}
 use Rattle.crmf.specs.Notation.{order, names}
@@ -31,7 +32,7 @@ pub record Line : Type 0 where
 
 -- the line at a container's end
 abbrev pub endLine : Line
-endLine = record { identifiers = nothing; inside = 0; judge = keep always; kind = 0; item = 0; mark = both; next = 0; pass = ends }
+endLine = record { identifiers = nothing; inside = 0; judge = keep always; kind = kinds.none; item = kinds.none; mark = both; next = 0; pass = ends }
 
 -- how many lines a part takes, and a container
 unfoldable pub partSize : Part → ℕ
@@ -77,12 +78,12 @@ nextLine repeated at size = at
 
 -- the line of one of the ways that a value selects: it only says where to go on
 unfoldable pub wayLine : Name → Line
-wayLine n = record { identifiers = nothing; inside = 0; judge = keep always; kind = 0; item = 0; mark = both; next = start n; pass = needed }
+wayLine n = record { identifiers = nothing; inside = 0; judge = keep always; kind = kinds.none; item = kinds.none; mark = both; next = start n; pass = needed }
 
 unfoldable pub partLines : ℕ → Part → List Line
 partLines at (part o fs) = formLines o (nextLine o at (length fs)) fs
 partLines at (select id s ns) =
-    record { identifiers = octet id; inside = 0; judge = choose s; kind = 0; item = 0; mark = both; next = suc at; pass = needed } ∷ map wayLine ns
+    record { identifiers = octet id; inside = 0; judge = choose s; kind = kinds.none; item = kinds.none; mark = both; next = suc at; pass = needed } ∷ map wayLine ns
 
 -- a container's lines, from a line on
 unfoldable pub containerLines : ℕ → List Part → List Line

@@ -14,6 +14,7 @@ use Rattle.crmf.specs.declared.judge.Onward.{Onward}
 use Rattle.crmf.specs.declared.judge.Onward.the-variants.{To, Breaks}
 use Rattle.crmf.specs.declared.table.Found.{Found}
 use Rattle.crmf.specs.declared.table.Found.the-variants.{At, Nowhere}
+use Rattle.crmf.specs.Kinds as kinds
 use Rattle.crmf.specs.Value.{Rule, always, integer, boolean, bitString, empty, zeroOrOne, true-only, utcTime, generalizedTime, some, never}
 use Rattle.crmf.specs.Value.{keeps, Selector, action, method, controlType, infoType, selected}
 use Rattle.crmf.specs.Notation.{named, Mark, both, alone, Top}
@@ -82,9 +83,9 @@ abbrev pub unreadDetail : Mark → ℕ
 unreadDetail both = 1
 unreadDetail (alone e d) = elim (eqb d 3) [ true ↦ 4 | false ↦ 1 ]
 
--- one more row for each kind that is not 0
+-- one row for each kind but none
 abbrev pub rowsOf : ℕ → ℕ
-rowsOf k = elim (eqb k 0) [ true ↦ 0 | false ↦ 1 ]
+rowsOf k = elim (eqb k kinds.none) [ true ↦ 0 | false ↦ 1 ]
 
 -- the rows that an element of a line's form gives by itself: an item's, and its own
 abbrev pub rowsBy : Line → ℕ

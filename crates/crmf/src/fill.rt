@@ -1,4 +1,9 @@
 // The rows of a batch, written into a lent table of numbers. What was counted before is not judged again.
+use crate::codes;
+use crate::kinds;
+use crate::lines;
+use crate::lines::LINES;
+use crate::lines::TOP;
 use crate::table;
 use crate::table::Found;
 use crate::value;
@@ -18,9 +23,6 @@ ghost use Rattle.crmf.specs.Fill.{goes, written, fits, filled, ownRows, 
 // The numbers of a row.
 pub const WIDTH: usize = 4;
 
-// The line where the grammar starts.
-const TOP: usize = 1;
-
 // The element around some rows: the row above them, its first byte and its whole length.
 struct Around {
     up: usize,
@@ -37,7 +39,7 @@ struct Spot {
 
 // Writes the rows of the bytes as far as their numbers are below the count, and answers whether the table has room for so many; where it
 // has none, it stays as it is. For an accepted batch and its own count these are the batch's rows. The table of lines is lent.
-pub(crate) fn fill(bytes: &[u8], count: usize, table: &[u64; 146], out: &mut [usize]) -> bool
+pub(crate) fn fill(bytes: &[u8], count: usize, table: &[usize; LINES], out: &mut [usize]) -> bool
     requires { ⌜ now table ≡ packed ⌝ }
     ensures { λ r. ⌜ (r ≡ fits count (now (out .entry))) × (now (out .exit) ≡ filled (now (bytes .entry)) count (now (out .entry))) ⌝ }
 {
@@ -65,7 +67,7 @@ fn list(
     row: usize,
     around: Around,
     limit: usize,
-    table: &[u64; 146],
+    table: &[usize; LINES],
     out: &mut [usize],
 ) -> usize
     requires { ⌜ Room (now bytes) at end row limit (now table) (now out) ⌝ }
@@ -92,7 +94,7 @@ fn element(
     row: usize,
     around: Around,
     limit: usize,
-    table: &[u64; 146],
+    table: &[usize; LINES],
     out: &mut [usize],
 ) -> Spot
     requires { ⌜ Room (now bytes) at end row limit (now table) (now out) × (at < end) ⌝ }
@@ -135,7 +137,7 @@ fn element(
 
 // The rows that an element gives in a line's form: the one of the element around it, if the line says its kind, and its own.
 fn own_rows(
-    word: u64,
+    word: usize,
     at: usize,
     whole: usize,
     row: usize,
@@ -160,7 +162,7 @@ fn own_rows(
 }
 
 // The row above what is inside an element in a line's form.
-fn row_above(word: u64, row: usize, up: usize) -> usize
+fn row_above(word: usize, row: usize, up: usize) -> usize
     requires { ⌜ row ≤ 131070 ⌝ }
     ensures { λ r. ⌜ ((k : ℕ) → word ≡ getD packed k 0 → r ≡ rowAbove (line k) row up) ⌝ }
 {
@@ -173,7 +175,12 @@ fn row_above(word: u64, row: usize, up: usize) -> usize
 fn rowless(start: usize) -> bool
     ensures { λ r. ⌜ r ≡ spec.rowless start ⌝ }
 {
-    (start == 0) | (start == 31) | (start == 34) | (start == 37) | (start == 40) | (start == 53)
+    (start == codes::FREE)
+        | (start == lines::TIME)
+        | (start == lines::ALG_ID)
+        | (start == lines::SPKI)
+        | (start == lines::ONE_NAME)
+        | (start == lines::EXTENSION)
 }
 
 // The rows inside an element at `place`, from its content's first byte to its end, if its line has an inside that has some: `row` is the
@@ -182,13 +189,13 @@ fn inside(
     bytes: &[u8],
     at: usize,
     end: usize,
-    word: u64,
+    word: usize,
     place: usize,
     row: usize,
     up: usize,
     next: usize,
     limit: usize,
-    table: &[u64; 146],
+    table: &[usize; LINES],
     out: &mut [usize],
 ) -> usize
     requires { ⌜ Room (now bytes) at end next limit (now table) (now out) × (place ≤ end) × (row ≤ 131070) ⌝ }
@@ -207,13 +214,13 @@ fn inside(
 }
 
 // The line to go on with behind an element whose value, its content from `from` to `to`, keeps its rule.
-fn onward(table: &[u64; 146], word: u64, bytes: &[u8], from: usize, to: usize) -> usize
+fn onward(table: &[usize; LINES], word: usize, bytes: &[u8], from: usize, to: usize) -> usize
     requires { ⌜ (now table ≡ packed) × (from ≤ to) × (to ≤ length (now bytes)) ⌝ }
     ensures { λ r. ⌜ ((k : ℕ) → word ≡ getD packed k 0 → r ≡ goes (line k .judge) (line k .next) (slice from to (now (bytes .entry)))) ⌝ }
 {
     let code = table::judge_of(word);
     let next = table::next_of(word);
-    if code < 16 {
+    if code < codes::SELECTORS {
         return next;
     }
     table::next_of(table::word(table, next + value::selected(code, &bytes[from..to])))
@@ -232,7 +239,7 @@ fn put(
     requires { ⌜ (row ≤ 131072) × (width * limit ≤ length (now out)) ⌝ }
     ensures { λ r. ⌜ (r ≡ row + length (rowIf kind first whole parent)) × (now (out .exit) ≡ written (now (out .entry)) row limit (rowIf kind first whole parent)) ⌝ }
 {
-    if kind == 0 {
+    if kind == kinds::NONE {
         return row;
     }
     if limit <= row {
@@ -250,5 +257,5 @@ fn put(
 fn parent_if(kind: usize, row: usize, up: usize) -> usize
     ensures { λ r. ⌜ r ≡ parentIf kind row up ⌝ }
 {
-    if kind == 0 { up } else { row }
+    if kind == kinds::NONE { up } else { row }
 }

@@ -1,4 +1,6 @@
 // What an element's value says behind its inside.
+use crate::codes;
+use crate::lines::LINES;
 use crate::table;
 use crate::value;
 ghost use Prim.Native.Nat.{ℕ};
@@ -14,13 +16,13 @@ pub enum Onward {
 }
 
 // What a line, given as its packed word, says of an element with the content.
-pub(crate) fn value_says(table: &[u64; 146], word: u64, content: &[u8]) -> Onward
+pub(crate) fn value_says(table: &[usize; LINES], word: usize, content: &[u8]) -> Onward
     requires { ⌜ now table ≡ packed ⌝ }
     ensures { λ r. ⌜ ((k : ℕ) → word ≡ getD packed k 0 → r ≡ judged (line k .judge) (line k .next) (now (content .entry))) ⌝ }
 {
     let code = table::judge_of(word);
     let next = table::next_of(word);
-    if code < 16 {
+    if code < codes::SELECTORS {
         if value::keeps(code, content) {
             return Onward::To(next);
         }

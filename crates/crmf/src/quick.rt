@@ -1,5 +1,7 @@
 // One quick count over a batch that is to be accepted: nest, grammar and rows together. It gives up at the first thing that isn't fine.
 use crate::fill;
+use crate::lines::LINES;
+use crate::lines::TOP;
 use crate::step;
 use crate::step::Step;
 use crate::table;
@@ -15,9 +17,6 @@ ghost use Rattle.crmf.specs.QuickSteps.{Counting, Counted, Went};
 
 // The deepest level of a batch.
 const DEPTH: usize = 20;
-
-// The line where the grammar starts.
-const TOP: usize = 1;
 
 // One more than the rows of a batch in an edition; 0 where the bytes are no such batch, or one with a certReqId of more than 8 octets.
 pub fn count(edition: usize, bytes: &[u8]) -> usize
@@ -40,7 +39,7 @@ pub fn read(edition: usize, bytes: &[u8], out: &mut [usize]) -> usize
 }
 
 // The count by a table of lines that is lent.
-fn count_by(edition: usize, bytes: &[u8], table: &[u64; 146]) -> usize
+fn count_by(edition: usize, bytes: &[u8], table: &[usize; LINES]) -> usize
     requires { ⌜ now table ≡ packed ⌝ }
     ensures { λ r. ⌜ r ≡ quickCount edition (now (bytes .entry)) ⌝ }
 {
@@ -75,7 +74,7 @@ fn list(
     left: usize,
     before: usize,
     edition: usize,
-    table: &[u64; 146],
+    table: &[usize; LINES],
 ) -> usize
     requires { ⌜ Counting (now bytes) before (now table) ⌝ }
     ensures { λ r. ⌜ Counted edition left state before (now (bytes .entry)) r ⌝ }
@@ -106,7 +105,7 @@ fn element(
     left: usize,
     before: usize,
     edition: usize,
-    table: &[u64; 146],
+    table: &[usize; LINES],
 ) -> Spot
     requires { ⌜ Counting (drop at (now bytes)) before (now table) × (at < length (now bytes)) × (length (now bytes) ≤ longest) ⌝ }
     ensures { λ r. ⌜ Went edition left line before at (now (bytes .entry)) r ⌝ }

@@ -1,4 +1,5 @@
 // The value rules, each on the content octets of one element.
+use crate::codes;
 use der::content;
 ghost use Prim.Native.Nat.{_+_, _≤_, _<_};
 ghost use mathlib.Core.Path.{_≡_};
@@ -169,16 +170,16 @@ pub(crate) fn keeps(code: usize, content: &[u8]) -> bool
     ensures { λ r. ⌜ ((x : Rule) → judgeCode (keep x) ≡ code → r ≡ value.keeps x (now (content .entry))) ⌝ }
 {
     match code {
-        0 => true,
-        1 => content::integer(content),
-        2 => content::boolean(content),
-        3 => content::bit_string(content),
-        4 => is_empty(content),
-        5 => is_up_to(1, content),
-        6 => is_true(content),
-        7 => is_utc_time(content),
-        8 => is_generalized_time(content),
-        9 => !is_empty(content),
+        codes::ALWAYS => true,
+        codes::INTEGER => content::integer(content),
+        codes::BOOLEAN => content::boolean(content),
+        codes::BIT_STRING => content::bit_string(content),
+        codes::EMPTY => is_empty(content),
+        codes::ZERO_OR_ONE => is_up_to(1, content),
+        codes::TRUE_ONLY => is_true(content),
+        codes::UTC_TIME => is_utc_time(content),
+        codes::GENERALIZED_TIME => is_generalized_time(content),
+        codes::SOME => !is_empty(content),
         _ => false,
     }
 }
@@ -188,10 +189,10 @@ pub(crate) fn selected(code: usize, content: &[u8]) -> usize
     ensures { λ r. ⌜ ((s : Selector) → judgeCode (choose s) ≡ code → r ≡ value.selected s (now (content .entry))) × (r ≤ 6) ⌝ }
 {
     match code {
-        16 => number(1, content),
-        17 => number(3, content),
-        18 => type_number(0x01, 6, content),
-        19 => type_number(0x02, 2, content),
+        codes::BY_ACTION => number(1, content),
+        codes::BY_METHOD => number(3, content),
+        codes::BY_CONTROL_TYPE => type_number(0x01, 6, content),
+        codes::BY_INFO_TYPE => type_number(0x02, 2, content),
         _ => 0,
     }
 }
@@ -201,10 +202,10 @@ pub(crate) fn ways(code: usize) -> usize
     ensures { λ r. ⌜ ((s : Selector) → judgeCode (choose s) ≡ code → r ≡ walk.ways s) × (r ≤ 7) ⌝ }
 {
     match code {
-        16 => 2,
-        17 => 4,
-        18 => 7,
-        19 => 3,
+        codes::BY_ACTION => 2,
+        codes::BY_METHOD => 4,
+        codes::BY_CONTROL_TYPE => 7,
+        codes::BY_INFO_TYPE => 3,
         _ => 0,
     }
 }
@@ -214,8 +215,8 @@ pub(crate) fn rule_detail(code: usize) -> usize
     ensures { λ r. ⌜ ((x : Rule) → judgeCode (keep x) ≡ code → r ≡ walk.ruleDetail x) ⌝ }
 {
     match code {
-        9 => 2,
-        10 => 4,
+        codes::SOME => 2,
+        codes::NEVER => 4,
         _ => 3,
     }
 }

@@ -1,6 +1,10 @@
 // The walk over the elements of a batch, by the grammar's lines: a loop over siblings, and a call for each inside.
+use crate::codes;
 use crate::judge;
 use crate::judge::Onward;
+use crate::kinds;
+use crate::lines::LINES;
+use crate::lines::TOP;
 use crate::table;
 use crate::table::Found;
 use der::reading::read_at;
@@ -75,9 +79,6 @@ pub fn count(bytes: &[u8]) -> Walked
     list(bytes, 0, bytes.len(), TOP, 0, seen, &table)
 }
 
-// The line where the grammar starts.
-const TOP: usize = 1;
-
 // The elements from `at` to `end`, from a line on, in a container at the place `around`.
 fn list(
     bytes: &[u8],
@@ -86,7 +87,7 @@ fn list(
     state: usize,
     around: usize,
     seen: Seen,
-    table: &[u64; 146],
+    table: &[usize; LINES],
 ) -> Walked
     requires { ⌜ Lent (now bytes) at end (seen .count) (now table) ⌝ }
     ensures { λ r. ⌜ (r ≡ walk every seen state around (tree at (slice at end (now (bytes .entry))))) × Passing end r ⌝ }
@@ -135,7 +136,7 @@ fn element(
     end: usize,
     state: usize,
     seen: Seen,
-    table: &[u64; 146],
+    table: &[usize; LINES],
 ) -> Step
     requires { ⌜ Lent (now bytes) at end (seen .count) (now table) × (at < end) ⌝ }
     ensures { λ r. ⌜ Stepped (now (bytes .entry)) at end state seen r ⌝ }
@@ -181,9 +182,9 @@ fn behind(
     at: usize,
     from: usize,
     to: usize,
-    word: u64,
+    word: usize,
     seen: Seen,
-    table: &[u64; 146],
+    table: &[usize; LINES],
 ) -> Step
     requires { ⌜ (from ≤ to) × (to ≤ length (now bytes)) × (now table ≡ packed) ⌝ }
     ensures { λ r. ⌜ ((k : ℕ) → word ≡ getD packed k 0 → r ≡ stepped at to seen (judged (line k .judge) (line k .next) (slice from to (now (bytes .entry))))) ⌝ }
@@ -207,23 +208,23 @@ fn inside(
     bytes: &[u8],
     at: usize,
     end: usize,
-    word: u64,
+    word: usize,
     around: usize,
     seen: Seen,
-    table: &[u64; 146],
+    table: &[usize; LINES],
 ) -> Walked
     requires { ⌜ Lent (now bytes) at end (seen .count) (now table) ⌝ }
     ensures { λ r. ⌜ ((k : ℕ) → word ≡ getD packed k 0 → r ≡ within k seen around (tree at (slice at end (now (bytes .entry))))) × Passing end r ⌝ }
 {
     let start = table::inside_of(word);
-    if start == 0 {
+    if start == codes::FREE {
         return Walked::Passed(seen);
     }
     list(bytes, at, end, start, around, seen, table)
 }
 
 // What was met, with an element at a place and of a whole length in a line's form.
-fn meet(word: u64, place: usize, whole: usize, seen: Seen) -> Seen
+fn meet(word: usize, place: usize, whole: usize, seen: Seen) -> Seen
     requires { ⌜ seen .count ≤ 131070 ⌝ }
     ensures { λ r. ⌜ ((k : ℕ) → word ≡ getD packed k 0 → r ≡ met (line k) place whole seen) × (r .count ≤ seen .count + 2) ⌝ }
 {
@@ -238,7 +239,7 @@ fn meet(word: u64, place: usize, whole: usize, seen: Seen) -> Seen
 fn lengthen(kind: usize, place: usize, whole: usize, seen: Seen) -> Seen
     ensures { λ r. ⌜ (r ≡ lengthy kind place whole seen) × (r .count ≡ seen .count) ⌝ }
 {
-    if (kind == 4) & (10 < whole) & (seen.long == 0) {
+    if (kind == kinds::CERT_REQ_ID) & (10 < whole) & (seen.long == 0) {
         return Seen {
             count: seen.count,
             one: seen.one,
@@ -256,8 +257,8 @@ fn lengthen(kind: usize, place: usize, whole: usize, seen: Seen) -> Seen
 fn note(mark: usize, place: usize, seen: Seen) -> Seen
     ensures { λ r. ⌜ ((k : ℕ) → markCode (line k .mark) ≡ mark → r ≡ noted (line k .mark) place seen) × (r .count ≡ seen .count) ⌝ }
 {
-    let difference = mark % 8;
-    if (mark / 8 == 1) & (seen.one == 0) {
+    let difference = mark % codes::EDITION;
+    if (mark / codes::EDITION == 1) & (seen.one == 0) {
         return Seen {
             count: seen.count,
             one: difference,
@@ -268,7 +269,7 @@ fn note(mark: usize, place: usize, seen: Seen) -> Seen
             long_at: seen.long_at,
         };
     }
-    if (mark / 8 == 2) & (seen.two == 0) {
+    if (mark / codes::EDITION == 2) & (seen.two == 0) {
         return Seen {
             count: seen.count,
             one: seen.one,
@@ -294,5 +295,5 @@ fn total(before: usize, item: usize, own: usize) -> usize
 pub(crate) fn row_of(kind: usize) -> usize
     ensures { λ r. ⌜ (r ≡ rowsOf kind) × (r ≤ 1) ⌝ }
 {
-    if kind == 0 { 0 } else { 1 }
+    if kind == kinds::NONE { 0 } else { 1 }
 }

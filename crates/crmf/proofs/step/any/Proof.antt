@@ -7,6 +7,8 @@ use lib.Dec.{eqb}
 use lib.ListN.{getD}
 use borrow.Author.Tests.{eq-eqb, ne-eqb}
 use Rattle.crmf.specs.declared.judge.Onward.the-variants.{To}
+use Rattle.crmf.specs.Codes as codes
+use Rattle.crmf.specs.Kinds as kinds
 use Rattle.crmf.specs.Packed.{packed, markField, insideField, markCode}
 use Rattle.crmf.specs.Walk.{line, judged}
 use Rattle.crmf.specs.Quick.{stands}
@@ -25,8 +27,8 @@ module _ (c : tie.After-mark-of) where
   start = c .before .before
 
   -- an element of the line may stand in its form as the test of its mark says
-  standing : (k whole : ℕ) → start .args .word ≡ getD packed k 0 → eqb (line k .kind) 4 ≡ false → (b : Bool)
-      → (not (eqb (c .mark-of .result) 0) && not (eqb (c .mark-of .result / 8) (start .args .edition))) ≡ b
+  standing : (k whole : ℕ) → start .args .word ≡ getD packed k 0 → eqb (line k .kind) kinds.certReqId ≡ false → (b : Bool)
+      → (not (eqb (c .mark-of .result) 0) && not (eqb (c .mark-of .result / codes.edition) (start .args .edition))) ≡ b
       → stands (start .args .edition) (line k) whole ≡ not b
   standing k whole e short b test =
       let coded : markCode (line k .mark) ≡ c .mark-of .result = sym (mark-at k) ∙ ap markField (sym e) ∙ sym (c .mark-of .ensures) in
@@ -63,7 +65,7 @@ module _ (c : tie.After-inside-of) where
       → judged (line k .judge) (line k .next) (marked .before .before .args .content .now) ≡ To (c .before .before .next .given .0 .0)
   says k e = sym (c .before .before .before .before .value-says .ensures k e) ∙ c .before .before .next .given .1
 
-  stood : (k whole : ℕ) → word ≡ getD packed k 0 → eqb (line k .kind) 4 ≡ false
+  stood : (k whole : ℕ) → word ≡ getD packed k 0 → eqb (line k .kind) kinds.certReqId ≡ false
       → stands (marked .before .before .args .edition) (line k) whole ≡ true
   stood k whole e short = standing marked k whole e short false (c .before .before .before .before .before .if1 .left)
 

@@ -11,6 +11,7 @@ use lib.ListN.{getD}
 use Rattle.der.proofs.Laws.{holds-integer, holds-bit-string, holds-object-identifier, holds-utf8}
 use Rattle.crmf.specs.declared.step.Step.{Step}
 use Rattle.crmf.specs.declared.step.Step.the-variants.{On, Into}
+use Rattle.crmf.specs.Codes as codes
 use Rattle.crmf.specs.Value.{keeps}
 use Rattle.crmf.specs.Notation.{Identifiers, named, Name, AlgId, Attribute, Rdn, Spki, OneName}
 use Rattle.crmf.specs.Table.{start}
@@ -118,7 +119,7 @@ module _ (c : tie.After-action-of) where
   next k e = c .before .next-of .ensures ∙ ap nextField e ∙ next-at k
 
   -- an element with the lines of a container inside, where these may be seen to be fine
-  passed : (k whole a : ℕ) → word ≡ getD packed k 0 → c .action-of .result ≡ a → eqb a 4 ≡ false
+  passed : (k whole a : ℕ) → word ≡ getD packed k 0 → c .action-of .result ≡ a → eqb a codes.takeCertReqId ≡ false
       → (n : Name) → (actionOf (line k) ≡ a → Opens k n) → (levels least : ℕ) → levels ≤ least + 1 → (r : Bool) → (r ≡ true → Fine (start n) levels content)
       → (s : Step) → s ≡ elim (ltb least left && r) [ true ↦ On (c .before .next-of .result) | false ↦ Into (c .before .next-of .result) ]
       → Taken (c .before .before .before .args .edition) k whole left (c .before .before .before .args .id) content s
@@ -130,32 +131,32 @@ module _ (c : tie.After-action-of) where
 
 returns : tie.Need-returns
 returns c k whole e fits sized =
-    let a = action (c .before) k 1 e (c .match .keys1) in
+    let a = action (c .before) k codes.takeUnseen e (c .match .keys1) in
     let (i, x, free) = free-line k a in
-    on-untyped _ k whole _ _ _ (stands-at _ k whole 1 (x .mark) a refl) _ (next (c .before) k e) fits x free
+    on-untyped _ k whole _ _ _ (stands-at _ k whole codes.takeUnseen (x .mark) a refl) _ (next (c .before) k e) fits x free
 
 returns-2 : tie.Need-returns-2
 returns-2 c k whole e fits sized =
     let d = c .before .before .before in
-    let a = action d k 2 e (c .before .before .match .keys2) in
+    let a = action d k codes.takeObjectIdentifier e (c .before .before .match .keys2) in
     let x = object-line k a in
     subst (Taken _ k whole _ _ _) (sym (c .on-if .ensures))
-    (on-typed _ k whole _ _ _ (stands-at _ k whole 2 (x .mark) a refl) _ (next d k e) fits x _ (holds-object-identifier _ ∙ sym (c .before .object-identifier .ensures)))
+    (on-typed _ k whole _ _ _ (stands-at _ k whole codes.takeObjectIdentifier (x .mark) a refl) _ (next d k e) fits x _ (holds-object-identifier _ ∙ sym (c .before .object-identifier .ensures)))
 
 returns-3 : tie.Need-returns-3
 unfolding keeps
 returns-3 c k whole e fits sized =
     let d = c .before .before .before in
-    let a = action d k 3 e (c .before .before .match .keys3) in
+    let a = action d k codes.takeInteger e (c .before .before .match .keys3) in
     let x = integer-line k a in
     let kept = sym (c .before .integer .ensures) in
     subst (Taken _ k whole _ _ _) (sym (c .on-if2 .ensures))
-    (on-asked _ k whole _ _ _ (stands-at _ k whole 3 (asked-mark x) a refl) _ (next d k e) fits x _ (holds-integer _ ∙ kept) kept)
+    (on-asked _ k whole _ _ _ (stands-at _ k whole codes.takeInteger (asked-mark x) a refl) _ (next d k e) fits x _ (holds-integer _ ∙ kept) kept)
 
 returns-4 : tie.Need-returns-4
 returns-4 c k whole e fits sized =
     let d = c .before .before .before in
-    let a = action d k 4 e (c .before .before .match .keys4) in
+    let a = action d k codes.takeCertReqId e (c .before .before .match .keys4) in
     subst (Taken _ k whole _ _ _) (sym (c .on-if3 .ensures))
     (on-id _ k whole _ _ _ _ (next d k e) a (id-line k a) fits sized _ _ refl (sym (c .before .integer2 .ensures)))
 
@@ -163,64 +164,64 @@ returns-5 : tie.Need-returns-5
 unfolding keeps
 returns-5 c k whole e fits sized =
     let d = c .before .before .before in
-    let a = action d k 5 e (c .before .before .match .keys5) in
+    let a = action d k codes.takeBitString e (c .before .before .match .keys5) in
     let x = bits-line k a in
     let kept = sym (c .before .bit-string .ensures) in
     subst (Taken _ k whole _ _ _) (sym (c .on-if4 .ensures))
-    (on-asked _ k whole _ _ _ (stands-at _ k whole 5 (asked-mark x) a refl) _ (next d k e) fits x _ (holds-bit-string _ ∙ kept) kept)
+    (on-asked _ k whole _ _ _ (stands-at _ k whole codes.takeBitString (asked-mark x) a refl) _ (next d k e) fits x _ (holds-bit-string _ ∙ kept) kept)
 
 returns-6 : tie.Need-returns-6
 returns-6 c k whole e fits sized =
     let d = c .before .before .before in
-    let a = action d k 6 e (c .before .before .match .keys6) in
+    let a = action d k codes.takeUtf8String e (c .before .before .match .keys6) in
     let x = text-line k a in
     subst (Taken _ k whole _ _ _) (sym (c .on-if5 .ensures))
-    (on-typed _ k whole _ _ _ (stands-at _ k whole 6 (x .mark) a refl) _ (next d k e) fits x _ (holds-utf8 _ ∙ sym (c .before .is-text .ensures)))
+    (on-typed _ k whole _ _ _ (stands-at _ k whole codes.takeUtf8String (x .mark) a refl) _ (next d k e) fits x _ (holds-utf8 _ ∙ sym (c .before .is-text .ensures)))
 
 returns-7 : tie.Need-returns-7
 returns-7 c k whole e fits sized =
     let d = c .before .before .before in
-    let a = action d k 7 e (c .before .before .match .keys7) in
+    let a = action d k codes.takeNest e (c .before .before .match .keys7) in
     let x = any-line k a in
     subst (Taken _ k whole _ _ _) (sym (c .on-if6 .ensures))
-    (on-any _ k whole _ _ _ (stands-at _ k whole 7 (x .mark) a refl) _ (next d k e) (x .judge) (x .free) _ (sym (c .before .whole .ensures)))
+    (on-any _ k whole _ _ _ (stands-at _ k whole codes.takeNest (x .mark) a refl) _ (next d k e) (x .judge) (x .free) _ (sym (c .before .whole .ensures)))
 
 returns-8 : tie.Need-returns-8
 returns-8 c k whole e fits sized =
     let d = c .before in
-    let a = action d k 8 e (c .match .keys8) in
+    let a = action d k codes.takeInside e (c .match .keys8) in
     let (i, x) = inside-line k a in
-    into-lines _ k whole _ _ _ (stands-at _ k whole 8 (x .mark) a refl) _ (next d k e) x
+    into-lines _ k whole _ _ _ (stands-at _ k whole codes.takeInside (x .mark) a refl) _ (next d k e) x
 
 returns-9 : tie.Need-returns-9
 returns-9 c k whole e fits sized =
-    passed (c .before .before .before) k whole 9 e (c .before .before .match .keys9) refl AlgId (algorithm-line k) 1 1 (lit≤ tt) _
+    passed (c .before .before .before) k whole codes.takeAlgId e (c .before .before .match .keys9) refl AlgId (algorithm-line k) 1 1 (lit≤ tt) _
     (λ t. c .before .pair .ensures t .0 refl) _ (c .past-if .ensures)
 
 returns-10 : tie.Need-returns-10
 returns-10 c k whole e fits sized =
-    passed (c .before .before .before) k whole 10 e (c .before .before .match .keys10) refl Attribute (attribute-line k) 1 1 (lit≤ tt) _
+    passed (c .before .before .before) k whole codes.takeAttribute e (c .before .before .match .keys10) refl Attribute (attribute-line k) 1 1 (lit≤ tt) _
     (λ t. c .before .pair2 .ensures t .1 refl) _ (c .past-if2 .ensures)
 
 returns-11 : tie.Need-returns-11
 returns-11 c k whole e fits sized =
-    passed (c .before .before .before) k whole 11 e (c .before .before .match .keys11) refl Rdn (part-line k) 2 1 (lit≤ tt) _
+    passed (c .before .before .before) k whole codes.takeRdn e (c .before .before .match .keys11) refl Rdn (part-line k) 2 1 (lit≤ tt) _
     (c .before .attribute .ensures) _ (c .past-if3 .ensures)
 
 returns-12 : tie.Need-returns-12
 returns-12 c k whole e fits sized =
     let d = c .before .before in
-    let a = action d k 12 e (c .before .match .keys12) in
-    c .any .ensures k whole e (id-kind k ∙ ap (λ (x : ℕ). eqb x 4) a)
+    let a = action d k codes.takeByLine e (c .before .match .keys12) in
+    c .any .ensures k whole e (id-kind k ∙ ap (λ (x : ℕ). eqb x codes.takeCertReqId) a)
 
 returns-13 : tie.Need-returns-13
 returns-13 c k whole e fits sized =
-    passed (c .before .before .before) k whole 13 e (c .before .before .match .keys13) refl Spki (key-line k) 2 1 (lit≤ tt) _
+    passed (c .before .before .before) k whole codes.takeSpki e (c .before .before .match .keys13) refl Spki (key-line k) 2 1 (lit≤ tt) _
     (c .before .key .ensures) _ (c .past-if4 .ensures)
 
 returns-14 : tie.Need-returns-14
 returns-14 c k whole e fits sized =
-    passed (c .before .before .before) k whole 14 e (c .before .before .match .keys14) refl OneName (name-line k) 4 3 (lit≤ tt) _
+    passed (c .before .before .before) k whole codes.takeName e (c .before .before .match .keys14) refl OneName (name-line k) 4 3 (lit≤ tt) _
     (c .before .name .ensures) _ (c .past-if5 .ensures)
 
 -- what is below n + 1 and not n is below n
@@ -228,19 +229,19 @@ down : (n : ℕ) {a : ℕ} → a < n + 1 → (a ≡ n → ⊥) → a < n
 down n {a} h f = lt-of-le-ne (omega (arith, h)) f
 
 -- no action above 0 is left, from the top down
-none-left : (c : tie.At-match-rest) → c .before .action-of .result < 15 → c .before .action-of .result ≡ 0
+none-left : (c : tie.At-match-rest) → c .before .action-of .result < codes.takeName + 1 → c .before .action-of .result ≡ codes.takeNothing
 none-left c h =
     let r = c .match .rest in
     let s = r .0 .0 .0 .0 .0 .0 .0 in
-    let low = down 8 (down 9 (down 10 (down 11 (down 12 (down 13 (down 14 h (r .1)) (r .0 .1)) (r .0 .0 .1)) (r .0 .0 .0 .1)) (r .0 .0 .0 .0 .1)) (r .0 .0 .0 .0 .0 .1)) (r .0 .0 .0 .0 .0 .0 .1) in
-    let least = down 1 (down 2 (down 3 (down 4 (down 5 (down 6 (down 7 low (s .1)) (s .0 .1)) (s .0 .0 .1)) (s .0 .0 .0 .1)) (s .0 .0 .0 .0 .1)) (s .0 .0 .0 .0 .0 .1)) (s .0 .0 .0 .0 .0 .0 .1) in
+    let low = down codes.takeInside (down codes.takeAlgId (down codes.takeAttribute (down codes.takeRdn (down codes.takeByLine (down codes.takeSpki (down codes.takeName h (r .1)) (r .0 .1)) (r .0 .0 .1)) (r .0 .0 .0 .1)) (r .0 .0 .0 .0 .1)) (r .0 .0 .0 .0 .0 .1)) (r .0 .0 .0 .0 .0 .0 .1) in
+    let least = down codes.takeUnseen (down codes.takeObjectIdentifier (down codes.takeInteger (down codes.takeCertReqId (down codes.takeBitString (down codes.takeUtf8String (down codes.takeNest low (s .1)) (s .0 .1)) (s .0 .0 .1)) (s .0 .0 .0 .1)) (s .0 .0 .0 .0 .1)) (s .0 .0 .0 .0 .0 .1)) (s .0 .0 .0 .0 .0 .0 .1) in
     omega (arith, least)
 
 returns-15 : tie.Need-returns-15
 unfolding named
 returns-15 c k whole e fits sized =
     let acts = c .before .action-of .ensures k e in
-    let zero : actionOf (line k) ≡ 0 = sym acts ∙ none-left c (rw acts (action-small k)) in
+    let zero : actionOf (line k) ≡ codes.takeNothing = sym acts ∙ none-left c (rw acts (action-small k)) in
     absurd (false≢true (sym (ap (λ (i : Identifiers). named i (c .before .before .before .before .args .id)) (nothing-line k zero)) ∙ fits))
 
 pub take-spec : {M : Type 1} → statement M

@@ -1,6 +1,6 @@
 -- `crmf::table::seek` meets its contract. The loop's invariant: the search from the line looked at finds what it finds from where it began.
 -- Assumes nothing.
-use Prim.Native.Nat.{_-_}
+use Prim.Native.Nat.{_-_, _<_}
 use mathlib.Core.Bool.{false}
 use mathlib.Core.Path.{_≡_, refl, sym, ap, _∙_}
 use native.Mathlib.Omega.{arith}
@@ -10,7 +10,7 @@ use lib.ListN.{getD}
 use Rattle.crmf.specs.Notation.{named}
 use Rattle.crmf.specs.Packed.{passField, passCode, identifiersField, identifiersCode}
 use Rattle.crmf.specs.Walk.{line, seek}
-use Rattle.crmf.proofs.Fields.{pass-at, identifiers-at}
+use Rattle.crmf.proofs.Fields.{lineCount, pass-at, identifiers-at}
 use Rattle.crmf.proofs.Search.{stays, moves, own-code, other-code, seek-here, seek-stops, seek-next, seek-ends, seek-past}
 use Rattle.crmf.proofs.table.seek.Statement.{statement}
 use Rattle.crmf.proofs.table.seek.Tie as tie
@@ -19,7 +19,7 @@ abbrev Inv-loop : tie.InvT-loop
 Inv-loop table from id k₀ k = seek k id ≡ seek from id
 
 abbrev μ-loop : tie.MeasureT-loop
-μ-loop table from id k₀ k = 146 - k
+μ-loop table from id k₀ k = lineCount - k
 
 loop-holds : tie.Need-loop-holds Inv-loop μ-loop
 loop-holds c = refl
@@ -29,6 +29,11 @@ mul-word c = search needs
 
 element-copy-out-word : tie.Need-element-copy-out-word Inv-loop μ-loop
 element-copy-out-word c = search needs
+
+-- the loop's test is one of the number of lines
+inside : (c : tie.In-loop Inv-loop μ-loop) → c .before .loop .k < lineCount
+unfolding lineCount
+inside c = c .loop-test .taken
 
 -- what the identifiers and the pass of the line that is looked at say
 module _ (c : tie.After-word Inv-loop μ-loop) where
@@ -48,7 +53,7 @@ returns : tie.Need-returns Inv-loop μ-loop
 returns c =
     let d = c .before in
     let k = a d .loop .k in
-    seek-here k (omega arith) (a d .before .args .id) (own-code (line k .identifiers) _ (sym (coded d) ∙ c .if1 .taken)) ∙ a d .loop .inv
+    seek-here k (inside (d .before)) (a d .before .args .id) (own-code (line k .identifiers) _ (sym (coded d) ∙ c .if1 .taken)) ∙ a d .loop .inv
 
 here-requires : tie.Need-here-requires Inv-loop μ-loop
 here-requires c κs = search needs
@@ -58,7 +63,7 @@ returns-2 c =
     let d = c .before .before .before in
     let k = a d .loop .k in
     let e = coded d in
-    c .here .ensures (line k .identifiers) (sym e) ∙ seek-ends k (omega arith) (a d .before .args .id) (omega arith) ∙ a d .loop .inv
+    c .here .ensures (line k .identifiers) (sym e) ∙ seek-ends k (inside (d .before)) (a d .before .args .id) (omega arith) ∙ a d .loop .inv
 
 -- behind the two tests of its identifiers the line doesn't have the identifier
 unfit : (c : tie.Else2 Inv-loop μ-loop) →
@@ -70,26 +75,29 @@ unfit c =
     other-code (line (a d .loop .k) .identifiers) _ (omega arith) (λ q. c .before .if1 .left (e ∙ q))
 
 returns-3 : tie.Need-returns-3 Inv-loop μ-loop
+unfolding passCode
 returns-3 c =
     let d = c .before .before .before in
     let k = a d .loop .k in
     let e = looked d in
-    seek-stops k (omega arith) (a d .before .args .id) (unfit (c .before)) (stays (line k .pass) (omega arith)) ∙ a d .loop .inv
+    seek-stops k (inside (d .before)) (a d .before .args .id) (unfit (c .before)) (stays (line k .pass) (omega arith)) ∙ a d .loop .inv
 
 add-k : tie.Need-add-k Inv-loop μ-loop
 add-k c = search needs
 
 loop-less : tie.Need-loop-less Inv-loop μ-loop
-loop-less c = search needs
+loop-less c = omega (arith, inside (c .before .before .before .before))
 
 loop-again : tie.Need-loop-again Inv-loop μ-loop
+unfolding passCode
 loop-again c =
     let d = c .before .before .before in
     let k = a d .loop .k in
     let e = looked d in
-    rw add-one (seek-next k (omega arith) (a d .before .args .id) (unfit (c .before)) (moves (line k .pass) (omega arith)) ∙ a d .loop .inv)
+    rw add-one (seek-next k (inside (d .before)) (a d .before .args .id) (unfit (c .before)) (moves (line k .pass) (omega arith)) ∙ a d .loop .inv)
 
 returns-4 : tie.Need-returns-4 Inv-loop μ-loop
+unfolding lineCount
 returns-4 c = seek-past (c .before .loop .k) (c .loop-test .left) (c .before .before .args .id) ∙ c .before .loop .inv
 
 pub seek-spec : {M : Type 1} → statement M

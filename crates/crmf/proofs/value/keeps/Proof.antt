@@ -4,9 +4,10 @@ use mathlib.Core.Bool.{not}
 use mathlib.Core.Path.{_≡_, sym, ap, _∙_}
 use borrow.Author.Needs.{needs}
 use lib.Arith.{lt-of-le-ne}
-use Rattle.crmf.specs.Value.{always, integer, boolean, bitString, empty, zeroOrOne, true-only, utcTime, generalizedTime, some, keeps}
+use Rattle.crmf.specs.Value.{always, integer, boolean, bitString, empty, zeroOrOne, true-only, utcTime, generalizedTime, some, never, keeps}
+use Rattle.crmf.specs.Table.{keep}
 use Rattle.crmf.specs.Packed.{judgeCode}
-use Rattle.crmf.proofs.Codes.{same-rule, last-rule}
+use Rattle.crmf.proofs.JudgeCodes.{same-rule, last-rule}
 use Rattle.crmf.proofs.value.keeps.Statement.{statement}
 use Rattle.crmf.proofs.value.keeps.Tie as tie
 
@@ -81,8 +82,9 @@ returns-10 c x e = rw (same-rule x some (e ∙ c .before .match .keys10)) (ap no
 up : {n k : ℕ} → n ≤ k → (k ≡ n → ⊥) → n < k
 up h f = lt-of-le-ne h (λ e. f (sym e))
 
--- no code below 10 is left, from the bottom up
-above : (c : tie.At-match-rest) → 10 ≤ c .before .before .args .code
+-- no code below the last rule's is left, from the bottom up
+above : (c : tie.At-match-rest) → judgeCode (keep never) ≤ c .before .before .args .code
+unfolding judgeCode
 above c =
     let r = c .match .rest in
     let s = r .0 .0 .0 .0 .0 in
@@ -90,7 +92,7 @@ above c =
     up (up (up (up (up five (r .0 .0 .0 .0 .1)) (r .0 .0 .0 .1)) (r .0 .0 .1)) (r .0 .1)) (r .1)
 
 returns-11 : tie.Need-returns-11
-unfolding keeps
+unfolding keeps judgeCode
 returns-11 c x e = rw (last-rule x (rw e (above c)))
 
 pub keeps-spec : {M : Type 1} → statement M

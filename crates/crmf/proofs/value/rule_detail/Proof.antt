@@ -3,7 +3,7 @@
 use mathlib.Core.Path.{sym, _∙_}
 use Rattle.crmf.specs.Value.{some, never}
 use Rattle.crmf.specs.Packed.{judgeCode}
-use Rattle.crmf.proofs.Codes.{same-rule, other-detail}
+use Rattle.crmf.proofs.JudgeCodes.{same-rule, other-detail}
 use Rattle.crmf.proofs.value.rule_detail.Statement.{statement}
 use Rattle.crmf.proofs.value.rule_detail.Tie as tie
 
@@ -16,6 +16,7 @@ unfolding judgeCode
 returns-2 c x e = rw (same-rule x never (e ∙ c .match .keys2))
 
 returns-3 : tie.Need-returns-3
+unfolding judgeCode
 returns-3 c x e = other-detail x (λ q. c .match .rest .0 .1 (sym e ∙ q)) (λ q. c .match .rest .1 (sym e ∙ q))
 
 pub rule-detail-spec : {M : Type 1} → statement M

@@ -4,7 +4,7 @@ use borrow.Author.Needs.{needs}
 use native.Mathlib.Omega.{arith}
 use Rattle.crmf.specs.Value.{action, method, controlType, infoType, selected}
 use Rattle.crmf.specs.Packed.{judgeCode}
-use Rattle.crmf.proofs.Codes.{same-selector, selector-range}
+use Rattle.crmf.proofs.JudgeCodes.{same-selector, selector-range}
 use Rattle.crmf.proofs.ValueRules.{selected-bound}
 use Rattle.crmf.proofs.value.selected.Statement.{statement}
 use Rattle.crmf.proofs.value.selected.Tie as tie
@@ -50,6 +50,7 @@ returns-4 c = (
 )
 
 returns-5 : tie.Need-returns-5
+unfolding judgeCode
 returns-5 c = (λ s e. absurd (omega (arith, selector-range s)), search needs)
 
 pub selected-spec : {M : Type 1} → statement M

@@ -4,7 +4,7 @@ use native.Mathlib.Omega.{arith}
 use lib.Dec.{lit≤}
 use Rattle.crmf.specs.Value.{action, method, controlType, infoType}
 use Rattle.crmf.specs.Packed.{judgeCode}
-use Rattle.crmf.proofs.Codes.{same-selector, selector-range}
+use Rattle.crmf.proofs.JudgeCodes.{same-selector, selector-range}
 use Rattle.crmf.proofs.value.ways.Statement.{statement}
 use Rattle.crmf.proofs.value.ways.Tie as tie
 
@@ -25,6 +25,7 @@ unfolding judgeCode
 returns-4 c = (λ s e. rw (same-selector s infoType (e ∙ c .match .keys4)), lit≤ tt)
 
 returns-5 : tie.Need-returns-5
+unfolding judgeCode
 returns-5 c = (λ s e. absurd (omega (arith, selector-range s)), lit≤ tt)
 
 pub ways-spec : {M : Type 1} → statement M

@@ -4,6 +4,7 @@ use mathlib.Core.List.{List, [], _∷_}
 use mathlib.Core.Path.{_≡_, refl, sym, ap, _∙_}
 use lib.Dec.{lit≤}
 use lib.ListN.{getD, List·getD-eq-default}
+use Rattle.crmf.specs.Codes as codes
 use Rattle.crmf.specs.Value.{Rule, always, integer, boolean, bitString, empty, zeroOrOne, true-only, utcTime, generalizedTime, some, never}
 use Rattle.crmf.specs.Value.{Selector, action, method, controlType, infoType}
 use Rattle.crmf.specs.Table.{keep, choose}
@@ -32,14 +33,14 @@ listed never = refl
 pub same-rule : (x y : Rule) → judgeCode (keep x) ≡ judgeCode (keep y) → x ≡ y
 same-rule x y e = sym (listed x) ∙ ap (λ (k : ℕ). getD rules k never) e ∙ listed y
 
-pub last-rule : (x : Rule) → 10 ≤ judgeCode (keep x) → x ≡ never
-unfolding rules
+pub last-rule : (x : Rule) → judgeCode (keep never) ≤ judgeCode (keep x) → x ≡ never
+unfolding rules judgeCode
 last-rule x h = sym (listed x) ∙ List·getD-eq-default rules never h
 
 selectors : List Selector
 selectors = action ∷ method ∷ controlType ∷ []
 
-selector-listed : (s : Selector) → getD selectors (judgeCode (choose s) - 16) infoType ≡ s
+selector-listed : (s : Selector) → getD selectors (judgeCode (choose s) - codes.selectors) infoType ≡ s
 unfolding selectors judgeCode
 selector-listed action = refl
 selector-listed method = refl
@@ -48,10 +49,10 @@ selector-listed infoType = refl
 
 pub same-selector : (s t : Selector) → judgeCode (choose s) ≡ judgeCode (choose t) → s ≡ t
 same-selector s t e =
-    sym (selector-listed s) ∙ ap (λ (k : ℕ). getD selectors (k - 16) infoType) e ∙ selector-listed t
+    sym (selector-listed s) ∙ ap (λ (k : ℕ). getD selectors (k - codes.selectors) infoType) e ∙ selector-listed t
 
--- a rule's code is below 16, and a selector's is not
-pub rule-range : (x : Rule) → judgeCode (keep x) < 16
+-- a rule's code is below the selectors', and a selector's is not
+pub rule-range : (x : Rule) → judgeCode (keep x) < codes.selectors
 unfolding judgeCode
 rule-range always = lit≤ tt
 rule-range integer = lit≤ tt
@@ -65,7 +66,7 @@ rule-range generalizedTime = lit≤ tt
 rule-range some = lit≤ tt
 rule-range never = lit≤ tt
 
-pub selector-range : (s : Selector) → (16 ≤ judgeCode (choose s)) × (judgeCode (choose s) ≤ 19)
+pub selector-range : (s : Selector) → (codes.selectors ≤ judgeCode (choose s)) × (judgeCode (choose s) ≤ judgeCode (choose infoType))
 unfolding judgeCode
 selector-range action = (lit≤ tt, lit≤ tt)
 selector-range method = (lit≤ tt, lit≤ tt)
@@ -73,7 +74,7 @@ selector-range controlType = (lit≤ tt, lit≤ tt)
 selector-range infoType = (lit≤ tt, lit≤ tt)
 
 -- the detail of every rule but the two with details of their own
-pub other-detail : (x : Rule) → (judgeCode (keep x) ≡ 9 → ⊥) → (judgeCode (keep x) ≡ 10 → ⊥) → 3 ≡ ruleDetail x
+pub other-detail : (x : Rule) → (judgeCode (keep x) ≡ judgeCode (keep some) → ⊥) → (judgeCode (keep x) ≡ judgeCode (keep never) → ⊥) → 3 ≡ ruleDetail x
 unfolding judgeCode
 other-detail always a b = refl
 other-detail integer a b = refl
