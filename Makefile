@@ -1,28 +1,31 @@
-# The tool and what is installed. The archive is built from the proved crates where it isn't there yet.
-VERSION = 0.1
+# The tool, the benchmarks and what is installed. The archive is built from the proved crates where there is none yet.
 PREFIX ?= /usr/local
 CC = gcc
 CFLAGS ?= -O2
 BUILD ?= target/tool
 
+HEADER = include/phagundro.h
+VERSION := $(shell sed -n 's/.*define PHAGUNDRO_VERSION "\(.*\)"/\1/p' $(HEADER))
 ARCHIVE = target/staticlib/libcapi.a
 SOURCES = $(wildcard tools/*.c)
-HEADERS = $(wildcard tools/*.h) include/phagundro.h
+HEADERS = $(wildcard tools/*.h) $(HEADER)
+COMPILE = $(CC) -std=c11 -Wall -Wextra -Werror $(CFLAGS)
 SAMPLE = tests/corpus/crmf/openssl-sig-p256.der
 MEASURED = openssl-sig-rsa2048 openssl-batch-10-ec-sig bc-batch-100-rsa-sig-near-64k openssl-batch-259-ec-sig-near-64k \
 	pyasn1-batch-913-nokey-near-64k openssl-regToken-60000
 CRYPTO = $(shell pkg-config --libs libcrypto 2>/dev/null)
+INSTALLED = $(DESTDIR)$(PREFIX)
 
-.PHONY: all install demo bench test clean
+.PHONY: all install demo bench test clean help
 
-all: $(BUILD)/phagundro
+all: $(BUILD)/phagundro ## the archive, where there is none yet, and the tool
 
 $(ARCHIVE):
 	rt staticlib capi
 
 $(BUILD)/phagundro: $(SOURCES) $(HEADERS) $(ARCHIVE) Makefile
 	mkdir -p $(BUILD)
-	$(CC) -std=c11 -Wall -Wextra -Werror $(CFLAGS) -DVERSION='"$(VERSION)"' -o $@ $(SOURCES) $(ARCHIVE) $(LDFLAGS)
+	$(COMPILE) -o $@ $(SOURCES) $(ARCHIVE) $(LDFLAGS)
 
 define PKG_CONFIG
 prefix=$(abspath $(PREFIX))
@@ -37,29 +40,32 @@ Libs: -L$${libdir} -lphagundro
 endef
 export PKG_CONFIG
 
-install: all
-	install -d $(DESTDIR)$(PREFIX)/bin $(DESTDIR)$(PREFIX)/include $(DESTDIR)$(PREFIX)/lib/pkgconfig $(DESTDIR)$(PREFIX)/share/man/man1
-	install -m 755 $(BUILD)/phagundro $(DESTDIR)$(PREFIX)/bin/phagundro
-	install -m 644 include/phagundro.h $(DESTDIR)$(PREFIX)/include/phagundro.h
-	install -m 644 $(ARCHIVE) $(DESTDIR)$(PREFIX)/lib/libphagundro.a
-	install -m 644 tools/phagundro.1 $(DESTDIR)$(PREFIX)/share/man/man1/phagundro.1
-	echo "$$PKG_CONFIG" > $(DESTDIR)$(PREFIX)/lib/pkgconfig/phagundro.pc
-	chmod 644 $(DESTDIR)$(PREFIX)/lib/pkgconfig/phagundro.pc
+install: all ## header, archive, pkg-config file, tool and man page under PREFIX
+	install -d $(INSTALLED)/bin $(INSTALLED)/include $(INSTALLED)/lib/pkgconfig $(INSTALLED)/share/man/man1
+	install -m 755 $(BUILD)/phagundro $(INSTALLED)/bin/phagundro
+	install -m 644 $(HEADER) $(INSTALLED)/include/phagundro.h
+	install -m 644 $(ARCHIVE) $(INSTALLED)/lib/libphagundro.a
+	install -m 644 tools/phagundro.1 $(INSTALLED)/share/man/man1/phagundro.1
+	echo "$$PKG_CONFIG" > $(INSTALLED)/lib/pkgconfig/phagundro.pc
+	chmod 644 $(INSTALLED)/lib/pkgconfig/phagundro.pc
 
-demo: all
+demo: all ## a sample batch, read and judged
 	$(BUILD)/phagundro editions $(SAMPLE)
 	$(BUILD)/phagundro read --edition 2 $(SAMPLE)
 	$(BUILD)/phagundro verdict --edition 2 --position 0 $(SAMPLE)
 
-$(BUILD)/bench: $(wildcard bench/*) include/phagundro.h $(ARCHIVE) Makefile
+$(BUILD)/bench: $(wildcard bench/*) $(HEADER) $(ARCHIVE) Makefile
 	mkdir -p $(BUILD)
-	$(CC) -std=c11 -D_POSIX_C_SOURCE=199309L -Wall -Wextra -Werror $(CFLAGS) $(if $(CRYPTO),-DWITH_OPENSSL) -Iinclude -o $@ bench/*.c $(ARCHIVE) $(LDFLAGS) $(CRYPTO)
+	$(COMPILE) -D_POSIX_C_SOURCE=199309L $(if $(CRYPTO),-DWITH_OPENSSL) -Iinclude -o $@ bench/*.c $(ARCHIVE) $(LDFLAGS) $(CRYPTO)
 
-bench: $(BUILD)/bench
+bench: $(BUILD)/bench ## the benchmarks, on this machine
 	$(BUILD)/bench $(MEASURED:%=tests/corpus/crmf/%.der)
 
-test:
+test: ## every proof and every test, as .ci/run
 	.ci/run
 
-clean:
+clean: ## takes the built tool and benchmarks away
 	rm -rf $(BUILD)
+
+help: ## this list
+	@awk -F ':.*## ' '/^[a-z]+:.*## / { printf "make %-8s %s\n", $$1, $$2 }' $(firstword $(MAKEFILE_LIST))

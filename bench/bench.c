@@ -8,10 +8,16 @@
 #include <string.h>
 #include <time.h>
 
-enum { LONGEST = 65535, NUMBERS = 2 * LONGEST, ROUNDS = 150, EDITION = PHAGUNDRO_RFC4211 };
+enum {
+    NUMBERS = PHAGUNDRO_ROW_NUMBERS * PHAGUNDRO_MOST_ROWS,
+    ROUNDS = 150,
+    MOST_INPUTS = 32,
+    EDITION = PHAGUNDRO_RFC4211
+};
+static const double LEAST_TIME = 200e-6; // seconds that the calls of one measurement take at least
 
 // An input, its rows, and room for what is written.
-static uint8_t batch[LONGEST + 1], copy[LONGEST];
+static uint8_t batch[PHAGUNDRO_LONGEST + 1], copy[PHAGUNDRO_LONGEST];
 static size_t length, table[NUMBERS], draft[NUMBERS], numbers;
 
 static bool do_copy(void)
@@ -44,7 +50,7 @@ static bool do_cleared_read(void)
 
 static bool do_write(void)
 {
-    return phagundro_write(EDITION, draft, numbers, batch, length, copy, LONGEST).count == length;
+    return phagundro_write(EDITION, draft, numbers, batch, length, copy, sizeof copy).count == length;
 }
 
 static bool do_openssl(void)
@@ -101,7 +107,7 @@ static void load(const char *name)
     phagundro_answer answer = phagundro_read(EDITION, batch, length, draft, NUMBERS);
     if (answer.number != PHAGUNDRO_ACCEPTED)
         fail("is not accepted", name);
-    numbers = 4 * answer.count;
+    numbers = PHAGUNDRO_ROW_NUMBERS * answer.count;
 }
 
 // Measures one input: the best time of each subject, in seconds a call.
@@ -113,7 +119,7 @@ static void measure(const char *name, double best[SUBJECTS])
         if (s == OPENSSL && !openssl_there)
             continue;
         double once = time_of(&subjects[s], 3, name);
-        calls[s] = once > 0 ? (long)(200e-6 / once) + 1 : 1000;
+        calls[s] = once > 0 ? (long)(LEAST_TIME / once) + 1 : 1000;
     }
     for (int round = 0; round < ROUNDS; round++)
         for (int s = 0; s < SUBJECTS; s++) {
@@ -125,9 +131,19 @@ static void measure(const char *name, double best[SUBJECTS])
         }
 }
 
-static void head(const char *unit)
+typedef struct {
+    const char *name;
+    size_t length, rows;
+    double best[SUBJECTS];
+} figures;
+
+static void show_head(bool ratio)
 {
-    printf("\n%s\n\n| input | bytes | rows |", unit);
+    if (ratio)
+        printf("\nTimes the floor:\n");
+    else
+        printf("\nNanoseconds a byte, best of %d rounds:\n", ROUNDS);
+    printf("\n| input | bytes | rows |");
     for (int s = 0; s < SUBJECTS; s++)
         printf(" %s |", subjects[s].name);
     printf("\n|---|---|---|");
@@ -136,34 +152,43 @@ static void head(const char *unit)
     printf("\n");
 }
 
+static void show_figures(const figures *input, bool ratio)
+{
+    printf("| %s | %zu | %zu |", input->name, input->length, input->rows);
+    for (int s = 0; s < SUBJECTS; s++)
+        if (input->best[s] == 0)
+            printf(" - |");
+        else if (ratio)
+            printf(" %.2f |", input->best[s] / input->best[FLOOR]);
+        else
+            printf(" %.3f |", input->best[s] * 1e9 / (double)input->length);
+    printf("\n");
+}
+
+static void measure_file(const char *path, figures *input)
+{
+    const char *folder = strrchr(path, '/');
+    load(path);
+    measure(path, input->best);
+    input->name = folder ? folder + 1 : path;
+    input->length = length;
+    input->rows = numbers / PHAGUNDRO_ROW_NUMBERS;
+}
+
 int main(int argc, char **argv)
 {
-    static double best[32][SUBJECTS];
-    static size_t lengths[32], rows[32];
-    if (argc < 2 || argc > 33) {
+    static figures inputs[MOST_INPUTS];
+    int count = argc - 1;
+    if (count < 1 || count > MOST_INPUTS) {
         fprintf(stderr, "usage: bench BATCH...\n");
         return 2;
     }
-    for (int i = 1; i < argc; i++) {
-        load(argv[i]);
-        measure(argv[i], best[i - 1]);
-        lengths[i - 1] = length;
-        rows[i - 1] = numbers / 4;
-    }
+    for (int i = 0; i < count; i++)
+        measure_file(argv[i + 1], &inputs[i]);
     for (int ratio = 0; ratio < 2; ratio++) {
-        head(ratio ? "Times the floor:" : "Nanoseconds a byte, best of 150 rounds:");
-        for (int i = 0; i < argc - 1; i++) {
-            const char *name = strrchr(argv[i + 1], '/');
-            printf("| %s | %zu | %zu |", name ? name + 1 : argv[i + 1], lengths[i], rows[i]);
-            for (int s = 0; s < SUBJECTS; s++)
-                if (best[i][s] == 0)
-                    printf(" - |");
-                else if (ratio)
-                    printf(" %.2f |", best[i][s] / best[i][FLOOR]);
-                else
-                    printf(" %.3f |", best[i][s] * 1e9 / (double)lengths[i]);
-            printf("\n");
-        }
+        show_head(ratio);
+        for (int i = 0; i < count; i++)
+            show_figures(&inputs[i], ratio);
     }
     return 0;
 }

@@ -1,21 +1,23 @@
-/* Phagundro: batches of certificate requests, CertReqMessages in DER, read, written and judged in one of two editions.
+/* Phagundro reads, writes and judges batches of certificate requests: CertReqMessages in DER, in one of two editions.
  *
- * This file is the manual of the C calls. The library keeps no state, takes no memory and opens nothing: a call looks at the bytes and
- * numbers that it is lent and ends with its answer. Any bytes and numbers may come in.
+ * This file is the manual of the C calls. The library keeps no state, allocates no memory and opens no file: a call looks at the bytes and
+ * numbers that it is lent and returns its answer. Any bytes and any numbers may be given.
  *
- *     size_t table[4 * 100];
- *     phagundro_answer answer = phagundro_read(2, bytes, length, table, 4 * 100);
+ *     size_t table[PHAGUNDRO_ROW_NUMBERS * 100];
+ *     phagundro_answer answer = phagundro_read(PHAGUNDRO_RFC4211, bytes, length, table, PHAGUNDRO_ROW_NUMBERS * 100);
  *     if (answer.number == PHAGUNDRO_ACCEPTED)
- *         for (size_t row = 0; row < answer.count; row++)
- *             show(table[4 * row], bytes + table[4 * row + 1], table[4 * row + 2]);
+ *         for (size_t i = 0; i < answer.count; i++) {
+ *             const size_t *row = table + PHAGUNDRO_ROW_NUMBERS * i;
+ *             show(row[PHAGUNDRO_ROW_KIND], bytes + row[PHAGUNDRO_ROW_FIRST], row[PHAGUNDRO_ROW_LENGTH]);
+ *         }
  *
  * What a caller owes, in every call:
- *   - a pointer points at as many bytes or numbers as the length, count or room beside it says, which can be read, and those of a table
- *     or an output written too;
- *   - NULL is a pointer only where the number beside it is 0;
+ *   - a pointer points at as many bytes or numbers as the length, count or room beside it says; all of them can be read, and those of a
+ *     table or an output can be written too;
+ *   - NULL is passed only where the number beside it is 0;
  *   - the table or output that is written overlaps nothing that is read, and nothing else writes to any of them during the call;
- *   - there are 1,200,000 bytes of stack for phagundro_write, 80,000 for phagundro_duplicates, and 16,000 for each other call.
- * Calls may run at once in several threads on tables and outputs that do not overlap.
+ *   - the stack has as many free bytes as PHAGUNDRO_STACK and the names after it say.
+ * Several threads may call at once, on tables and outputs that do not overlap.
  *
  * Link with libphagundro.a, as it is named once installed, built for x86-64, which calls nothing outside itself but memcpy and memset.
  * C11 and C++17.
@@ -30,121 +32,191 @@
 extern "C" {
 #endif
 
-/* An edition: which grammar a batch is read or written in. Every other number is refused with PHAGUNDRO_EDITION. */
+#define PHAGUNDRO_VERSION "0.1"
+
+/* Limits. */
+enum {
+    PHAGUNDRO_LONGEST          = 65535,                 /* bytes of a batch, at most */
+    PHAGUNDRO_DEEPEST          = 20,                    /* the depth of an element, at most; the batch is at depth 1 */
+    PHAGUNDRO_MOST_ROWS        = PHAGUNDRO_LONGEST / 2, /* rows of a batch: no batch has more */
+    PHAGUNDRO_STACK            = 16000,                 /* bytes of stack for each call but the next two */
+    PHAGUNDRO_STACK_DUPLICATES = 80000,                 /* for phagundro_duplicates */
+    PHAGUNDRO_STACK_WRITE      = 1200000                /* for phagundro_write */
+};
+
+/* An edition: the grammar that a batch is read or written in. Any other number is refused with PHAGUNDRO_UNKNOWN_EDITION. */
 enum {
     PHAGUNDRO_RFC2511 = 1, /* edition 1, of 1999 */
     PHAGUNDRO_RFC4211 = 2  /* edition 2, of 2005 */
 };
 
-/* What comes back: the number, and the place that stands beside it, as an offset in the batch from 0. Where several of them are true of a
- * batch, the answer is the first of: 13, 1, then 2 to 6 over all elements of the batch, 7, 8 or 9, 10, 11. Of several faults 2 to 6 it is
- * the one with the least place; at one element the order is 6, 2 for an identifier that is missing, 3, 2 for length octets that are
- * missing, 4, 2 for content past the end, 5. Writing answers the first of 13, 12, 11; the verdict those of reading without 11, then 14; the
- * search for duplicates those of reading without 11. */
+/* The number of an answer, with its meaning and the place that stands beside it: an offset in the batch, counted from 0.
+ *
+ * Where several refusals apply, the answer is the first of these, here without their prefix:
+ *     reading     UNKNOWN_EDITION; TOO_LONG; TRUNCATED to TOO_DEEP, over all elements; TRAILING_BYTES; NOT_IN_GRAMMAR or OTHER_EDITION;
+ *                 LONG_CERT_REQ_ID; NO_ROOM
+ *     writing     UNKNOWN_EDITION; NO_SUCH_BATCH; NO_ROOM
+ *     verdict     those of reading without NO_ROOM; NO_SUCH_MESSAGE
+ *     duplicates  those of reading without NO_ROOM
+ * Of several faults from TRUNCATED to TOO_DEEP the answer is the one with the least place. Within one element their order is TOO_DEEP;
+ * TRUNCATED, if the identifier is missing; BAD_IDENTIFIER; TRUNCATED, if length octets are missing; BAD_LENGTH; TRUNCATED, if the content
+ * goes past the end; BAD_CONTENT. */
 enum {
-    PHAGUNDRO_ACCEPTED   = 0,  /* accepted; place 0 */
-    PHAGUNDRO_LONG       = 1,  /* the input is longer than 65,535 bytes; place 0 */
-    PHAGUNDRO_CUT        = 2,  /* an element is cut short or goes past its parent's end; its first byte */
-    PHAGUNDRO_IDENTIFIER = 3,  /* an identifier is not allowed; its element's first byte */
-    PHAGUNDRO_LENGTH     = 4,  /* a length is indefinite or not the shortest; its element's first byte */
-    PHAGUNDRO_CONTENT    = 5,  /* an element's content breaks DER; its first byte */
-    PHAGUNDRO_DEEP       = 6,  /* an element is deeper than 20, the batch being at depth 1; its first byte */
-    PHAGUNDRO_AFTER      = 7,  /* there are bytes after the batch; the first of them */
-    PHAGUNDRO_GRAMMAR    = 8,  /* not in the grammar of either edition; the element at which reading in this edition stops */
-    PHAGUNDRO_OPPOSITE   = 9,  /* not in this edition's grammar, but in the other's; the first element in a form of the other alone */
-    PHAGUNDRO_ID         = 10, /* a certReqId of more than 8 content octets; the first such */
-    PHAGUNDRO_ROOM       = 11, /* the table is too short for the rows, or the output for the batch; place 0 */
-    PHAGUNDRO_DRAFT      = 12, /* a draft describes no batch that is accepted in this edition; place 0 */
-    PHAGUNDRO_EDITION    = 13, /* the edition is neither 1 nor 2; place 0 */
-    PHAGUNDRO_POSITION   = 14  /* the batch has no message at that position; place 0 */
+    PHAGUNDRO_ACCEPTED         = 0,  /* accepted; place 0 */
+    PHAGUNDRO_TOO_LONG         = 1,  /* the input is longer than 65,535 bytes; place 0 */
+    PHAGUNDRO_TRUNCATED        = 2,  /* an element is cut short or goes past its parent's end; its first byte */
+    PHAGUNDRO_BAD_IDENTIFIER   = 3,  /* an identifier is not allowed; its element's first byte */
+    PHAGUNDRO_BAD_LENGTH       = 4,  /* a length is indefinite or not the shortest; its element's first byte */
+    PHAGUNDRO_BAD_CONTENT      = 5,  /* an element's content breaks DER; its first byte */
+    PHAGUNDRO_TOO_DEEP         = 6,  /* an element is deeper than 20, the batch being at depth 1; its first byte */
+    PHAGUNDRO_TRAILING_BYTES   = 7,  /* there are bytes after the batch; the first of them */
+    PHAGUNDRO_NOT_IN_GRAMMAR   = 8,  /* not in the grammar of either edition; the element at which reading in this edition stops */
+    PHAGUNDRO_OTHER_EDITION    = 9,  /* not in this edition's grammar, but in the other's; the first element in a form of the other alone */
+    PHAGUNDRO_LONG_CERT_REQ_ID = 10, /* a certReqId of more than 8 content octets; the first such */
+    PHAGUNDRO_NO_ROOM          = 11, /* the table is too short for the rows, or the output for the batch; place 0 */
+    PHAGUNDRO_NO_SUCH_BATCH    = 12, /* a draft describes no batch that is accepted in this edition; place 0 */
+    PHAGUNDRO_UNKNOWN_EDITION  = 13, /* the edition is neither 1 nor 2; place 0 */
+    PHAGUNDRO_NO_SUCH_MESSAGE  = 14  /* the batch has no message at that position; place 0 */
 };
 
 /* The answer of a reading or a writing. */
 typedef struct {
     size_t number; /* PHAGUNDRO_ACCEPTED, or the refusal */
     size_t place;  /* as said beside the number */
-    size_t count;  /* how many rows there are, or bytes of the batch that is written; 0 with a refusal */
+    size_t count;  /* the rows of the batch that was read, or the bytes of the one that was written; 0 with a refusal */
 } phagundro_answer;
 
-/* Answers whether a batch is accepted in an edition: PHAGUNDRO_ACCEPTED, or the refusal's number. It is the number of phagundro_read
- * given room, so never PHAGUNDRO_ROOM. */
+/* Accepts or refuses a batch in an edition. Answers PHAGUNDRO_ACCEPTED or the refusal's number: the number of phagundro_read, given room.
+ * So it is never PHAGUNDRO_NO_ROOM. */
 size_t phagundro_accept(size_t edition, const uint8_t *bytes, size_t length);
 
-/* Reads a batch in an edition and shows its fields as rows.
+/* A row: the numbers that a table has of each field. */
+enum {
+    PHAGUNDRO_ROW_KIND    = 0, /* what the field is, one of PHAGUNDRO_KIND_ .. */
+    PHAGUNDRO_ROW_FIRST   = 1, /* the first byte of its element, as an offset in the batch */
+    PHAGUNDRO_ROW_LENGTH  = 2, /* the length of its whole element in bytes, identifier and length octets included */
+    PHAGUNDRO_ROW_PARENT  = 3, /* the row of the field that it belongs to, counted from 0 */
+    PHAGUNDRO_ROW_NUMBERS = 4  /* the numbers of a row */
+};
+
+/* The kind of a row: the name of its field. */
+enum {
+    /* Containers, whose parts are rows below them */
+    PHAGUNDRO_KIND_BATCH             = 1,  /* batch */
+    PHAGUNDRO_KIND_MESSAGE           = 2,  /* message */
+    PHAGUNDRO_KIND_CERT_REQ          = 3,  /* certReq, of a message or carried in regInfo */
+    PHAGUNDRO_KIND_CERT_TEMPLATE     = 5,  /* template, which may have no rows below it */
+    PHAGUNDRO_KIND_VALIDITY          = 14, /* validity */
+    PHAGUNDRO_KIND_EXTENSIONS        = 19, /* extensions */
+    PHAGUNDRO_KIND_CONTROLS          = 30, /* controls */
+    PHAGUNDRO_KIND_SIGNATURE         = 51, /* signature */
+    PHAGUNDRO_KIND_KEY_ENCIPHERMENT  = 52, /* keyEncipherment */
+    PHAGUNDRO_KIND_KEY_AGREEMENT     = 53, /* keyAgreement */
+    PHAGUNDRO_KIND_REG_INFO          = 70, /* regInfo */
+    PHAGUNDRO_KIND_REG_INFO_CERT_REQ = 74, /* item that carries a certReq, its one row below; in regInfo */
+
+    /* Leaves: of a certReq */
+    PHAGUNDRO_KIND_CERT_REQ_ID = 4, /* certReqId, a signed whole number */
+
+    /* of a template */
+    PHAGUNDRO_KIND_VERSION       = 10, /* version */
+    PHAGUNDRO_KIND_SERIAL_NUMBER = 11, /* serialNumber */
+    PHAGUNDRO_KIND_SIGNING_ALG   = 12, /* signingAlg */
+    PHAGUNDRO_KIND_ISSUER        = 13, /* issuer */
+    PHAGUNDRO_KIND_SUBJECT       = 15, /* subject */
+    PHAGUNDRO_KIND_PUBLIC_KEY    = 16, /* publicKey */
+    PHAGUNDRO_KIND_ISSUER_UID    = 17, /* issuerUID */
+    PHAGUNDRO_KIND_SUBJECT_UID   = 18, /* subjectUID */
+    PHAGUNDRO_KIND_NOT_BEFORE    = 20, /* notBefore, in validity */
+    PHAGUNDRO_KIND_NOT_AFTER     = 21, /* notAfter, in validity */
+    PHAGUNDRO_KIND_EXTENSION     = 22, /* extension, one of extensions */
+
+    /* of controls */
+    PHAGUNDRO_KIND_UNKNOWN_CONTROL      = 31, /* control of an unknown type */
+    PHAGUNDRO_KIND_REG_TOKEN            = 41, /* regToken */
+    PHAGUNDRO_KIND_AUTHENTICATOR        = 42, /* authenticator */
+    PHAGUNDRO_KIND_PKI_PUBLICATION_INFO = 43, /* pkiPublicationInfo */
+    PHAGUNDRO_KIND_PKI_ARCHIVE_OPTIONS  = 44, /* pkiArchiveOptions */
+    PHAGUNDRO_KIND_OLD_CERT_ID          = 45, /* oldCertID */
+    PHAGUNDRO_KIND_PROTOCOL_ENCR_KEY    = 46, /* protocolEncrKey */
+
+    /* of a proof of possession */
+    PHAGUNDRO_KIND_RA_VERIFIED         = 50, /* raVerified */
+    PHAGUNDRO_KIND_POPOSK_INPUT        = 54, /* poposkInput, in a signature */
+    PHAGUNDRO_KIND_SIGNATURE_ALGORITHM = 55, /* algorithm, of a signature */
+    PHAGUNDRO_KIND_SIGNATURE_BITS      = 56, /* bits, of a signature */
+    PHAGUNDRO_KIND_THIS_MESSAGE        = 60, /* thisMessage, the first choice of keyEncipherment and keyAgreement */
+    PHAGUNDRO_KIND_SUBSEQUENT_MESSAGE  = 61, /* subsequentMessage */
+    PHAGUNDRO_KIND_DH_MAC              = 62, /* dhMAC, the choice 82 */
+    PHAGUNDRO_KIND_AGREE_MAC           = 63, /* agreeMAC, edition 2 only */
+    PHAGUNDRO_KIND_ENCRYPTED_KEY       = 64, /* encryptedKey, edition 2 only */
+
+    /* of regInfo */
+    PHAGUNDRO_KIND_UNKNOWN_REG_INFO = 71, /* item of an unknown type */
+    PHAGUNDRO_KIND_OCTET_PAIRS      = 72, /* pairs as octets, edition 1 only */
+    PHAGUNDRO_KIND_UTF8_PAIRS       = 73  /* pairs as UTF-8, edition 2 only */
+};
+
+/* Reads a batch in an edition and shows its fields as rows. The rows are in the order of their first bytes. Row 0 is the batch, which is
+ * its own parent. `room` counts numbers; the room is enough exactly when it is at least PHAGUNDRO_ROW_NUMBERS times count.
  *
- * `room` is counted in numbers. A row is four of them:
- *     kind          what the field is, see below
- *     first byte    its offset in the batch
- *     whole length  of its element in bytes, identifier and length octets included
- *     parent's row  the number of the row that it belongs to, counted from 0
- * Rows stand in the order of their first bytes. Row 0 is the batch, which is its own parent.
- *
- * Accepted: the first 4 times count numbers of the table are the rows, and the numbers behind them are as they were. The room is enough
- * exactly when it is at least 4 times count. Refused: count is 0, and the whole table is as it was.
- *
- * Kinds of containers, whose parts are rows below them (a template may have none):
- *     1 batch  2 message  3 certReq  5 template  14 validity  19 extensions  30 controls  51 signature  52 keyEncipherment
- *     53 keyAgreement  70 regInfo  74 regInfo's item that carries a certReq, its one child
- * Kinds of leaves:
- *     4 certReqId
- *     10 version  11 serialNumber  12 signingAlg  13 issuer  15 subject  16 publicKey  17 issuerUID  18 subjectUID
- *     20 notBefore  21 notAfter  22 one extension
- *     31 control of an unknown type
- *     41 regToken  42 authenticator  43 pkiPublicationInfo  44 pkiArchiveOptions  45 oldCertID  46 protocolEncrKey
- *     50 raVerified  54 poposkInput  55 the signature's algorithm  56 the signature's bits
- *     60 thisMessage  61 subsequentMessage  62 dhMAC  63 agreeMAC  64 encryptedKey
- *     71 regInfo's item of an unknown type  72 pairs as octets (edition 1)  73 pairs as UTF-8 (edition 2) */
+ * Accepted: the first PHAGUNDRO_ROW_NUMBERS times count numbers of the table are the rows, and the numbers after them are as they were.
+ * Refused: count is 0, and the whole table is as it was. */
 phagundro_answer phagundro_read(size_t edition, const uint8_t *bytes, size_t length, size_t *table, size_t room);
 
 /* Writes the batch that a draft describes in an edition.
  *
- * A draft is rows, as phagundro_read shows them, over a slice of bytes; `numbers` counts the numbers, four to a row. A leaf's first byte and
- * whole length point at its element in the slice. Leaves may stand there in any order and overlap, and the slice may have other bytes
- * too. A container's first byte and whole length are ignored: its element is made around the elements of the rows below it.
+ * A draft is rows, as phagundro_read shows them, over a slice of bytes; `numbers` is PHAGUNDRO_ROW_NUMBERS times the count of rows. The
+ * first byte and length of a leaf point at its element in the slice. Leaves may be there in any order and overlap, and the slice may have
+ * other bytes too. The first byte and length of a container are ignored: its element is made around the elements of the rows below it.
  *
  * The draft describes the batch that is accepted in this edition, and whose own rows have the same kinds and parents in the same order and,
- * in each leaf, the same length and the bytes that the draft points at. At most one batch is such. PHAGUNDRO_DRAFT is the answer where
- * none is, where the numbers are none or no multiple of four, and where a leaf leaves the slice.
+ * in each leaf, the same length and the bytes that the draft points at. At most one batch is such. The answer is PHAGUNDRO_NO_SUCH_BATCH
+ * where there is none, where `numbers` is 0 or no multiple of PHAGUNDRO_ROW_NUMBERS, and where a leaf leaves the slice.
  *
- * Accepted: the first `count` bytes of the output are the batch, and the bytes behind them are as they were. The room, counted in bytes, is
- * enough exactly when it is at least the batch's length, which is never more than 65,535. Refused: count is 0, and the whole output is as
- * it was.
+ * Accepted: the first `count` bytes of the output are the batch, and the bytes after them are as they were. `room` counts bytes; the room
+ * is enough exactly when it is at least the batch's length, which is never more than PHAGUNDRO_LONGEST. Refused: count is 0, and the
+ * whole output is as it was.
  *
  * The rows that phagundro_read shows of a batch, over the batch's own bytes, are a draft that gives these bytes again. */
 phagundro_answer phagundro_write(size_t edition, const size_t *draft, size_t numbers, const uint8_t *slice, size_t length, uint8_t *output,
     size_t room);
 
-/* The verdict on a message's proof of possession: what there is to be checked. Whether fields are there is all that it goes by. */
+/* The verdict on a message's proof of possession: what there is to check. It depends only on which fields are present. */
 enum {
-    PHAGUNDRO_NO_PROOF             = 0, /* no proof */
-    PHAGUNDRO_RA_VERIFIED          = 1, /* raVerified */
-    PHAGUNDRO_SIGNED_REQUEST       = 2, /* signature over the certReq: no poposkInput, and subject and publicKey both in the template */
-    PHAGUNDRO_SIGNED_INPUT         = 3, /* signature over poposkInput: it is there, and subject or publicKey is missing */
-    PHAGUNDRO_SIGNATURE_NEITHER    = 4, /* any other signature */
-    PHAGUNDRO_KEY_ENCIPHERMENT     = 5, /* keyEncipherment with another choice than 82 */
-    PHAGUNDRO_KEY_AGREEMENT        = 6, /* keyAgreement with another choice than 82, or with it and both subject and publicKey */
-    PHAGUNDRO_MAC_MISPLACED        = 7  /* choice 82 under keyEncipherment, or without both subject and publicKey */
+    PHAGUNDRO_VERDICT_NO_PROOF            = 0, /* no proof */
+    PHAGUNDRO_VERDICT_RA_VERIFIED         = 1, /* raVerified */
+    PHAGUNDRO_VERDICT_SIGNED_CERT_REQ     = 2, /* signature over the certReq: no poposkInput; subject and publicKey both in the template */
+    PHAGUNDRO_VERDICT_SIGNED_POPOSK_INPUT = 3, /* signature over poposkInput, which is present; subject or publicKey is missing */
+    PHAGUNDRO_VERDICT_OTHER_SIGNATURE     = 4, /* any other signature */
+    PHAGUNDRO_VERDICT_KEY_ENCIPHERMENT    = 5, /* keyEncipherment with another choice than 82 */
+    PHAGUNDRO_VERDICT_KEY_AGREEMENT       = 6, /* keyAgreement with another choice than 82, or with it and both subject and publicKey */
+    PHAGUNDRO_VERDICT_MISPLACED_DH_MAC    = 7  /* choice 82 under keyEncipherment, or without both subject and publicKey */
 };
 
-/* The answer of a verdict. Beside a refusal the verdict, from and length are 0; and with any verdict but 2 and 3, from and length are. */
+/* The answer of a verdict. With a refusal the verdict, from and length are 0; with any verdict but PHAGUNDRO_VERDICT_SIGNED_CERT_REQ and
+ * PHAGUNDRO_VERDICT_SIGNED_POPOSK_INPUT, from and length are 0. */
 typedef struct {
     size_t number;  /* PHAGUNDRO_ACCEPTED, or the refusal */
     size_t place;   /* as said beside the number */
-    size_t verdict; /* 0 to 7 */
+    size_t verdict; /* one of PHAGUNDRO_VERDICT_ .. */
     size_t from;    /* the signed part is bytes[from .. from + length) */
     size_t length;
 } phagundro_verdict_answer;
 
 /* Judges the proof of the message at a position of the batch, counted from 0. A certReqId is never a position.
  *
- * The signed part stands in the batch as it was sent: with verdict 2 it is the certReq, with verdict 3 poposkInput from its A0. Whether
- * that A0 is read as 30 before the signature is checked is the server's to settle. */
+ * The signed part is in the batch as it was sent: the certReq with PHAGUNDRO_VERDICT_SIGNED_CERT_REQ, and poposkInput from its A0 with
+ * PHAGUNDRO_VERDICT_SIGNED_POPOSK_INPUT. Whether that A0 is read as 30 before the signature is checked is the server's to settle. */
 phagundro_verdict_answer phagundro_verdict(size_t edition, const uint8_t *bytes, size_t length, size_t position);
 
-/* The same in one number: the verdict, 0 to 7, or 256 and the refusal's number. */
+/* Added to the number of a refusal by phagundro_verdict_number; every verdict is less. */
+enum { PHAGUNDRO_VERDICT_REFUSED = 256 };
+
+/* Judges as phagundro_verdict does, in one number: the verdict, or PHAGUNDRO_VERDICT_REFUSED plus the refusal's number. */
 size_t phagundro_verdict_number(size_t edition, const uint8_t *bytes, size_t length, size_t position);
 
-/* The answer of a search for duplicates. Where no pair is found, and beside a refusal, earlier and later are 0. */
+/* The answer of a search for duplicates. Where no pair is found, and with a refusal, earlier and later are 0. */
 typedef struct {
     size_t number;  /* PHAGUNDRO_ACCEPTED, or the refusal */
     size_t place;   /* as said beside the number */

@@ -4,6 +4,7 @@ import pathlib
 import re
 
 import grammar_model
+from paper import EDITIONS, Answer, Row
 
 FOLDER = pathlib.Path(__file__).with_name("corpus") / "crmf"
 FILES = 64
@@ -31,23 +32,30 @@ def judged():
     return found
 
 
+def names():
+    return sorted({name for name, _ in expected()})
+
+
+def files():
+    return sorted(FOLDER.glob("*.der"))
+
+
 def octets(name):
     return (FOLDER / f"{name}.der").read_bytes()
 
 
 def rows(name):
-    return [tuple(map(int, line.split())) for line in (FOLDER / f"{name}.rows").read_text().splitlines()]
+    return [Row(*map(int, line.split())) for line in (FOLDER / f"{name}.rows").read_text().splitlines()]
 
 
 def missing():
     """What is not there that should be, or is there and shouldn't."""
-    names = {name for name, _ in expected()}
-    shown = {name for (name, _), (number, _, count) in expected().items() if number == 0 and count <= SHOWN}
-    should = {"expected.txt"} | {f"{name}.der" for name in names} | {f"{name}.rows" for name in shown}
+    shown = {name for (name, _), (number, _, count) in expected().items() if number == Answer.ACCEPTED and count <= SHOWN}
+    should = {"expected.txt"} | {f"{name}.der" for name in names()} | {f"{name}.rows" for name in shown}
     there = {path.name for path in FOLDER.iterdir()}
     found = [f"{name} is not there" for name in should - there] + [f"{name} is not expected" for name in there - should]
-    found += [f"{name}: not in both editions" for name in names if not {(name, 1), (name, 2)} <= expected().keys()]
-    return sorted(found) + ([] if len(names) == FILES else [f"{len(names)} files instead of {FILES}"])
+    found += [f"{name}: not in both editions" for name in names() if not {(name, edition) for edition in EDITIONS} <= expected().keys()]
+    return sorted(found) + ([] if len(names()) == FILES else [f"{len(names())} files instead of {FILES}"])
 
 
 def disagreements():
@@ -59,6 +67,9 @@ def disagreements():
         number, place, read = grammar_model.read(edition, octets(name))
         if (number, place, len(read)) != answer:
             found.append(f"{name}, edition {edition}: {answer} expected, the model has {(number, place, len(read))}")
-        elif number == 0 and len(read) <= SHOWN and read != rows(name):
+        elif number == Answer.ACCEPTED and len(read) <= SHOWN and read != rows(name):
             found.append(f"{name}, edition {edition}: other rows")
     return found
+
+
+TESTS = [("corpus: the model of the grammar gives the expected answers and rows", disagreements)]

@@ -7,20 +7,25 @@ import re
 import cases
 import grammar_model
 import nest_model
+from paper import EDITIONS, Answer
 
 TABLE = pathlib.Path(__file__).with_name("crmf_cases.txt")
 TOKEN = re.compile(r'"[^"]*"|\*[0-9]+|[A-Za-z0-9]+\{?|[_}]|\S')
+INDENT = "    "
 NAME = re.compile(r"([a-z0-9]+(?:\{_\})?) = (.*)")
 ANSWER = re.compile(r"(.*\S) -> ((?:0 \d+|8@\d+ [1-4])(?: (?:-|D[123]@\d+)){2})")
 
 
-def parsed(table, form, made):
-    """The names of a table with what they stand for, and its cases, each made of what the form of a case matches."""
+def parsed(table, form, made, below=None):
+    """The names of a table with what they stand for, and its cases, each made of what the form of a case matches. `below` takes a case and
+    a line that is indented below it."""
     names, found = {}, []
     for number, line in enumerate(table.read_text().splitlines(), 1):
-        line = line.partition("#")[0].strip()
-        case, name = form.fullmatch(line), NAME.fullmatch(line)
-        if case:
+        line = line.partition("#")[0].rstrip()
+        case, name = form.fullmatch(line.strip()), NAME.fullmatch(line.strip())
+        if below and line.startswith(INDENT):
+            below(found[-1], line.strip())
+        elif case:
             found.append(made(case))
         elif name:
             names[name[1]] = name[2]
@@ -88,9 +93,9 @@ def first(differences, edition):
 
 def modelled(octets):
     """The answer of the model."""
-    stop, met = grammar_model.walk(octets, {1, 2})
-    said = "8@{} {}".format(*stop) if stop else f"0 {len(met.rows)}"
-    return f"{said} {first(met.differences, 1)} {first(met.differences, 2)}"
+    stop, met = grammar_model.walk(octets, set(EDITIONS))
+    said = "{}@{} {}".format(Answer.NOT_IN_GRAMMAR, *stop) if stop else f"{Answer.ACCEPTED} {len(met.rows)}"
+    return " ".join([said, *(first(met.differences, edition) for edition in EDITIONS)])
 
 
 def disagreements():
@@ -103,3 +108,6 @@ def disagreements():
         elif modelled(octets) != answer:
             found.append(f"{batch[:100]}: the table has {answer}, the model {modelled(octets)}")
     return found
+
+
+TESTS = [("crmf_cases: the table of cases and the model of the grammar agree", disagreements)]

@@ -8,28 +8,28 @@ import cases
 import crmf_cases
 import grammar_model
 import nest_model
+from paper import EDITIONS, ROW_NUMBERS, Kind, Row
 
 TABLE = pathlib.Path(__file__).with_name("crmf_rows.txt")
-ROW = re.compile(r"\d+ \d+ \d+ \d+")
+ROW = re.compile(r"\d+" + r" \d+" * (ROW_NUMBERS - 1))
 REPEATED = re.compile(r"(\d+) times, (\d+) bytes and (\d+) rows further each time: (.*)")
-SAID = ("-", "too short, the table unchanged")
-KINDS = {*range(1, 6), *range(10, 23), 30, 31, *range(41, 47), *range(50, 57), *range(60, 65), *range(70, 75)}
+NO_BATCH, TOO_SHORT = "-", "too short, the table unchanged"
 
 
 def repeated(times, size, count, rows):
-    """Rows one time after the other, each time so many bytes and so many rows further; row 0 stays the parent that it is."""
+    """Rows again and again, each time `size` bytes and `count` rows further; row 0 stays the parent that it is."""
     for turn in range(times):
-        for kind, first, whole, parent in rows:
-            yield f"{kind} {first + turn * size} {whole} {parent + turn * count if parent else 0}"
+        for row in rows:
+            yield str(row._replace(first=row.first + turn * size, parent=row.parent + turn * count if row.parent else 0))
 
 
 def answered(line):
     """The lines of the program's answer that a line of the table stands for."""
     many = REPEATED.fullmatch(line)
     if many:
-        rows = [tuple(map(int, row.split())) for row in many[4].split(";")]
+        rows = [Row(*map(int, row.split())) for row in many[4].split(";")]
         return list(repeated(*map(int, many.groups()[:3]), rows))
-    if ROW.fullmatch(line) or line in SAID:
+    if ROW.fullmatch(line) or line in (NO_BATCH, TOO_SHORT):
         return [line]
     raise ValueError(f"{TABLE.name}: neither a case nor an answer: {line}")
 
@@ -59,12 +59,12 @@ def files():
 
 def modelled(room, octets):
     """The lines of the model's answer."""
-    met = next((met for stop, met in (grammar_model.walk(octets, {edition}) for edition in (1, 2)) if not stop), None)
+    met = next((met for stop, met in (grammar_model.walk(octets, {edition}) for edition in EDITIONS) if not stop), None)
     if met is None:
-        return ["-"]
-    if room < 4 * len(met.rows):
-        return ["too short, the table unchanged"]
-    return ["{} {} {} {}".format(*row) for row in met.rows]
+        return [NO_BATCH]
+    if room < ROW_NUMBERS * len(met.rows):
+        return [TOO_SHORT]
+    return [str(row) for row in met.rows]
 
 
 def disagreements():
@@ -77,4 +77,7 @@ def disagreements():
             found.append(f"{batch[:100]}: the nest has a fault")
         elif modelled(room, octets) != lines:
             found.append(f"{room}: {batch[:100]}: the table has {lines[:9]}, the model {modelled(room, octets)[:9]}")
-    return found + [f"no case has a row of kind {kind}" for kind in sorted(KINDS - shown)]
+    return found + [f"no case has a row of kind {kind}" for kind in sorted(set(Kind) - shown)]
+
+
+TESTS = [("crmf_rows: the table of cases and the model of the grammar agree, and every row kind is shown", disagreements)]

@@ -5,6 +5,7 @@ import re
 
 import cases
 import nest_model
+from paper import Answer
 
 TABLE = pathlib.Path(__file__).with_name("der_cases.txt")
 
@@ -39,7 +40,7 @@ def files():
 
 
 def shown(answer):
-    return "{} {}".format(*answer) if answer[0] == 0 else "{}@{} {}".format(*answer)
+    return "{} {}".format(*answer) if answer[0] == Answer.ACCEPTED else "{}@{} {}".format(*answer)
 
 
 def disagreements():
@@ -50,3 +51,6 @@ def disagreements():
         if modelled != answer:
             found.append(f"{written[:80]}: the table has {answer}, the model {modelled}")
     return found
+
+
+TESTS = [("der_cases: the table of cases and the model of the nest agree", disagreements)]

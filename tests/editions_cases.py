@@ -9,6 +9,7 @@ import cases
 import corpus
 import crmf_cases
 import grammar_model
+from paper import EDITIONS, ROW_NUMBERS, Answer, Row, told
 
 TABLE = pathlib.Path(__file__).with_name("editions_cases.txt")
 NUMBERS = 120000  # numbers of the program's table
@@ -40,19 +41,8 @@ class Case:
 @functools.cache
 def table():
     """The names with what they stand for, those of crmf_cases among them, and the cases."""
-    names, found = dict(crmf_cases.table()[0]), []
-    for number, line in enumerate(TABLE.read_text().splitlines(), 1):
-        line = line.partition("#")[0].rstrip()
-        case, name = CASE.fullmatch(line), crmf_cases.NAME.fullmatch(line)
-        if re.fullmatch(r"    \d+ \d+ \d+ \d+", line):
-            found[-1].rows.append(tuple(map(int, line.split())))
-        elif case:
-            found.append(Case(case))
-        elif name:
-            names[name[1]] = name[2]
-        elif line:
-            raise ValueError(f"{TABLE.name}:{number}: neither a case nor a row nor a name: {line}")
-    return names, found
+    names, found = crmf_cases.parsed(TABLE, CASE, Case, lambda case, line: case.rows.append(Row(*map(int, line.split()))))
+    return {**crmf_cases.table()[0], **names}, found
 
 
 def shown(answer, rows):
@@ -62,16 +52,16 @@ def shown(answer, rows):
         return answer
     if len(rows) != int(accepted[1]):
         raise ValueError(f"{answer}, and {len(rows)} rows")
-    return "\n".join([answer] + ["{} {} {} {}".format(*row) for row in rows])
+    return "\n".join([answer] + [str(row) for row in rows])
 
 
 def message(name):
     """What the program has to print for a message of the corpus, in each edition."""
     said = []
-    for edition in (1, 2):
+    for edition in EDITIONS:
         number, place, count = corpus.expected()[name, edition]
-        few = number == 0 and count <= SHOWN
-        said.append(shown(f"{number}@{place}" if number else f"0 {count}", corpus.rows(name) if few else []))
+        few = number == Answer.ACCEPTED and count <= SHOWN
+        said.append(shown(told(number, place, count), corpus.rows(name) if few else []))
     return "\n".join(said)
 
 
@@ -81,7 +71,7 @@ def files():
     for case in table()[1]:
         octets, written = case.built()
         found.append((octets, f"{case.heading}:{written}", case.printed()))
-    for name in sorted({name for name, _ in corpus.expected()}):
+    for name in corpus.names():
         octets = corpus.octets(name)
         found.append((octets, ":" + octets.hex().upper(), message(name)))
     return cases.files(found, None)
@@ -90,10 +80,10 @@ def files():
 def modelled(edition, octets, numbers):
     """The answer of the model, and the rows."""
     number, place, rows = grammar_model.read(edition, octets)
-    if number:
-        return f"{number}@{place}", []
-    accepted = f"0 {len(rows)}"
-    return (f"11@0, accept {accepted}", []) if numbers < 4 * len(rows) else (accepted, rows)
+    said = told(number, place, len(rows))
+    if numbers < ROW_NUMBERS * len(rows):
+        return f"{told(Answer.NO_ROOM, 0, 0)}, accept {said}", []
+    return said, rows
 
 
 def disagreements():
@@ -110,3 +100,6 @@ def disagreements():
             elif shown(said, rows) != shown(answer, case.rows):
                 found.append(f"{case.heading}:{case.batch[:100]}, edition {edition}: the model has other rows")
     return found
+
+
+TESTS = [("editions_cases: the table of cases and the model of the grammar agree", disagreements)]

@@ -8,13 +8,21 @@ import datetime
 import re
 
 import nest_model
+from paper import EDITIONS, LONGEST_ID, Answer, Difference, GrammarDetail, Kind, Row, Type
 
 GENERAL_NAME = (0xA0, 0x81, 0x82, 0xA3, 0xA4, 0xA5, 0x86, 0x87, 0x88)
 ANY = range(256)
+PROOFS = {0xA1: Kind.SIGNATURE, 0xA2: Kind.KEY_ENCIPHERMENT, 0xA3: Kind.KEY_AGREEMENT}
 CONTROL, INFO = bytes.fromhex("2B06010505070501"), bytes.fromhex("2B06010505070502")
+TEMPLATE_FIELD, CONTROL_ITEM, CHOICE = 10, 40, 60  # what is added to a tag or to a type's last octet to give a kind
 
-# The details of request A9
-FITS_NO_PART, PART_MISSING, VALUE, LIST_OR_LOCATION = 1, 2, 3, 4
+# Identifiers that a control's value may have; 30 alone for the kinds that aren't here
+CONTROL_VALUES = {
+    Kind.UNKNOWN_CONTROL: ANY,
+    Kind.REG_TOKEN: [0x0C],
+    Kind.AUTHENTICATOR: [0x0C],
+    Kind.PKI_ARCHIVE_OPTIONS: [0xA0, 0x81, 0x82],
+}
 
 
 class Break(Exception):
@@ -52,20 +60,20 @@ class Parts:
 
     def must(self, *identifiers):
         if not self.left:
-            raise Break(self.container, PART_MISSING)
+            raise Break(self.container, GrammarDetail.PART_MISSING)
         if not self.next_is(identifiers):
-            raise Break(self.left[0], FITS_NO_PART)
+            raise Break(self.left[0], GrammarDetail.FITS_NO_PART)
         return self.left.pop(0)
 
     def end(self):
         if self.left:
-            raise Break(self.left[0], FITS_NO_PART)
+            raise Break(self.left[0], GrammarDetail.FITS_NO_PART)
 
 
 def hold(element, rule):
     """The element is the place where its value breaks its rule."""
     if not rule:
-        raise Break(element, VALUE)
+        raise Break(element, GrammarDetail.VALUE_BREAKS_RULE)
 
 
 def typed(element, identifier):
@@ -74,31 +82,31 @@ def typed(element, identifier):
 
 
 def integer_to(element, most):
-    typed(element, 0x02)
+    typed(element, Type.INTEGER)
     hold(element, 0 <= int.from_bytes(element.content, "big", signed=True) <= most)
 
 
 class Walk:
-    """Walks a batch. `rows` and `differences` have what was met: (kind, place, whole, parent) and (place, edition, difference)."""
+    """Walks a batch. `rows` and `differences` have what was met: the rows, and (place, edition, difference)."""
 
     def __init__(self, editions):
         self.editions, self.rows, self.differences, self.ids = editions, [], [], []
 
     def row(self, kind, element, parent):
-        self.rows.append((kind, element.place, element.whole, parent))
+        self.rows.append(Row(kind, element.place, element.whole, parent))
         return len(self.rows) - 1
 
     def alone(self, edition, difference, element):
         """The element stands in a form that one edition alone allows."""
         if edition not in self.editions:
-            raise Break(element, LIST_OR_LOCATION if difference == 3 else FITS_NO_PART)
+            raise Break(element, GrammarDetail.LIST_OR_LOCATION if difference == Difference.LOCATION else GrammarDetail.FITS_NO_PART)
         self.differences.append((element.place, edition, difference))
 
     # "Batch 30: message+. Message 30: certReq, proof?, regInfo?."
     def batch(self, element):
         if element.identifier != 0x30:
-            raise Break(element, FITS_NO_PART)
-        row = self.row(1, element, 0)
+            raise Break(element, GrammarDetail.FITS_NO_PART)
+        row = self.row(Kind.BATCH, element, 0)
         parts = Parts(element)
         self.message(parts.must(0x30), row)
         while parts.next_is([0x30]):
@@ -106,7 +114,7 @@ class Walk:
         parts.end()
 
     def message(self, element, parent):
-        row = self.row(2, element, parent)
+        row = self.row(Kind.MESSAGE, element, parent)
         parts = Parts(element)
         self.cert_req(parts.must(0x30), row)
         proof = parts.may(0x80, 0xA1, 0xA2, 0xA3)
@@ -114,50 +122,50 @@ class Walk:
             self.proof(proof, row)
         info = parts.may(0x30)
         if info:
-            self.items(info, row, 70, self.info)
+            self.items(info, row, Kind.REG_INFO, self.info)
         parts.end()
 
     # "certReq 30: certReqId 02, template 30, controls 30?."
     def cert_req(self, element, parent):
-        row = self.row(3, element, parent)
+        row = self.row(Kind.CERT_REQ, element, parent)
         parts = Parts(element)
         number = parts.must(0x02)
-        self.row(4, number, row)
+        self.row(Kind.CERT_REQ_ID, number, row)
         self.ids.append(number)
         self.template(parts.must(0x30), row)
         controls = parts.may(0x30)
         if controls:
-            self.items(controls, row, 30, self.control)
+            self.items(controls, row, Kind.CONTROLS, self.control)
         parts.end()
 
     # "Template, each optional, in order"
     def template(self, element, parent):
-        row = self.row(5, element, parent)
+        row = self.row(Kind.CERT_TEMPLATE, element, parent)
         parts = Parts(element)
         fields = [
-            (0x80, lambda field, own: typed(field, 0x02)),
-            (0x81, lambda field, own: typed(field, 0x02)),
+            (0x80, lambda field, own: typed(field, Type.INTEGER)),
+            (0x81, lambda field, own: typed(field, Type.INTEGER)),
             (0xA2, lambda field, own: self.alg_id(field)),
             (0xA3, lambda field, own: self.wrapped_name(field)),
             (0xA4, self.validity),
             (0xA5, lambda field, own: self.wrapped_name(field)),
             (0xA6, lambda field, own: self.alg_id_and_bits(field)),
-            (0x87, lambda field, own: typed(field, 0x03)),
-            (0x88, lambda field, own: typed(field, 0x03)),
+            (0x87, lambda field, own: typed(field, Type.BIT_STRING)),
+            (0x88, lambda field, own: typed(field, Type.BIT_STRING)),
             (0xA9, self.extensions),
         ]
         for identifier, judge in fields:
             field = parts.may(identifier)
             if field:
-                judge(field, self.row(10 + identifier % 16, field, row))
+                judge(field, self.row(Kind(TEMPLATE_FIELD + identifier % 16), field, row))
         parts.end()
 
     # "Validity: notBefore A0 (Time)?, notAfter A1 (Time)?, at least one."
     def validity(self, element, own):
         parts = Parts(element)
         if not parts.left:
-            raise Break(element, PART_MISSING)
-        for kind, identifier in ((20, 0xA0), (21, 0xA1)):
+            raise Break(element, GrammarDetail.PART_MISSING)
+        for kind, identifier in ((Kind.NOT_BEFORE, 0xA0), (Kind.NOT_AFTER, 0xA1)):
             wrapper = parts.may(identifier)
             if wrapper:
                 self.row(kind, wrapper, own)
@@ -211,7 +219,7 @@ class Walk:
         parts = Parts(element)
         while True:
             extension = parts.must(0x30)
-            self.row(22, extension, own)
+            self.row(Kind.EXTENSION, extension, own)
             inner = Parts(extension)
             inner.must(0x06)
             critical = inner.may(0x01)
@@ -225,20 +233,20 @@ class Walk:
     # "Proof: raVerified 80 empty; signature A1: poposkInput A0?, AlgId, 03; keyEncipherment A2 or keyAgreement A3 around one choice"
     def proof(self, element, parent):
         if element.identifier == 0x80:
-            self.row(50, element, parent)
+            self.row(Kind.RA_VERIFIED, element, parent)
             return hold(element, element.content == b"")
-        row = self.row({0xA1: 51, 0xA2: 52, 0xA3: 53}[element.identifier], element, parent)
+        row = self.row(PROOFS[element.identifier], element, parent)
         if element.identifier != 0xA1:
             return self.choice(element, row)
         parts = Parts(element)
         signed = parts.may(0xA0)
         if signed:
-            self.row(54, signed, row)
+            self.row(Kind.POPOSK_INPUT, signed, row)
             self.poposk_input(signed)
         algorithm = parts.must(0x30)
-        self.row(55, algorithm, row)
+        self.row(Kind.SIGNATURE_ALGORITHM, algorithm, row)
         self.alg_id(algorithm)
-        self.row(56, parts.must(0x03), row)
+        self.row(Kind.SIGNATURE_BITS, parts.must(0x03), row)
         parts.end()
 
     # "poposkInput: sender A0 (GeneralName) or PkMac, then Spki."
@@ -258,14 +266,14 @@ class Walk:
         parts = Parts(element)
         chosen = parts.must(0x80, 0x81, 0x82, 0xA3, 0xA4)
         if chosen.identifier in (0xA3, 0xA4):
-            self.alone(2, 1, chosen)
-        self.row(60 + chosen.identifier % 16, chosen, own)
+            self.alone(2, Difference.CHOICE, chosen)
+        self.row(Kind(CHOICE + chosen.identifier % 16), chosen, own)
         if chosen.identifier == 0x81:
             integer_to(chosen, 1)
         elif chosen.identifier == 0xA3:
             self.alg_id_and_bits(chosen)
         elif chosen.identifier != 0xA4:
-            typed(chosen, 0x03)
+            typed(chosen, Type.BIT_STRING)
         parts.end()
 
     # "Controls and regInfo 30: item+. Item 30: type 06, any value."
@@ -283,22 +291,22 @@ class Walk:
 
     # "Type octets 2B 06 01 05 05 07 05 01 n in controls, n of 1 to 6, fix the value"
     def control(self, item, name, inner, parent):
-        known = name[-1] if name[:-1] == CONTROL and 1 <= name[-1] <= 6 else 0
-        fixed = {0: ANY, 1: [0x0C], 2: [0x0C], 4: [0xA0, 0x81, 0x82]}.get(known, [0x30])
-        value = inner.must(*fixed)
-        self.row(40 + known if known else 31, item, parent)
-        if known == 3:
+        known = name[:-1] == CONTROL and 1 <= name[-1] <= 6
+        kind = Kind(CONTROL_ITEM + name[-1]) if known else Kind.UNKNOWN_CONTROL
+        value = inner.must(*CONTROL_VALUES.get(kind, [0x30]))
+        self.row(kind, item, parent)
+        if kind == Kind.PKI_PUBLICATION_INFO:
             self.publication(value)
-        elif known == 4 and value.identifier == 0xA0:  # "A0 around one 30 or A0"
+        elif kind == Kind.PKI_ARCHIVE_OPTIONS and value.identifier == 0xA0:  # "A0 around one 30 or A0"
             self.wrapped(value, 0x30, 0xA0)
-        elif known == 4 and value.identifier == 0x82:
-            typed(value, 0x01)
-        elif known == 5:  # "30: GeneralName, 02"
+        elif kind == Kind.PKI_ARCHIVE_OPTIONS and value.identifier == 0x82:
+            typed(value, Type.BOOLEAN)
+        elif kind == Kind.OLD_CERT_ID:  # "30: GeneralName, 02"
             parts = Parts(value)
             parts.must(*GENERAL_NAME)
             parts.must(0x02)
             parts.end()
-        elif known == 6:
+        elif kind == Kind.PROTOCOL_ENCR_KEY:
             self.alg_id_and_bits(value)
 
     # "30: 02 (0 or 1), (30: (30: 02 (0 to 3), GeneralName?)+)?, the list only with 1."
@@ -316,13 +324,13 @@ class Walk:
                 integer_to(method, 3)
                 location = info.may(*GENERAL_NAME)
                 if location and method.content == b"\x00":
-                    self.alone(1, 3, location)
+                    self.alone(1, Difference.LOCATION, location)
                 info.end()
                 if not inner.next_is([0x30]):
                     break
             inner.end()
             if action.content == b"\x00":  # "judged after its inside"
-                raise Break(infos, LIST_OR_LOCATION)
+                raise Break(infos, GrammarDetail.LIST_OR_LOCATION)
         parts.end()
 
     # "In regInfo 2B 06 01 05 05 07 05 02 n: 1: pairs; 2: a certReq."
@@ -331,14 +339,14 @@ class Walk:
         if name == INFO + b"\x01":
             value = inner.must(0x04, 0x0C)
             edition = 1 if value.identifier == 0x04 else 2
-            self.alone(edition, 2, value)
-            self.row(71 + edition, item, parent)
+            self.alone(edition, Difference.PAIRS, value)
+            self.row(Kind.OCTET_PAIRS if edition == 1 else Kind.UTF8_PAIRS, item, parent)
         elif name == INFO + b"\x02":
             value = inner.must(0x30)
-            self.cert_req(value, self.row(74, item, parent))
+            self.cert_req(value, self.row(Kind.REG_INFO_CERT_REQ, item, parent))
         else:
             inner.must(*ANY)
-            self.row(71, item, parent)
+            self.row(Kind.UNKNOWN_REG_INFO, item, parent)
 
 
 def is_time(element):
@@ -371,20 +379,21 @@ def walk(octets, editions):
 
 
 def read(edition, octets):
-    """The reading of a batch: (number, place, rows); a refusal has no rows. 11 needs a table and isn't here."""
-    if edition not in (1, 2):
-        return 13, 0, []
+    """The reading of a batch: (number, place, rows); a refusal has no rows. NO_ROOM needs a table and isn't here."""
+    if edition not in EDITIONS:
+        return Answer.UNKNOWN_EDITION, 0, []
     number, place, *_ = nest_model.nest(octets)
-    if number:
+    if number != Answer.ACCEPTED:
         return number, place, []
     if place < len(octets):
-        return 7, place, []
+        return Answer.TRAILING_BYTES, place, []
     stop, own = walk(octets, {edition})
     if stop:
         wrong, other = walk(octets, {3 - edition})
-        differences = [place for place, _, _ in other.differences]
-        return (8, stop[0], []) if wrong else (9, min(differences), [])
+        if wrong:
+            return Answer.NOT_IN_GRAMMAR, stop[0], []
+        return Answer.OTHER_EDITION, min(place for place, _, _ in other.differences), []
     for number in own.ids:
-        if len(number.content) > 8:
-            return 10, number.place, []
-    return 0, 0, own.rows
+        if len(number.content) > LONGEST_ID:
+            return Answer.LONG_CERT_REQ_ID, number.place, []
+    return Answer.ACCEPTED, 0, own.rows

@@ -50,3 +50,10 @@ def elsewhere():
         for number, line in enumerate(path.read_text(errors="replace").splitlines(), 1)
         if ELSEWHERE.search(line)
     ]
+
+
+TESTS = [
+    ("crates.txt lists every crate folder, and nothing else", unlisted),
+    ("rt fmt --check is clean", unformatted),
+    ("no text has a machine's paths or speaks of the work that made it", elsewhere),
+]

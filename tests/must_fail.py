@@ -1,7 +1,7 @@
 """What refused the must-fail edits, as the logs that `rt ci` leaves have it.
 
 An edit is one wrong program, or several that don't touch each other, which saves a proof of the crate for each. Each stands below the
-comment that says what is wrong with it. A line `refused: proofs/..`, with a declaration's name behind it where the file alone says too
+comment that says what is wrong with it. A line `refused: proofs/..`, with a declaration's name after it where the file alone says too
 little, names the proof that must refuse it; `refused: fn ..` a function that Rattle proves by itself. With one wrong program the line may
 be left out: any proof may refuse it.
 """
@@ -78,3 +78,6 @@ def unfit():
         log = ROOT / "target/must-fail" / name / ".log"
         found += faults(name, log.read_text(errors="replace") if log.exists() else "", wrong_programs(edit))
     return found
+
+
+TESTS = [("every must-fail edit is refused for a fact and not for a missing name", unfit)]

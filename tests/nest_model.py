@@ -2,34 +2,34 @@
 
 It takes the text at its word: every rule is judged by itself, as far as there are octets to judge, and of all the faults the one
 with the least first byte is answered, and within one element the first in the document's order. The answer is
-(number, place, detail), or (0, end) where there is no fault: end is the place past the first element. The detail of 2 is
-1 identifier missing, 2 length octets missing, 3 content past the end; that of 5 is the tag number; else 0.
+(number, place, detail), or (ACCEPTED, end) where there is no fault: end is the place past the first element. TRUNCATED has a
+TruncatedDetail, BAD_CONTENT the tag number, and any other fault 0.
 """
 
-LONGEST = 65535
-DEEPEST = 20
+from paper import DEEPEST, LONGEST, Answer, TruncatedDetail, Type
+
 PRIMITIVE_TYPES = {1, 2, 3, 4, 5, 6, 10, 12, *range(18, 29), 30}
 CONSTRUCTED_TYPES = {16, 17}
 
 # "within one element in this order": each fault with its number and its detail (None: the tag number)
 ORDER = [
-    ("too deep", 6, 0),
-    ("no identifier", 2, 1),
-    ("identifier", 3, 0),
-    ("no length", 2, 2),
-    ("length", 4, 0),
-    ("past the end", 2, 3),
-    ("content", 5, None),
+    ("too deep", Answer.TOO_DEEP, 0),
+    ("no identifier", Answer.TRUNCATED, TruncatedDetail.IDENTIFIER_MISSING),
+    ("identifier", Answer.BAD_IDENTIFIER, 0),
+    ("no length", Answer.TRUNCATED, TruncatedDetail.LENGTH_MISSING),
+    ("length", Answer.BAD_LENGTH, 0),
+    ("past the end", Answer.TRUNCATED, TruncatedDetail.PAST_THE_END),
+    ("content", Answer.BAD_CONTENT, None),
 ]
 
 
 def nest(octets):
     if len(octets) > LONGEST:
-        return (1, 0, 0)
+        return (Answer.TOO_LONG, 0, 0)
     faults = set()
     end = element(octets, 0, len(octets), 1, faults)
     if not faults:
-        return (0, end)
+        return (Answer.ACCEPTED, end)
     place = min(place for place, _ in faults)
     number, detail = next((number, detail) for name, number, detail in ORDER if (place, name) in faults)
     return (number, place, octets[place] % 32 if detail is None else detail)
@@ -72,7 +72,7 @@ def allowed(identifier):
 
 
 def length(own):
-    """The octets before the content, its length (None where length octets are missing), and whether 4 is to be said."""
+    """The octets before the content, its length (None where length octets are missing), and whether it is a BAD_LENGTH."""
     first = own[1]
     if first < 0x80:
         return 2, first, False
@@ -90,20 +90,20 @@ def bits(octets):
 
 def content_rule(identifier, content):
     """Whether an element's content keeps its type's rule; most types have none."""
-    if identifier == 0x01:
+    if identifier == Type.BOOLEAN:
         return content in (b"\x00", b"\xff")
-    if identifier in (0x02, 0x0A):
+    if identifier in (Type.INTEGER, Type.ENUMERATED):
         return len(content) == 1 or len(content) > 1 and len(set(bits(content)[:9])) == 2
-    if identifier == 0x03:
+    if identifier == Type.BIT_STRING:
         if len(content) < 2:
             return content == b"\x00"
         return content[0] <= 7 and bits(content).endswith("0" * content[0])
-    if identifier == 0x05:
+    if identifier == Type.NULL:
         return content == b""
-    if identifier == 0x06:
+    if identifier == Type.OBJECT_IDENTIFIER:
         starts = [i for i in range(len(content)) if i == 0 or content[i - 1] < 0x80]
         return content != b"" and content[-1] < 0x80 and all(content[i] != 0x80 for i in starts)
-    if identifier == 0x0C:
+    if identifier == Type.UTF8_STRING:
         try:
             content.decode("utf-8", "strict")
         except UnicodeDecodeError:

@@ -1,8 +1,9 @@
 """The stored files of each program (stdin, stdout, args) are those that its script here builds: tests/PROGRAM.py, function files()."""
 
+import functools
 import importlib
 
-from layout import CRATES
+from layout import CRATES, programs
 
 STORED = ("stdin", "stdout", "args")
 
@@ -25,3 +26,8 @@ def differences(program):
 def write(program):
     for name, content in built(program).items():
         (CRATES / program / name).write_bytes(content)
+
+
+TESTS = [
+    (f"{program}: the stored files are those that its script builds", functools.partial(differences, program)) for program in programs()
+]

@@ -1,4 +1,8 @@
-"""No crate opens the definitions of another: it uses laws about them. Vectors files (*Vectors.antt) may."""
+"""No crate opens the definitions of another: it uses laws about them. Vectors files (*Vectors.antt) may.
+
+An abbreviation is open wherever it is used, with no `unfolding` line, so those that a crate takes from another's definitions are
+listed here, each with its reason.
+"""
 
 import re
 
@@ -11,6 +15,20 @@ USE = re.compile(
 # an `unfolding` line with its further lines, which are indented more; and `unfold a b in`
 LINE = re.compile(r"^( *)unfolding\b(?P<names>.*(?:\n\1 +.*)*)", re.MULTILINE)
 TERM = re.compile(r"(?<![\w·-])unfold\s(?P<names>.*?)\sin\b", re.DOTALL)
+ABBREVIATION = re.compile(r"^ *(?:unfoldable )?abbrev pub (?P<name>\S+)", re.MULTILINE)
+
+# Each as crate.module.name, with what it is open for.
+OPEN = {
+    "der.Walk.depth": "document 01's number, which proofs count down from",
+    "der.Walk.longest": "document 01's number, which arithmetic compares with",
+    "crmf.Rows.width": "document 01's number, which arithmetic multiplies by",
+    "crmf.Messages.proofs": "document 01's list of identifiers",
+    "crmf.Walk.every": "the test that is always true",
+    "crmf.Fields.StandsAt": "a type's name: an equation",
+    "crmf.Pieces.pieceOf": "a record's name: its fields are read",
+    "editions.Reading.accepted": "a record's name: its fields are read",
+    "editions.Reading.refusal": "a record's name: its fields are read",
+}
 
 
 def crate_of(path, brought):
@@ -34,10 +52,14 @@ def imports(text):
     return brought
 
 
+def without_comments(path):
+    return re.sub(r"--.*" if path.suffix == ".antt" else r"//.*", "", path.read_text())
+
+
 def opened_in(path):
     """What a file opens of other crates."""
     own = path.relative_to(CRATES).parts[0]
-    text = re.sub(r"--.*" if path.suffix == ".antt" else r"//.*", "", path.read_text())
+    text = without_comments(path)
     brought = imports(text)
     for use in USE.finditer(text):
         if use["marks"].startswith("unfoldable") and crate_of(use["path"], brought) not in (None, own):
@@ -49,11 +71,59 @@ def opened_in(path):
                 yield f"opens {name} of the crate {crate}"
 
 
-def foreign():
+def sources():
+    """Every file of a crate that isn't one of vectors."""
     files = sorted(path for path in CRATES.rglob("*") if path.suffix in (".antt", ".rt"))
-    return [
-        f"{path.relative_to(CRATES)} {what}"
-        for path in files
-        if not path.name.endswith("Vectors.antt")
-        for what in opened_in(path)
+    return [path for path in files if not path.name.endswith("Vectors.antt")]
+
+
+def foreign():
+    return [f"{path.relative_to(CRATES)} {what}" for path in sources() for what in opened_in(path)]
+
+
+def abbreviations():
+    """The abbreviations among the definitions of every crate, by module (crate.module)."""
+    found = {}
+    for path in sorted(CRATES.glob("*/specs/**/*.antt")):
+        crate, _, *parts = path.relative_to(CRATES).with_suffix("").parts
+        found[".".join([crate, *parts])] = set(ABBREVIATION.findall(path.read_text()))
+    return found
+
+
+def taken_in(path, found):
+    """The abbreviations that a file takes from the definitions of other crates, whether it brings them or their module."""
+    own = path.relative_to(CRATES).parts[0]
+    text = without_comments(path)
+    brought = {}
+    for use in USE.finditer(text):
+        module = use["path"].removeprefix("Rattle·").replace(".specs.", ".", 1)
+        if module in found and use["names"] is None:
+            brought[use["alias"] or use["path"].split(".")[-1]] = module
+        for name in (use["names"] or "").split(","):
+            name = re.split(r"\s+as\s+", name.strip())[0]
+            if not module.startswith(own + ".") and name in found.get(module, ()):
+                yield f"{module}.{name}"
+    for alias, module in [*brought.items(), *((f"Rattle.{m.replace('.', '.specs.', 1)}", m) for m in found)]:
+        if module.startswith(own + "."):
+            continue
+        for name in re.findall(rf"(?<![\w·.]){re.escape(alias)}\.([^\s(){{}},;]+)", text):
+            if name in found[module]:
+                yield f"{module}.{name}"
+
+
+def unlisted():
+    """Abbreviations that are taken from another crate and not listed, and those that are listed and not taken."""
+    found = abbreviations()
+    taken = {}
+    for path in sources():
+        for name in taken_in(path, found):
+            taken.setdefault(name, path.relative_to(CRATES))
+    return [f"{path} takes the abbreviation {name}, which is open there" for name, path in taken.items() if name not in OPEN] + [
+        f"{name} is listed as open for other crates, and none takes it" for name in OPEN if name not in taken
     ]
+
+
+TESTS = [
+    ("no crate unfolds a definition of another", foreign),
+    ("every abbreviation that a crate takes from another is listed with its reason", unlisted),
+]

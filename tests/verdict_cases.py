@@ -11,6 +11,7 @@ import crmf_cases
 import editions_cases
 import grammar_model
 import verdict_model
+from paper import EDITIONS, Answer, Kind, Verdict
 
 TABLE = pathlib.Path(__file__).with_name("verdict_cases.txt")
 ANSWER = r"\d+@\d+(?:; (?:none|\d+ and \d+))?|[0-7](?: from \d+ of \d+)?; (?:none|\d+ and \d+)"
@@ -76,26 +77,29 @@ def printed(verdict, search):
 
 def signed_from(octets, edition, verdict):
     """Where the signed part of the first message begins, by the rows: its certReq, or its poposkInput."""
-    kind = {2: 3, 3: 54}.get(verdict)
+    kind = {Verdict.SIGNED_CERT_REQ: Kind.CERT_REQ, Verdict.SIGNED_POPOSK_INPUT: Kind.POPOSK_INPUT}.get(verdict)
     rows = grammar_model.read(edition, octets)[2]
-    return next(first for shown, first, _, _ in rows if shown == kind) if kind else 0
+    return next(row.first for row in rows if row.kind == kind) if kind else 0
 
 
 def message(name, edition):
     """What is to be answered for a message of the corpus, at position 0."""
     number, place, _ = corpus.expected()[name, edition]
-    if number:
+    if number != Answer.ACCEPTED:
         return ((number, place, 0, 0, 0),) * 2
     verdict, length, pair = corpus.judged()[name, edition]
-    return (0, 0, verdict, signed_from(corpus.octets(name), edition, verdict), length), (0, 0, 1, *pair) if pair else (0,) * 5
+    judged = 0, 0, verdict, signed_from(corpus.octets(name), edition, verdict), length
+    return judged, (0, 0, 1, *pair) if pair else (0, 0, 0, 0, 0)
 
 
 def files():
     """What the crate's folder has to hold."""
-    found = [(case.octets, f"{case.heading}:{case.written}", "\n".join(printed(*answer) for answer in case.answers.values())) for case in table()]
-    for name in sorted({name for name, _ in corpus.expected()}):
+    found = []
+    for case in table():
+        found.append((case.octets, f"{case.heading}:{case.written}", "\n".join(printed(*answer) for answer in case.answers.values())))
+    for name in corpus.names():
         octets = corpus.octets(name)
-        found.append((octets, ":" + octets.hex().upper(), "\n".join(printed(*message(name, edition)) for edition in (1, 2))))
+        found.append((octets, ":" + octets.hex().upper(), "\n".join(printed(*message(name, edition)) for edition in EDITIONS)))
     return cases.files(found, None)
 
 
@@ -116,3 +120,6 @@ def disagreements():
         if said != answer:
             found.append(f"{name}, edition {edition}: {printed(*answer)} expected, the model has {printed(*said)}")
     return found
+
+
+TESTS = [("verdict_cases: the table of cases, the corpus and the model of verdict and duplicates agree", disagreements)]

@@ -1,16 +1,15 @@
 """A model of document 01's section "Verdict and duplicates", written from that document alone, on the elements of the batch."""
 
 import grammar_model
-
-MESSAGE_REFUSED = 14
+from paper import Answer, Verdict
 
 
 def messages(octets):
     """The messages of an accepted batch, each as its certReq, its proof or None, and its template's identifiers."""
     found = []
     for message in grammar_model.Element(octets, 0, len(octets)).inside:
-        request, *behind = message.inside
-        proofs = [element for element in behind if element.identifier != 0x30]
+        request, *rest = message.inside
+        proofs = [element for element in rest if element.identifier != 0x30]
         found.append((request, proofs[0] if proofs else None, [field.identifier for field in request.inside[1].inside]))
     return found
 
@@ -21,17 +20,17 @@ def judged(request, proof, fields):
     inside = [element.identifier for element in proof.inside] if proof else []
     match proof and proof.identifier:
         case None:
-            return 0, None
+            return Verdict.NO_PROOF, None
         case 0x80:
-            return 1, None
+            return Verdict.RA_VERIFIED, None
         case 0xA1 if inside[0] == 0xA0:
-            return (4, None) if both else (3, proof.inside[0])
+            return (Verdict.OTHER_SIGNATURE, None) if both else (Verdict.SIGNED_POPOSK_INPUT, proof.inside[0])
         case 0xA1:
-            return (2, request) if both else (4, None)
+            return (Verdict.SIGNED_CERT_REQ, request) if both else (Verdict.OTHER_SIGNATURE, None)
         case 0xA2:
-            return 7 if inside == [0x82] else 5, None
+            return Verdict.MISPLACED_DH_MAC if inside == [0x82] else Verdict.KEY_ENCIPHERMENT, None
         case 0xA3:
-            return 7 if inside == [0x82] and not both else 6, None
+            return Verdict.MISPLACED_DH_MAC if inside == [0x82] and not both else Verdict.KEY_AGREEMENT, None
 
 
 def verdict(edition, octets, position):
@@ -41,9 +40,9 @@ def verdict(edition, octets, position):
         return number, place, 0, 0, 0
     there = messages(octets)
     if position >= len(there):
-        return MESSAGE_REFUSED, 0, 0, 0, 0
+        return Answer.NO_SUCH_MESSAGE, 0, 0, 0, 0
     found, part = judged(*there[position])
-    return 0, 0, found, part.place if part else 0, part.whole if part else 0
+    return Answer.ACCEPTED, 0, found, part.place if part else 0, part.whole if part else 0
 
 
 def duplicates(edition, octets):
@@ -55,6 +54,6 @@ def duplicates(edition, octets):
     for position, (request, _, _) in enumerate(messages(octets)):
         number = int.from_bytes(request.inside[0].content, "big", signed=True)
         if number in seen:
-            return 0, 0, 1, seen[number], position
+            return Answer.ACCEPTED, 0, 1, seen[number], position
         seen[number] = position
-    return 0, 0, 0, 0, 0
+    return Answer.ACCEPTED, 0, 0, 0, 0

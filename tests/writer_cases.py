@@ -13,11 +13,11 @@ import crmf_rows
 import editions_cases
 import grammar_model
 import writer_model
+from paper import EDITIONS, KINDS_ALONE, ROW_NUMBERS, Answer, Kind, Row, numbers_of, told
 
 TABLE = pathlib.Path(__file__).with_name("writer_cases.txt")
 NUMBERS = 120000  # numbers of the longest draft that the program reads
 OUTPUT = 70000  # octets of its output
-FIELDS = ("kind", "first", "whole", "parent")
 
 ANSWER = r"1[123]|0 \d+(?:: [^/]*[^/ ])?"
 CASE = re.compile(
@@ -41,7 +41,7 @@ class Case:
     def expected(self, edition):
         """The number and the batch, as the table has them."""
         number, length, batch = re.fullmatch(r"(\d+)(?: (\d+))?(?:: (.*))?", self.answers[edition]).groups()
-        octets = b"" if number != "0" else crmf_cases.built(batch, names())[0] if batch else self.octets
+        octets = b"" if int(number) != Answer.ACCEPTED else crmf_cases.built(batch, names())[0] if batch else self.octets
         if len(octets) != int(length or 0):
             raise ValueError(f"the batch has {len(octets)} octets: {self.line}")
         return int(number), octets
@@ -56,16 +56,16 @@ def names():
 
 def shown(octets):
     """The rows that octets show as a batch, by the model of the grammar."""
-    for edition in (1, 2):
+    for edition in EDITIONS:
         number, _, rows = grammar_model.read(edition, octets)
-        if number == 0:
+        if number == Answer.ACCEPTED:
             return rows
     raise ValueError(f"no batch: {octets[:60].hex()}")
 
 
 def changed(numbers, change):
     """Numbers with one of the table's changes."""
-    rows = [numbers[i:i + 4] for i in range(0, len(numbers), 4)]
+    rows = [numbers[i:i + ROW_NUMBERS] for i in range(0, len(numbers), ROW_NUMBERS)]
     words = change.split()
     if words[0] == "and":
         return numbers + list(map(int, words[1:]))
@@ -80,9 +80,9 @@ def changed(numbers, change):
         rows[one], rows[two] = rows[two], rows[one]
     else:
         row = list(rows[int(words[0])])
-        row[FIELDS.index(words[1])] = int(words[2])
+        row[Row._fields.index(words[1])] = int(words[2])
         rows[int(words[0])] = row
-    return [number for row in rows for number in row]
+    return numbers_of(rows)
 
 
 def drafted(draft, octets):
@@ -90,7 +90,7 @@ def drafted(draft, octets):
     head, *changes = draft.split(",")
     if head != "rows":
         return list(map(int, draft.split()))
-    return functools.reduce(changed, changes, [number for row in shown(octets) for number in row])
+    return functools.reduce(changed, changes, numbers_of(shown(octets)))
 
 
 @functools.cache
@@ -99,9 +99,14 @@ def table():
     return crmf_cases.parsed(TABLE, CASE, Case)[1]
 
 
+def accepted(answer):
+    """Whether an answer, as told, is that a batch is accepted."""
+    return answer.startswith(f"{Answer.ACCEPTED} ")
+
+
 def printed(number, batch):
     """An answer as the program prints it: of a batch its length and its Adler-32 sum."""
-    return f"{number}@0" if number else f"0 {len(batch)} {zlib.adler32(batch)}"
+    return told(number, 0, f"{len(batch)} {zlib.adler32(batch)}")
 
 
 @functools.cache
@@ -110,16 +115,15 @@ def again():
     found = []
     for case in editions_cases.table()[1]:
         answers = [answer.partition(",")[0] for answer in case.answers.values()]
-        if any(answer.startswith("0 ") for answer in answers) and len(answers) == 2 and not case.heading:
+        if any(map(accepted, answers)) and len(answers) == 2 and not case.heading:
             found.append((*case.built(), answers))
     for _, batch, said in crmf_rows.table():
         octets, written = crmf_cases.built(batch)
-        if said[:1] not in ([], ["-"], ["too short, the table unchanged"]) and len(said) <= editions_cases.SHOWN:
-            found.append((octets, written, [editions_cases.modelled(edition, octets, NUMBERS)[0] for edition in (1, 2)]))
-    for name in sorted({name for name, _ in corpus.expected()}):
+        if said[:1] not in ([], [crmf_rows.NO_BATCH], [crmf_rows.TOO_SHORT]) and len(said) <= editions_cases.SHOWN:
+            found.append((octets, written, [editions_cases.modelled(edition, octets, NUMBERS)[0] for edition in EDITIONS]))
+    for name in corpus.names():
         octets = corpus.octets(name)
-        answers = [corpus.expected()[name, edition] for edition in (1, 2)]
-        found.append((octets, octets.hex().upper(), [f"{number}@{place}" if number else f"0 {count}" for number, place, count in answers]))
+        found.append((octets, octets.hex().upper(), [told(*corpus.expected()[name, edition]) for edition in EDITIONS]))
     return found
 
 
@@ -131,13 +135,14 @@ def files():
         answers = [printed(*case.expected(edition)) for edition in case.answers]
         found.append((case.octets, f"{case.heading}={draft}:{case.written}", "\n".join(answers)))
     for octets, written, answers in again():
-        said = [printed(0, octets) if answer.startswith("0 ") else answer for answer in answers]
+        said = [printed(Answer.ACCEPTED, octets) if accepted(answer) else answer for answer in answers]
         found.append((octets, ":" + written, "\n".join(said)))
     return cases.files(found, None)
 
 
 def disagreements():
-    """The cases at which the model answers something else than the table; batches that it doesn't write again; kinds that aren't written."""
+    """The cases at which the model answers something else than the table; batches that it doesn't write again; kinds that aren't
+    written."""
     found, kinds = [], set()
     for case in table():
         for edition in case.answers:
@@ -145,11 +150,14 @@ def disagreements():
             if (number, batch) != case.expected(edition):
                 found.append(f"{case.line[:200]}, edition {edition}: the model has {number} with {len(batch)} octets")
     for octets, written, answers in again():
-        for edition, answer in enumerate(answers, 1):
-            if answer.startswith("0 "):
-                numbers = [number for row in grammar_model.read(edition, octets)[2] for number in row]
-                kinds |= {(edition, kind) for kind in numbers[::4]}
-                if writer_model.write(edition, numbers, octets, len(octets)) != (0, octets):
+        for edition, answer in zip(EDITIONS, answers, strict=True):
+            if accepted(answer):
+                rows = grammar_model.read(edition, octets)[2]
+                kinds |= {(edition, row.kind) for row in rows}
+                if writer_model.write(edition, numbers_of(rows), octets, len(octets)) != (Answer.ACCEPTED, octets):
                     found.append(f"{written[:100]}, edition {edition}: the model doesn't write it again")
-    should = {(edition, kind) for edition in (1, 2) for kind in crmf_rows.KINDS} - {(1, 63), (1, 64), (1, 73), (2, 72)}
+    should = {(edition, kind) for edition in EDITIONS for kind in Kind if KINDS_ALONE.get(kind, edition) == edition}
     return found + [f"nothing of kind {kind} is written again in edition {edition}" for edition, kind in sorted(should - kinds)]
+
+
+TESTS = [("writer_cases: the table of cases and the model of writing agree, and every row kind is written", disagreements)]

@@ -5,10 +5,24 @@ At most one batch can have a draft's rows: a container's kind fixes its identifi
 """
 
 import grammar_model
-import nest_model
+from paper import EDITIONS, LONGEST, ROW_NUMBERS, Answer, Kind, rows_of
 
-CONTAINERS = {1: 0x30, 2: 0x30, 3: 0x30, 5: 0x30, 14: 0xA4, 19: 0xA9, 30: 0x30, 51: 0xA1, 52: 0xA2, 53: 0xA3, 70: 0x30, 74: 0x30}
-IMPLIED = {74: bytes([0x06, 9]) + grammar_model.INFO + b"\x02"}  # "its type is implied"
+# The containers, each with its identifier
+CONTAINERS = {
+    Kind.BATCH: 0x30,
+    Kind.MESSAGE: 0x30,
+    Kind.CERT_REQ: 0x30,
+    Kind.CERT_TEMPLATE: 0x30,
+    Kind.VALIDITY: 0xA4,
+    Kind.EXTENSIONS: 0xA9,
+    Kind.CONTROLS: 0x30,
+    Kind.SIGNATURE: 0xA1,
+    Kind.KEY_ENCIPHERMENT: 0xA2,
+    Kind.KEY_AGREEMENT: 0xA3,
+    Kind.REG_INFO: 0x30,
+    Kind.REG_INFO_CERT_REQ: 0x30,
+}
+IMPLIED = {Kind.REG_INFO_CERT_REQ: bytes([0x06, 9]) + grammar_model.INFO + b"\x02"}  # "its type is implied"
 
 
 def element(identifier, content):
@@ -20,7 +34,7 @@ def element(identifier, content):
 
 def candidate(rows, octets):
     """The only batch that can have these rows, put together from the last row to the first; None where there can be none."""
-    below = [[] for _ in rows]  # what stands below each row, the last first
+    below = [[] for _ in rows]  # the elements below each row, the last first
     for row in reversed(range(len(rows))):
         kind, first, whole, parent = rows[row]
         if kind in CONTAINERS:
@@ -29,7 +43,7 @@ def candidate(rows, octets):
             own = octets[first:first + whole]
         else:
             return None  # "a leaf leaves the slice"
-        if len(own) > nest_model.LONGEST:
+        if len(own) > LONGEST:
             return None
         if row == 0:
             return own
@@ -47,22 +61,22 @@ def shows(row, octets):
 
 def describes(edition, numbers, octets):
     """The batch that a draft describes in an edition, or None."""
-    if len(numbers) == 0 or len(numbers) % 4:
+    if len(numbers) == 0 or len(numbers) % ROW_NUMBERS:
         return None
-    rows = list(zip(*[iter(numbers)] * 4))
+    rows = rows_of(numbers)
     batch = candidate(rows, octets)
     if batch is None:
         return None
     number, _, own = grammar_model.read(edition, batch)
     alike = [shows(row, octets) for row in rows] == [shows(row, batch) for row in own]
-    return batch if number == 0 and alike else None
+    return batch if number == Answer.ACCEPTED and alike else None
 
 
 def write(edition, numbers, octets, room):
     """The writing of a draft over a slice of octets: the number, and the batch; a refusal has none."""
-    if edition not in (1, 2):
-        return 13, b""
+    if edition not in EDITIONS:
+        return Answer.UNKNOWN_EDITION, b""
     batch = describes(edition, numbers, octets)
     if batch is None:
-        return 12, b""
-    return (0, batch) if len(batch) <= room else (11, b"")
+        return Answer.NO_SUCH_BATCH, b""
+    return (Answer.ACCEPTED, batch) if len(batch) <= room else (Answer.NO_ROOM, b"")

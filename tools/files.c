@@ -18,7 +18,7 @@ _Noreturn void trouble(const char *form, ...)
     vfprintf(stderr, form, words);
     fputc('\n', stderr);
     va_end(words);
-    exit(2);
+    exit(STATUS_TROUBLE);
 }
 
 static bool is_standard(const char *name)
@@ -47,7 +47,7 @@ static void closed(FILE *file, const char *name)
         fclose(file);
 }
 
-/* A block of memory with room for one thing more, which is `size` bytes long. */
+/* Makes room in a block of memory for one more thing of `size` bytes. */
 static void *grown(void *block, size_t count, size_t *room, size_t size)
 {
     if (count < *room)
@@ -59,8 +59,7 @@ static void *grown(void *block, size_t count, size_t *room, size_t size)
     return block;
 }
 
-
-/* The block cut to its length, so that a memory checker sees where the bytes end. */
+/* Cuts a block to its length, so that a memory checker sees where the bytes end. */
 static void *shrunk(void *block, size_t length)
 {
     void *exact = realloc(block, length);

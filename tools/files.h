@@ -1,4 +1,4 @@
-/* Files in and out. Whatever goes wrong with one ends the program with status 2. */
+/* Files in and out. Whatever goes wrong with one ends the program with STATUS_TROUBLE. */
 #ifndef FILES_H
 #define FILES_H
 
@@ -16,22 +16,25 @@ typedef struct {
     size_t count;
 } numbers;
 
-/* Says what is wrong and ends with status 2. */
+/* Exit statuses. */
+enum { STATUS_ACCEPTED = 0, STATUS_REFUSED = 1, STATUS_TROUBLE = 2 };
+
+/* Says what is wrong and ends the program with STATUS_TROUBLE. */
 _Noreturn void trouble(const char *form, ...) __attribute__((format(printf, 1, 2)));
 
-/* The bytes of a file, as they stand or as hex digits; of standard input where the name is "-". It stops behind so many bytes. */
+/* Reads the bytes of a file, as they are or as hex digits; of standard input where the name is "-". It stops after `most` bytes. */
 octets read_octets(const char *name, bool hex, size_t most);
 
-/* The numbers of a file, apart by white space. */
+/* Reads the numbers of a file, separated by white space. */
 numbers read_numbers(const char *name);
 
-/* A whole number in decimal digits alone; false where the words are none, or are one that is too large. */
+/* Reads a whole number in decimal digits alone; false where the words are no such number, or one that is too large. */
 bool whole_number(const char *words, size_t *number);
 
 /* Writes bytes to a file, or to standard output where the name is "-". */
 void write_octets(const char *name, const uint8_t *bytes, size_t length);
 
-/* Ends standard output: what couldn't be written is trouble. */
+/* Flushes standard output: what can't be written is trouble. */
 void finish_output(void);
 
 #endif

@@ -17,7 +17,7 @@ const char *verdict_of(size_t verdict);
 /* The name of a row kind. */
 const char *kind_name(size_t kind);
 
-/* An edition's document, in brackets behind a space; nothing for a number that is no edition. */
+/* An edition's document, in brackets after a space; nothing for a number that is no edition. */
 const char *edition_name(size_t edition);
 
 #endif

@@ -8,7 +8,7 @@
 static const struct {
     const char *name;
     unsigned bit;
-    const char *value;  /* what stands behind it, or NULL */
+    const char *value;  /* what must follow it, or NULL */
     const char *advice; /* where it is needed and missing */
 } known[] = {
     {"--edition", EDITION, "1 or 2", "say --edition 1 (RFC 2511) or --edition 2 (RFC 4211): which one a batch speaks is never guessed"},

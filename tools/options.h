@@ -6,7 +6,16 @@
 #include <stddef.h>
 
 /* The options, as bits: which a command takes, and which were given. */
-enum { EDITION = 1, HEX = 2, NUMBERS = 4, JSON = 8, POSITION = 16, PART = 32, OUTPUT = 64, HELP = 128 };
+enum {
+    EDITION = 1 << 0,
+    HEX = 1 << 1,
+    NUMBERS = 1 << 2,
+    JSON = 1 << 3,
+    POSITION = 1 << 4,
+    PART = 1 << 5,
+    OUTPUT = 1 << 6,
+    HELP = 1 << 7
+};
 
 enum { MOST_FILES = 2 };
 
@@ -20,10 +29,10 @@ typedef struct {
     size_t count; /* of files */
 } options;
 
-/* What the words behind a command's name give, where it takes these options and so many files. Anything else ends with status 2. */
+/* Parses the words after a command's name, where it takes these options and at most `most` files. Anything else is trouble. */
 options parsed(const char *command, unsigned taken, size_t most, char **words);
 
-/* Ends with status 2 where one of these options isn't given. */
+/* Is trouble where one of these options isn't given. */
 void needed(const options *given, const char *command, unsigned bits);
 
 #endif

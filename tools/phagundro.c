@@ -11,13 +11,12 @@
 #include <string.h>
 
 enum {
-    MOST_INPUT = 65536,    /* one byte more than a batch may have, so that what is longer is refused and not cut short */
-    MOST_ROWS = 65535 / 2, /* a row has two bytes at least of its own */
-    MOST_OUTPUT = 65535
+    MOST_INPUT = PHAGUNDRO_LONGEST + 1, /* one byte more than a batch may have, so that what is longer is refused and not cut short */
+    MOST_NUMBERS = PHAGUNDRO_ROW_NUMBERS * PHAGUNDRO_MOST_ROWS
 };
 
-static size_t table[4 * MOST_ROWS];
-static uint8_t output[MOST_OUTPUT];
+static size_t table[MOST_NUMBERS];
+static uint8_t output[PHAGUNDRO_LONGEST];
 
 /* The batch that a command is about. */
 static octets batch_of(const options *given)
@@ -27,12 +26,12 @@ static octets batch_of(const options *given)
 
 static phagundro_answer rows_of(size_t edition, octets batch)
 {
-    return phagundro_read(edition, batch.bytes, batch.length, table, 4 * MOST_ROWS);
+    return phagundro_read(edition, batch.bytes, batch.length, table, MOST_NUMBERS);
 }
 
 static int status_of(size_t number)
 {
-    return number == PHAGUNDRO_ACCEPTED ? 0 : 1;
+    return number == PHAGUNDRO_ACCEPTED ? STATUS_ACCEPTED : STATUS_REFUSED;
 }
 
 static void json_reading(size_t edition, phagundro_answer answer)
@@ -154,18 +153,18 @@ static int duplicates_command(const options *given)
 static int editions_command(const options *given)
 {
     octets batch = batch_of(given);
-    int status = 1;
-    for (size_t edition = 1; edition <= 2; edition++) {
+    int status = STATUS_REFUSED;
+    for (size_t edition = PHAGUNDRO_RFC2511; edition <= PHAGUNDRO_RFC4211; edition++) {
         phagundro_answer answer = rows_of(edition, batch);
         if (given->given & JSON) {
-            fputs(edition == 1 ? "[" : ",\n", stdout);
+            fputs(edition == PHAGUNDRO_RFC2511 ? "[" : ",\n", stdout);
             json_reading(edition, answer);
         } else if (answer.number != PHAGUNDRO_ACCEPTED)
             show_refusal(stdout, edition, answer.number, answer.place, batch);
         else
             show_count(edition, answer.count);
         if (answer.number == PHAGUNDRO_ACCEPTED)
-            status = 0;
+            status = STATUS_ACCEPTED;
     }
     if (given->given & JSON)
         puts("]");
@@ -189,7 +188,7 @@ static const struct {
 
 enum { COMMANDS = sizeof commands / sizeof *commands };
 
-/* Runs the command that the first word names with the words behind it. */
+/* Runs the command that the first word names with the words after it. */
 static int run_command(char **words)
 {
     size_t command = 0;
@@ -200,7 +199,7 @@ static int run_command(char **words)
     options given = parsed(*words, commands[command].taken, commands[command].most, words + 1);
     if (given.given & HELP) {
         fputs(commands[command].help, stdout);
-        return 0;
+        return STATUS_ACCEPTED;
     }
     needed(&given, *words, commands[command].needed);
     return commands[command].run(&given);
@@ -208,15 +207,15 @@ static int run_command(char **words)
 
 int main(int count, char **words)
 {
-    int status = 0;
+    int status = STATUS_ACCEPTED;
     if (count < 2) {
         fputs(general_help, stderr);
-        return 2;
+        return STATUS_TROUBLE;
     }
     if (count == 2 && strcmp(words[1], "--help") == 0)
         fputs(general_help, stdout);
     else if (count == 2 && strcmp(words[1], "--version") == 0)
-        puts("phagundro " VERSION);
+        puts("phagundro " PHAGUNDRO_VERSION);
     else
         status = run_command(words + 1);
     finish_output();

@@ -1,5 +1,5 @@
 /* A fuzz target for clang's libFuzzer: any bytes, read and judged by the archive and by document 01 in plain C, whose code guides the
- * fuzzer. Held are the equality of both, writing back, and what the two editions' answers have to do with each other. A difference aborts. */
+ * fuzzer. It checks that both are equal, that the rows are written back, and how the two editions' answers relate. A difference aborts. */
 #include "../../include/phagundro.h"
 #include "../host/reference.h"
 
@@ -7,9 +7,15 @@
 #include <stdlib.h>
 #include <string.h>
 
-enum { MOST = 8192, NUMBERS = 4 * (MOST / 2), POSITIONS = 4 };
+enum {
+    MOST = 8192, /* bytes of an input */
+    NUMBERS = PHAGUNDRO_ROW_NUMBERS * (MOST / 2),
+    POSITIONS = 4,
+    UNTOUCHED = 0xA5,
+    EDITIONS = PHAGUNDRO_RFC4211 + 1 /* tables that are indexed by the edition */
+};
 
-static size_t rows[3][NUMBERS], expected[NUMBERS];
+static size_t rows[EDITIONS][NUMBERS], expected[NUMBERS];
 static uint8_t output[MOST];
 
 static void hold(int holds, size_t edition, const char *what)
@@ -20,11 +26,11 @@ static void hold(int holds, size_t edition, const char *what)
     abort();
 }
 
-/* Reads in an edition; what stands in the table behind the rows, or after a refusal, is as it was. */
+/* Reads in an edition; the table after the rows, or all of it after a refusal, is as it was. */
 static phagundro_answer read_alike(size_t edition, const uint8_t *bytes, size_t length)
 {
-    memset(rows[edition], 0xA5, sizeof rows[edition]);
-    memset(expected, 0xA5, sizeof expected);
+    memset(rows[edition], UNTOUCHED, sizeof rows[edition]);
+    memset(expected, UNTOUCHED, sizeof expected);
     phagundro_answer answer = phagundro_read(edition, bytes, length, rows[edition], NUMBERS);
     reference_answer wanted = reference_read(edition, bytes, length, expected, NUMBERS);
     hold(answer.number == wanted.number && answer.place == wanted.place && answer.count == wanted.count, edition, "another answer");
@@ -37,7 +43,8 @@ static void write_back(size_t edition, phagundro_answer answer, const uint8_t *b
 {
     if (answer.number != PHAGUNDRO_ACCEPTED)
         return;
-    phagundro_answer written = phagundro_write(edition, rows[edition], 4 * answer.count, bytes, length, output, sizeof output);
+    size_t numbers = PHAGUNDRO_ROW_NUMBERS * answer.count;
+    phagundro_answer written = phagundro_write(edition, rows[edition], numbers, bytes, length, output, sizeof output);
     hold(written.number == PHAGUNDRO_ACCEPTED && written.count == length, edition, "the rows are not written again");
     hold(memcmp(output, bytes, length) == 0, edition, "other bytes are written");
 }
@@ -57,16 +64,25 @@ static void judge_alike(size_t edition, const uint8_t *bytes, size_t length)
 /* What demand 3 says of the answer in an edition beside that in the opposite one. */
 static void agree(size_t edition, phagundro_answer own, phagundro_answer opposite)
 {
-    if (own.number == PHAGUNDRO_ACCEPTED && opposite.number == PHAGUNDRO_ACCEPTED)
-        hold(own.count == opposite.count && memcmp(rows[1], rows[2], sizeof rows[1]) == 0, edition, "the editions have other rows");
-    else if (own.number == PHAGUNDRO_ACCEPTED)
-        hold(opposite.number == PHAGUNDRO_OPPOSITE, 3 - edition, "refused, and not with 9, though the other edition accepts");
-    else if (own.number == PHAGUNDRO_OPPOSITE)
-        hold(opposite.number == PHAGUNDRO_ACCEPTED || opposite.number == PHAGUNDRO_ID, edition, "9, and not in the other's grammar");
-    else if (own.number < PHAGUNDRO_GRAMMAR)
-        hold(own.number == opposite.number && own.place == opposite.place, edition, "the editions see other elements");
-    else if (own.number == PHAGUNDRO_GRAMMAR)
-        hold(opposite.number == PHAGUNDRO_GRAMMAR, edition, "8 in one edition alone");
+    switch (own.number) {
+    case PHAGUNDRO_ACCEPTED:
+        if (opposite.number != PHAGUNDRO_ACCEPTED)
+            hold(opposite.number == PHAGUNDRO_OTHER_EDITION, edition, "accepted, and refused by the other with another number than 9");
+        else
+            hold(own.count == opposite.count && memcmp(rows[PHAGUNDRO_RFC2511], rows[PHAGUNDRO_RFC4211], sizeof expected) == 0, edition,
+                "the editions have other rows");
+        break;
+    case PHAGUNDRO_OTHER_EDITION:
+        hold(opposite.number == PHAGUNDRO_ACCEPTED || opposite.number == PHAGUNDRO_LONG_CERT_REQ_ID, edition,
+            "9, and not in the other's grammar");
+        break;
+    case PHAGUNDRO_NOT_IN_GRAMMAR:
+        hold(opposite.number == PHAGUNDRO_NOT_IN_GRAMMAR, edition, "8 in one edition alone");
+        break;
+    default:
+        if (own.number < PHAGUNDRO_NOT_IN_GRAMMAR)
+            hold(own.number == opposite.number && own.place == opposite.place, edition, "the editions see other elements");
+    }
 }
 
 int LLVMFuzzerInitialize(int *count, char ***words);
@@ -83,15 +99,15 @@ int LLVMFuzzerInitialize(int *count, char ***words)
 
 int LLVMFuzzerTestOneInput(const uint8_t *bytes, size_t length)
 {
-    phagundro_answer answers[3];
+    phagundro_answer answers[EDITIONS];
     if (length > MOST)
         return -1;
-    for (size_t edition = 1; edition <= 2; edition++) {
+    for (size_t edition = PHAGUNDRO_RFC2511; edition <= PHAGUNDRO_RFC4211; edition++) {
         answers[edition] = read_alike(edition, bytes, length);
         write_back(edition, answers[edition], bytes, length);
         judge_alike(edition, bytes, length);
     }
-    agree(1, answers[1], answers[2]);
-    agree(2, answers[2], answers[1]);
+    agree(PHAGUNDRO_RFC2511, answers[PHAGUNDRO_RFC2511], answers[PHAGUNDRO_RFC4211]);
+    agree(PHAGUNDRO_RFC4211, answers[PHAGUNDRO_RFC4211], answers[PHAGUNDRO_RFC2511]);
     return 0;
 }

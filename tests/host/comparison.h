@@ -1,31 +1,77 @@
-/* What every comparison with the archive has: its words, the seed, and the number of what is compared. */
+/* What the comparisons of the archive with the references have in common: the command line, the input that is lent, differences, and the
+ * account of what occurred.
+ *
+ * A comparison takes [--count N] [--seed S] [--fault F] FILE... and ends with 0 where all is equal and each answer occurred, with 1 at the
+ * first difference, which it shows with what was compared, with 2 where it couldn't run, with 3 where something never occurred. */
 #ifndef COMPARISON_H
 #define COMPARISON_H
 
 #include "../../include/phagundro.h"
-#include "reference.h"
+#include "inputs.h"
 
 #include <stdbool.h>
 #include <stddef.h>
 #include <stdint.h>
 
+enum {
+    EDITIONS = PHAGUNDRO_RFC4211 + 1,             /* the length of a table that is indexed by the edition */
+    NUMBERS = PHAGUNDRO_NO_SUCH_MESSAGE + 1,      /* of one that is indexed by the number of an answer */
+    KINDS = PHAGUNDRO_KIND_REG_INFO_CERT_REQ + 1, /* of one that is indexed by the kind of a row */
+    TABLE = PHAGUNDRO_ROW_NUMBERS * 33000         /* the numbers of a table that has room for any batch, and more */
+};
+
 extern uint64_t seed;
-extern size_t number; /* of the input or draft */
+extern size_t number; /* of the input or draft, from 0 */
 
-/* Takes [NAME N] [--seed S] [--fault F] FILE..., opens the inputs' files and has signals reported by `show`, which shows what is compared.
- * Answers how many there are to be, `usual` if not said. Ends the program with 2 where a word or a file is wrong. */
-size_t comparison_start(int count, char **words, const char *name, size_t usual, void (*show)(void));
+/* Takes the command line, opens the inputs' files and has signals reported by `show`, which shows what is compared. Answers how many inputs
+ * or drafts there are to be, `usual` if not said. Ends the program with 2 where a word or a file is wrong. */
+size_t comparison_start(int count, char **words, size_t usual, void (*show)(void));
 
-/* Shows an input in hex, with the seed and its number. */
-void comparison_show(const uint8_t *input, size_t length);
+/* -- The input that is compared, of the comparisons that have one -- */
+
+extern uint8_t input[INPUT_ROOM];
+extern size_t length;
+
+/* Copies the input to the edge of memory that must not be touched, after it and before it in turn; the copy is for the archive alone. */
+const uint8_t *lend_input(void);
+
+/* It is a difference where the copy, or what is beside it, has changed since. */
+void check_lent_input(void);
+
+/* Shows the input in hex, with the seed and its number. */
+void show_input(void);
+
+/* The count of messages among these rows. */
+size_t messages_of(const size_t *rows, size_t count);
+
+/* -- Editions that there aren't -- */
+
+/* One of the numbers that look like an edition in a byte, in two or in four, or are very large. */
+size_t far_edition(size_t n);
+
+/* One of these, of 0 and of 3. */
+size_t no_edition(size_t n);
+
+/* -- Differences -- */
 
 /* Tells a difference in an edition, with what else was given, shows what is compared and ends the program with 1. */
 _Noreturn void comparison_differs(const char *what, size_t edition, const char *other, size_t value);
 
-/* Whether the archive answers as the reference does; shows both answers where it doesn't. */
-bool answered_alike(phagundro_answer answer, reference_answer right);
+/* Whether the archive's answer, which is numbers alone, is the reference's; shows both, with the names of the numbers, where it isn't. */
+bool alike(size_t count, const char *const *names, const void *answer, const void *right);
+
+/* -- The account -- */
+
+/* Keeps the larger number. */
+void keep_most(size_t *most, size_t value);
 
 /* Tells what never occurred among what was compared, and counts it: 0 where it did. */
 int missing(bool occurs, const char *what, size_t which, size_t edition);
+
+/* Tells which kinds of the edition's rows never occurred, and counts them. */
+int missing_kinds(const size_t occurred[KINDS], size_t edition);
+
+/* The exit status of a comparison without a difference, in which `lacking` things never occurred. */
+int comparison_status(int lacking);
 
 #endif

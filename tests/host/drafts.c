@@ -1,21 +1,17 @@
 /* A draft is made from a source, an accepted batch with its rows: first it is those rows over the batch's bytes, and then what its sort
  * says is done to the rows or the slice. */
 #include "drafts.h"
+
+#include "draft_rows.h"
 #include "inputs.h"
+#include "kinds.h"
+#include "random.h"
 #include "reference.h"
 
-#include <stdbool.h>
-#include <stdlib.h>
 #include <string.h>
 
-#define below inputs_below
-
-enum { WIDTH = 4, KIND = 0, FIRST, WHOLE, PARENT, MOST_NUMBERS = WIDTH * 33000 };
-
-static bool chance(size_t n)
-{
-    return below(n) == 0;
-}
+enum { MOST_NUMBERS = WIDTH * 33000 };
+enum { LONG_DRAFT = 30000 }; /* rows: a draft that has more isn't made longer still */
 
 /* -- Where drafts come from -- */
 
@@ -26,7 +22,7 @@ typedef struct {
 } Source;
 
 static Source sources[2];
-static size_t present, left; /* which of the two is used, for so many drafts more; the other is the one before */
+static size_t present, left; /* which of the two is used, and for how many drafts more; the other is the one before */
 
 /* The next input that an edition accepts. */
 static void next_source(void)
@@ -41,100 +37,7 @@ static void next_source(void)
     left = source->length > 5000 ? 1 : 1 + below(8);
 }
 
-/* -- Rows -- */
-
-static size_t *row(Draft *draft, size_t i)
-{
-    return draft->numbers + WIDTH * i;
-}
-
-static size_t rows(const Draft *draft)
-{
-    return draft->count / WIDTH;
-}
-
-static bool container(size_t kind)
-{
-    static const uint8_t kinds[] = {1, 2, 3, 5, 14, 19, 30, 51, 52, 53, 70, 74};
-    return kind < 256 && memchr(kinds, (int)kind, sizeof kinds) != NULL;
-}
-
-static size_t any_kind(void)
-{
-    static const uint8_t kinds[] = {1, 2, 3, 4, 5, 10, 11, 12, 13, 14, 15, 16, 17, 18, 19, 20, 21, 22, 30, 31, 41, 42, 43, 44, 45, 46, 50, 51,
-        52, 53, 54, 55, 56, 60, 61, 62, 63, 64, 70, 71, 72, 73, 74, 0, 6, 9, 23, 40, 47, 57, 65, 75, 255};
-    return chance(20) ? kinds[below(sizeof kinds)] + 256 : kinds[below(sizeof kinds)];
-}
-
-/* A row from the second on; each batch has some, and leaves among them. */
-static size_t some_row(Draft *draft)
-{
-    return 1 + below(rows(draft) - 1);
-}
-
-static size_t some_leaf(Draft *draft)
-{
-    size_t i = some_row(draft);
-    while (container(row(draft, i)[KIND]))
-        i = i + 1 < rows(draft) ? i + 1 : 1;
-    return i;
-}
-
-/* The row behind those below a row. */
-static size_t behind(Draft *draft, size_t i)
-{
-    size_t j = i + 1;
-    while (j < rows(draft) && row(draft, j)[PARENT] >= i)
-        j++;
-    return j;
-}
-
-static void insert_rows(Draft *draft, size_t at, const size_t *numbers, size_t count)
-{
-    if (DRAFT_NUMBERS - draft->count < WIDTH * count)
-        abort();
-    memmove(row(draft, at + count), row(draft, at), (rows(draft) - at) * WIDTH * sizeof(size_t));
-    memmove(row(draft, at), numbers, count * WIDTH * sizeof(size_t));
-    draft->count += WIDTH * count;
-}
-
-static void remove_rows(Draft *draft, size_t at, size_t count)
-{
-    memmove(row(draft, at), row(draft, at + count), (rows(draft) - at - count) * WIDTH * sizeof(size_t));
-    draft->count -= WIDTH * count;
-}
-
-/* Moves the parents of the rows between two that are `least` or more. */
-static void move_parents(Draft *draft, size_t from, size_t to, size_t least, size_t by)
-{
-    for (size_t i = from; i < to; i++)
-        if (row(draft, i)[PARENT] >= least)
-            row(draft, i)[PARENT] += by;
-}
-
-static void add_row(Draft *draft, size_t kind, size_t first, size_t whole, size_t parent)
-{
-    size_t numbers[WIDTH] = {kind, first, whole, parent};
-    insert_rows(draft, rows(draft), numbers, 1);
-}
-
-/* -- The slice -- */
-
-/* Puts octets behind the slice; answers their place. */
-static size_t keep(Draft *draft, const void *octets, size_t size)
-{
-    if (SLICE_ROOM - draft->length < size)
-        abort();
-    memcpy(draft->slice + draft->length, octets, size);
-    draft->length += size;
-    return draft->length - size;
-}
-
-static void garbage(Draft *draft, size_t size)
-{
-    for (; size > 0; size--)
-        keep(draft, &(uint8_t){(uint8_t)below(256)}, 1);
-}
+/* -- Slices laid out anew -- */
 
 /* Where the slice has these octets from a place on, or where they begin so that its end has their first ones. */
 static size_t found(const Draft *draft, const uint8_t *octets, size_t size)
@@ -161,23 +64,16 @@ static void lay_out(Draft *draft, bool overlapping)
     draft->length = 0;
     for (size_t i = 0; i < rows(draft); i++) {
         size_t *numbers = row(draft, order[i]);
-        if (container(numbers[KIND]))
+        if (is_container(numbers[KIND]))
             continue;
         const uint8_t *octets = source->bytes + numbers[FIRST];
         if (!overlapping && source->length < 3000)
-            garbage(draft, below(4));
+            add_garbage(draft, below(4));
         size_t at = overlapping ? found(draft, octets, numbers[WHOLE]) : draft->length;
         size_t common = draft->length - at < numbers[WHOLE] ? draft->length - at : numbers[WHOLE];
-        keep(draft, octets + common, numbers[WHOLE] - common);
+        add_octets(draft, octets + common, numbers[WHOLE] - common);
         numbers[FIRST] = at;
     }
-}
-
-static size_t far_off(void)
-{
-    static const size_t numbers[] = {0, 1, 255, 256, 65535, 65536, 0x7FFFFFFF, 0xFFFFFFFF, 0x100000000, 0x7FFFFFFFFFFFFFFF, 0x8000000000000000,
-        SIZE_MAX - 1, SIZE_MAX};
-    return numbers[below(sizeof numbers / sizeof *numbers)];
 }
 
 /* -- Drafts that describe the batch they were made from -- */
@@ -201,7 +97,7 @@ static void overlapping(Draft *draft)
 static void containers_anyhow(Draft *draft)
 {
     for (size_t i = 0; i < rows(draft); i++)
-        if (container(row(draft, i)[KIND])) {
+        if (is_container(row(draft, i)[KIND])) {
             row(draft, i)[FIRST] = far_off();
             row(draft, i)[WHOLE] = far_off();
         }
@@ -214,7 +110,7 @@ static void further_back(Draft *draft)
     memmove(draft->slice + by, draft->slice, draft->length);
     memset(draft->slice, 0x30, by);
     draft->length += by;
-    garbage(draft, below(8));
+    add_garbage(draft, below(8));
     for (size_t i = 0; i < rows(draft); i++)
         row(draft, i)[FIRST] += by;
 }
@@ -223,15 +119,15 @@ static void further_back(Draft *draft)
 
 static void subtree_dropped(Draft *draft)
 {
-    size_t i = some_row(draft), end = behind(draft, i);
+    size_t i = some_row(draft), end = after(draft, i);
     move_parents(draft, end, rows(draft), end, i - end);
     remove_rows(draft, i, end - i);
 }
 
 static void subtree_doubled(Draft *draft)
 {
-    size_t i = some_row(draft), end = behind(draft, i);
-    if (rows(draft) > 30000)
+    size_t i = some_row(draft), end = after(draft, i);
+    if (rows(draft) > LONG_DRAFT)
         return;
     move_parents(draft, end, rows(draft), end, end - i);
     insert_rows(draft, end, row(draft, i), end - i);
@@ -242,10 +138,10 @@ static void subtree_doubled(Draft *draft)
 static void subtrees_swapped(Draft *draft)
 {
     static size_t kept[DRAFT_NUMBERS];
-    size_t i = some_row(draft), middle = behind(draft, i), end;
+    size_t i = some_row(draft), middle = after(draft, i), end;
     if (middle == rows(draft) || row(draft, middle)[PARENT] != row(draft, i)[PARENT])
         return;
-    end = behind(draft, middle);
+    end = after(draft, middle);
     move_parents(draft, i + 1, middle, i, end - middle);
     move_parents(draft, middle + 1, end, middle, i - middle);
     memcpy(kept, row(draft, i), (middle - i) * WIDTH * sizeof(size_t));
@@ -257,14 +153,14 @@ static void subtrees_swapped(Draft *draft)
 static void subtree_replaced(Draft *draft)
 {
     Source *other = &sources[1 - present];
-    size_t i = some_row(draft), end = behind(draft, i), from = 0, to;
-    if (other->count < 2 || other->length + draft->length > SLICE_ROOM || other->count + rows(draft) > 30000)
+    size_t i = some_row(draft), end = after(draft, i), from = 0, to;
+    if (other->count < 2 || other->length + draft->length > SLICE_ROOM || other->count + rows(draft) > LONG_DRAFT)
         return;
     for (int tries = 0; tries < 50 && (from == 0 || other->numbers[WIDTH * from] != row(draft, i)[KIND]); tries++)
         from = 1 + below(other->count - 1);
     for (to = from + 1; to < other->count && other->numbers[WIDTH * to + PARENT] >= from;)
         to++;
-    size_t parent = row(draft, i)[PARENT], by = keep(draft, other->bytes, other->length);
+    size_t parent = row(draft, i)[PARENT], by = add_octets(draft, other->bytes, other->length);
     move_parents(draft, end, rows(draft), end, to - from + i - end);
     remove_rows(draft, i, end - i);
     insert_rows(draft, i, other->numbers + WIDTH * from, to - from);
@@ -307,7 +203,7 @@ static void number_in_turn(Draft *draft)
     draft->count = WIDTH * source.count;
     memcpy(draft->numbers, source.numbers, draft->count * sizeof(size_t));
     draft->length = 0;
-    keep(draft, source.bytes, source.length);
+    add_octets(draft, source.bytes, source.length);
     size_t i = turn / WAYS / WIDTH, field = turn / WAYS % WIDTH;
     row(draft, i)[field] = changed(draft, i, field, turn % WAYS);
     turn++;
@@ -332,17 +228,37 @@ static void row_doubled(Draft *draft)
     insert_rows(draft, chance(2) ? i : below(rows(draft)), row(draft, i), 1);
 }
 
-/* A kind near the one that it was: of the same place, or of the other edition, or a neighbour. */
+enum { GROUP = 8 };
+
+/* Kinds that are easily taken for each other: of the same place, or of the other edition, or neighbours. */
+static const uint8_t near_kinds[][GROUP] = {
+    {PHAGUNDRO_KIND_OCTET_PAIRS, PHAGUNDRO_KIND_UTF8_PAIRS, PHAGUNDRO_KIND_UNKNOWN_REG_INFO},
+    {PHAGUNDRO_KIND_UNKNOWN_CONTROL, PHAGUNDRO_KIND_REG_TOKEN, PHAGUNDRO_KIND_AUTHENTICATOR, PHAGUNDRO_KIND_PKI_PUBLICATION_INFO,
+        PHAGUNDRO_KIND_PKI_ARCHIVE_OPTIONS, PHAGUNDRO_KIND_OLD_CERT_ID, PHAGUNDRO_KIND_PROTOCOL_ENCR_KEY},
+    {PHAGUNDRO_KIND_THIS_MESSAGE, PHAGUNDRO_KIND_SUBSEQUENT_MESSAGE, PHAGUNDRO_KIND_DH_MAC, PHAGUNDRO_KIND_AGREE_MAC,
+        PHAGUNDRO_KIND_ENCRYPTED_KEY},
+    {PHAGUNDRO_KIND_VERSION, PHAGUNDRO_KIND_SERIAL_NUMBER, PHAGUNDRO_KIND_ISSUER_UID, PHAGUNDRO_KIND_SUBJECT_UID},
+    {PHAGUNDRO_KIND_ISSUER, PHAGUNDRO_KIND_SUBJECT},
+    {PHAGUNDRO_KIND_NOT_BEFORE, PHAGUNDRO_KIND_NOT_AFTER},
+    {PHAGUNDRO_KIND_KEY_ENCIPHERMENT, PHAGUNDRO_KIND_KEY_AGREEMENT, PHAGUNDRO_KIND_SIGNATURE},
+    {PHAGUNDRO_KIND_UNKNOWN_REG_INFO, PHAGUNDRO_KIND_REG_INFO_CERT_REQ},
+    {PHAGUNDRO_KIND_SIGNING_ALG, PHAGUNDRO_KIND_PUBLIC_KEY, PHAGUNDRO_KIND_SIGNATURE_ALGORITHM},
+    {PHAGUNDRO_KIND_BATCH, PHAGUNDRO_KIND_MESSAGE, PHAGUNDRO_KIND_CERT_REQ, PHAGUNDRO_KIND_CERT_TEMPLATE, PHAGUNDRO_KIND_CONTROLS,
+        PHAGUNDRO_KIND_REG_INFO, PHAGUNDRO_KIND_REG_INFO_CERT_REQ},
+    {PHAGUNDRO_KIND_VALIDITY, PHAGUNDRO_KIND_EXTENSIONS, PHAGUNDRO_KIND_SIGNATURE, PHAGUNDRO_KIND_KEY_ENCIPHERMENT,
+        PHAGUNDRO_KIND_KEY_AGREEMENT},
+    {PHAGUNDRO_KIND_CERT_REQ_ID, PHAGUNDRO_KIND_SIGNATURE_BITS, PHAGUNDRO_KIND_RA_VERIFIED},
+};
+
+/* A kind near the one that it was. */
 static void kind_changed(Draft *draft)
 {
-    static const uint8_t near[][8] = {{72, 73, 71}, {31, 41, 42, 43, 44, 45, 46}, {60, 61, 62, 63, 64}, {10, 11, 17, 18}, {13, 15}, {20, 21},
-        {52, 53, 51}, {71, 74}, {12, 16, 55}, {1, 2, 3, 5, 30, 70, 74}, {14, 19, 51, 52, 53}, {4, 56, 50}};
-    size_t *kind = &row(draft, some_row(draft))[KIND], was = *kind, group = below(sizeof near / sizeof *near);
-    for (size_t g = 0; g < sizeof near / sizeof *near; g++)
-        if (was < 256 && memchr(near[g], (int)was, sizeof near[g]))
+    size_t *kind = &row(draft, some_row(draft))[KIND], was = *kind, group = below(sizeof near_kinds / sizeof *near_kinds);
+    for (size_t g = 0; g < sizeof near_kinds / sizeof *near_kinds; g++)
+        if (was <= UINT8_MAX && memchr(near_kinds[g], (int)was, GROUP))
             group = g;
     for (int tries = 0; tries < 20 && (*kind == was || *kind == 0); tries++)
-        *kind = near[group][below(sizeof near[group])];
+        *kind = near_kinds[group][below(GROUP)];
 }
 
 static void parent_changed(Draft *draft)
@@ -351,12 +267,12 @@ static void parent_changed(Draft *draft)
     row(draft, i)[PARENT] = chance(4) ? i + below(3) : below(i + 1);
 }
 
-/* A leaf whose next row is a leaf that stands right behind it; 0 where it finds none. */
+/* A leaf whose next row is a leaf that comes right after it; 0 where it finds none. */
 static size_t neighbours(Draft *draft)
 {
     for (int tries = 0; tries < 50; tries++) {
         size_t i = some_leaf(draft), j = i + 1;
-        if (j < rows(draft) && !container(row(draft, j)[KIND]) && row(draft, i)[FIRST] + row(draft, i)[WHOLE] == row(draft, j)[FIRST])
+        if (j < rows(draft) && !is_container(row(draft, j)[KIND]) && row(draft, i)[FIRST] + row(draft, i)[WHOLE] == row(draft, j)[FIRST])
             return i;
     }
     return 0;
@@ -408,7 +324,7 @@ static void empty_leaf(Draft *draft)
         return;
     }
     size_t numbers[WIDTH] = {any_kind(), below(draft->length + 1), 0, row(draft, i)[PARENT]};
-    while (container(numbers[KIND]))
+    while (is_container(numbers[KIND]))
         numbers[KIND] = any_kind();
     move_parents(draft, i + 1, rows(draft), i + 1, 1);
     insert_rows(draft, i + 1, numbers, 1);
@@ -417,13 +333,12 @@ static void empty_leaf(Draft *draft)
 /* A container with what is below it becomes a leaf, of its own kind or of another; or a leaf becomes a container. */
 static void other_nature(Draft *draft)
 {
-    static const uint8_t containers[] = {1, 2, 3, 5, 14, 19, 30, 51, 52, 53, 70, 74};
-    size_t i = some_row(draft), end = behind(draft, i);
-    if (!container(row(draft, i)[KIND])) {
-        row(draft, i)[KIND] = containers[below(sizeof containers)];
+    size_t i = some_row(draft), end = after(draft, i);
+    if (!is_container(row(draft, i)[KIND])) {
+        row(draft, i)[KIND] = containers[below(containers_count)];
         return;
     }
-    while (container(row(draft, i)[KIND]))
+    while (is_container(row(draft, i)[KIND]))
         row(draft, i)[KIND] = any_kind();
     move_parents(draft, end, rows(draft), end, i + 1 - end);
     remove_rows(draft, i + 1, end - i - 1);
@@ -443,9 +358,9 @@ static void longer_id(Draft *draft)
 {
     static const uint8_t id[] = {0x02, 0x00, 0x01, 0x80, 0x02, 0x03, 0xFF, 0x04, 0x00, 0x05, 0x80, 0x06};
     for (size_t i = below(rows(draft)); i < rows(draft); i++)
-        if (row(draft, i)[KIND] == 4) {
+        if (row(draft, i)[KIND] == PHAGUNDRO_KIND_CERT_REQ_ID) {
             size_t octets = 8 + below(3);
-            row(draft, i)[FIRST] = keep(draft, id, 2 + octets);
+            row(draft, i)[FIRST] = add_octets(draft, id, 2 + octets);
             row(draft, i)[WHOLE] = 2 + octets;
             draft->slice[row(draft, i)[FIRST] + 1] = (uint8_t)octets;
             return;
@@ -458,7 +373,7 @@ static void slice_cut(Draft *draft)
     size_t last = 0;
     for (size_t i = 0; i < rows(draft); i++) {
         size_t end = row(draft, i)[FIRST] + row(draft, i)[WHOLE];
-        if (!container(row(draft, i)[KIND]) && end > last)
+        if (!is_container(row(draft, i)[KIND]) && end > last)
             last = end;
     }
     draft->length = chance(3) ? last : chance(2) ? last - 1 : below(last);
@@ -500,14 +415,14 @@ static void none(Draft *draft)
 static void open_request(Draft *draft)
 {
     draft->count = draft->length = 0;
-    add_row(draft, 1, 0, 0, 0);
-    add_row(draft, 2, 0, 0, 0);
-    add_row(draft, 3, 0, 0, 1);
-    add_row(draft, 4, keep(draft, "\x02\x01\x00", 3), 3, 2);
-    add_row(draft, 5, 0, 0, 2);
+    add_row(draft, PHAGUNDRO_KIND_BATCH, 0, 0, 0);
+    add_row(draft, PHAGUNDRO_KIND_MESSAGE, 0, 0, 0);
+    add_row(draft, PHAGUNDRO_KIND_CERT_REQ, 0, 0, 1);
+    add_row(draft, PHAGUNDRO_KIND_CERT_REQ_ID, add_octets(draft, "\x02\x01\x00", 3), 3, 2);
+    add_row(draft, PHAGUNDRO_KIND_CERT_TEMPLATE, 0, 0, 2);
 }
 
-/* Rows that mean nothing, by themselves or behind those of a batch. */
+/* Rows that mean nothing, by themselves or after those of a batch. */
 static void any_rows(Draft *draft)
 {
     draft->count = 0;
@@ -515,33 +430,35 @@ static void any_rows(Draft *draft)
         open_request(draft);
     for (size_t left_over = below(chance(10) ? 2000 : 6); left_over > 0; left_over--) {
         size_t i = rows(draft), whole = below(8), first = below(draft->length + 1);
-        add_row(draft, i == 0 && !chance(4) ? 1 : any_kind(), first, whole, i == 0 ? chance(20) : below(i + chance(10)));
+        add_row(draft, i == 0 && !chance(4) ? PHAGUNDRO_KIND_BATCH : any_kind(), first, whole, i == 0 ? chance(20) : below(i + chance(10)));
     }
 }
 
-/* Puts a regToken of so many octets, 300 or more, into the slice. */
+/* Puts a regToken of `size` octets, 300 or more, into the slice. */
 static size_t token(Draft *draft, size_t size)
 {
     uint8_t header[] = {0x30, 0x82, (uint8_t)((size - 4) >> 8), (uint8_t)(size - 4), 0x06, 0x09, 0x2B, 0x06, 0x01, 0x05, 0x05, 0x07, 0x05,
         0x01, 0x01, 0x0C, 0x82, (uint8_t)((size - 19) >> 8), (uint8_t)(size - 19)};
-    size_t at = keep(draft, header, sizeof header);
+    size_t at = add_octets(draft, header, sizeof header);
     for (size_t i = sizeof header; i < size; i++)
-        keep(draft, "A", 1);
+        add_octets(draft, "A", 1);
     return at;
 }
 
 /* Controls that are all the same leaf, and a last one, so that the batch has a size near the longest or far past it. */
 static void long_batch(Draft *draft)
 {
-    static const size_t sizes[] = {65534, 65535, 65535, 65536, 65537, 65536 + 300, 65536 + 40000, 131071, 131072 + 500, 1 << 24};
-    size_t target = sizes[below(sizeof sizes / sizeof *sizes)] - 21, each = 2000 + below(20000), times = target / each - 1;
+    static const size_t sizes[] = {PHAGUNDRO_LONGEST - 1, PHAGUNDRO_LONGEST, PHAGUNDRO_LONGEST, PHAGUNDRO_LONGEST + 1,
+        PHAGUNDRO_LONGEST + 2, 0x10000 + 300, 0x10000 + 40000, 0x1FFFF, 0x20000 + 500, 1 << 24};
+    enum { AROUND = 21 }; /* octets of the batch beside the controls' items */
+    size_t target = sizes[below(sizeof sizes / sizeof *sizes)] - AROUND, each = 2000 + below(20000), times = target / each - 1;
     open_request(draft);
-    add_row(draft, 30, 0, 0, 2);
+    add_row(draft, PHAGUNDRO_KIND_CONTROLS, 0, 0, 2);
     size_t same = token(draft, each);
     for (size_t i = 0; i < times; i++)
-        add_row(draft, 41, same, each, 5);
+        add_row(draft, PHAGUNDRO_KIND_REG_TOKEN, same, each, 5);
     size_t last = target - times * each;
-    add_row(draft, 41, token(draft, last), last, 5);
+    add_row(draft, PHAGUNDRO_KIND_REG_TOKEN, token(draft, last), last, 5);
 }
 
 /* A free value so deep that the batch has a depth near 20. */
@@ -554,19 +471,21 @@ static void deep_leaf(Draft *draft)
         item[6 + 2 * i] = (uint8_t)(2 * (levels - 1 - i));
     }
     open_request(draft);
-    add_row(draft, 70, 0, 0, 1);
-    add_row(draft, 71, keep(draft, item, 5 + 2 * levels), 5 + 2 * levels, 5);
+    add_row(draft, PHAGUNDRO_KIND_REG_INFO, 0, 0, 1);
+    add_row(draft, PHAGUNDRO_KIND_UNKNOWN_REG_INFO, add_octets(draft, item, 5 + 2 * levels), 5 + 2 * levels, 5);
 }
 
 /* Containers inside each other. */
 static void deep_containers(Draft *draft)
 {
-    static const uint8_t kinds[] = {2, 3, 5, 14, 19, 30, 70, 74};
-    size_t depth = chance(4) ? 30000 : 10 + below(30);
+    enum { VERY_DEEP = 30000 };
+    static const uint8_t nested[] = {PHAGUNDRO_KIND_MESSAGE, PHAGUNDRO_KIND_CERT_REQ, PHAGUNDRO_KIND_CERT_TEMPLATE, PHAGUNDRO_KIND_VALIDITY,
+        PHAGUNDRO_KIND_EXTENSIONS, PHAGUNDRO_KIND_CONTROLS, PHAGUNDRO_KIND_REG_INFO, PHAGUNDRO_KIND_REG_INFO_CERT_REQ};
+    size_t depth = chance(4) ? VERY_DEEP : 10 + below(30);
     draft->count = 0;
-    add_row(draft, 1, 0, 0, 0);
+    add_row(draft, PHAGUNDRO_KIND_BATCH, 0, 0, 0);
     for (size_t i = 1; i < depth; i++)
-        add_row(draft, kinds[below(sizeof kinds)], 0, 0, i - 1);
+        add_row(draft, nested[below(sizeof nested)], 0, 0, i - 1);
 }
 
 /* As many rows as a batch can have, and more: the least messages with raVerified, over a slice of 5 bytes. */
@@ -575,14 +494,14 @@ static void many_rows(Draft *draft)
     static const size_t counts[] = {255, 256, 257, 5957, 5958, 6553, 6554, 7999};
     size_t count = counts[below(sizeof counts / sizeof *counts)];
     draft->count = draft->length = 0;
-    keep(draft, "\x02\x01\x00\x80\x00", 5);
-    add_row(draft, 1, 0, 0, 0);
+    add_octets(draft, "\x02\x01\x00\x80\x00", 5);
+    add_row(draft, PHAGUNDRO_KIND_BATCH, 0, 0, 0);
     for (size_t i = 0; i < count; i++) {
-        add_row(draft, 2, 0, 0, 0);
-        add_row(draft, 3, 0, 0, 5 * i + 1);
-        add_row(draft, 4, 0, 3, 5 * i + 2);
-        add_row(draft, 5, 0, 0, 5 * i + 2);
-        add_row(draft, 50, 3, 2, 5 * i + 1);
+        add_row(draft, PHAGUNDRO_KIND_MESSAGE, 0, 0, 0);
+        add_row(draft, PHAGUNDRO_KIND_CERT_REQ, 0, 0, 5 * i + 1);
+        add_row(draft, PHAGUNDRO_KIND_CERT_REQ_ID, 0, 3, 5 * i + 2);
+        add_row(draft, PHAGUNDRO_KIND_CERT_TEMPLATE, 0, 0, 5 * i + 2);
+        add_row(draft, PHAGUNDRO_KIND_RA_VERIFIED, 3, 2, 5 * i + 1);
     }
 }
 
@@ -592,7 +511,7 @@ static void many_empty_leaves(Draft *draft)
     static const size_t counts[] = {10, 32761, 32762, 32763, 39990};
     open_request(draft);
     for (size_t count = counts[below(sizeof counts / sizeof *counts)]; count > 0; count--)
-        add_row(draft, 10, 0, 0, 4);
+        add_row(draft, PHAGUNDRO_KIND_VERSION, 0, 0, 4);
 }
 
 /* -- The row of drafts -- */
@@ -623,7 +542,7 @@ const DraftSort draft_sorts[DRAFT_SORTS] = {
     {"a certReqId of 8 to 10 octets", OPEN, 15, longer_id},
     {"the slice cut", OPEN, 30, slice_cut},
     {"place and length wrap", NO_BATCH, 30, wrapping},
-    {"no multiple of four numbers", NO_BATCH, 15, ragged},
+    {"no multiple of a row's numbers", NO_BATCH, 15, ragged},
     {"no numbers", NO_BATCH, 2, none},
     {"any rows", OPEN, 30, any_rows},
     {"near or past the longest", OPEN, 4, long_batch},
@@ -656,6 +575,6 @@ void drafts_next(Draft *draft)
     draft->count = WIDTH * source->count;
     memcpy(draft->numbers, source->numbers, draft->count * sizeof(size_t));
     draft->length = 0;
-    keep(draft, source->bytes, source->length);
+    add_octets(draft, source->bytes, source->length);
     draft_sorts[draft->sort].make(draft);
 }

@@ -2,10 +2,12 @@
 #ifndef DRAFTS_H
 #define DRAFTS_H
 
+#include "../../include/phagundro.h"
+
 #include <stddef.h>
 #include <stdint.h>
 
-enum { DRAFT_NUMBERS = 4 * 40000, SLICE_ROOM = 150000 };
+enum { DRAFT_NUMBERS = PHAGUNDRO_ROW_NUMBERS * 40000, SLICE_ROOM = 150000 };
 
 typedef struct {
     size_t sort; /* which of draft_sorts */

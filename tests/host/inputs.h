@@ -2,6 +2,7 @@
 #ifndef INPUTS_H
 #define INPUTS_H
 
+#include <stdbool.h>
 #include <stddef.h>
 #include <stdint.h>
 
@@ -9,12 +10,9 @@ enum { INPUT_ROOM = 70000 }; /* bytes of the longest input */
 
 /* Starts the row of inputs that belongs to the seed. The files are read, and each is among the inputs as it is and damaged. Answers
  * whether all could be read. */
-int inputs_start(uint64_t seed, int files, char **paths);
+bool inputs_start(uint64_t seed, int files, char **paths);
 
 /* Writes the next input and answers its length. */
 size_t inputs_next(uint8_t *input);
-
-/* A number below n from the row of random numbers. */
-size_t inputs_below(size_t n);
 
 #endif

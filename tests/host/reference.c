@@ -1,158 +1,16 @@
 /* The reading of a batch by document 01: one function for each construct of its grammar, which takes the elements inside from left to
- * right, judges each before the next, and says where it stops. */
+ * right, judges each before the next, and says where it stops. Identifiers are in hex, as the paper writes them. */
 #include "reference.h"
 
-#include <stdbool.h>
+#include "paper.h"
+#include "reference_nest.h"
+
 #include <stdlib.h>
 #include <string.h>
 
 int reference_fault = 0;
 
-enum { LONGEST = 65535, DEEPEST = 20, LONGEST_ID = 8, WIDTH = 4, MOST_ROWS = LONGEST / 2 + 1 };
 #define NOWHERE SIZE_MAX
-
-/* -- The nest of elements -- */
-
-typedef struct {
-    uint8_t id;
-    size_t at, inside, end; /* its first byte, its content's first byte, and what is behind it */
-} Element;
-
-static bool identifier_allowed(uint8_t id)
-{
-    unsigned tag = id & 0x1F;
-    bool constructed = id & 0x20;
-    if (tag == 31)
-        return false;
-    if (id >> 6 != 0)
-        return true;
-    if (constructed)
-        return tag == 16 || tag == 17;
-    return (tag >= 1 && tag <= 6) || tag == 10 || tag == 12 || (tag >= 18 && tag <= 28) || tag == 30;
-}
-
-/* Reads the identifier and length of the element at `at`, whose parent ends at `end`: 0, or what is wrong of 2, 3 and 4. */
-static int header(const uint8_t *bytes, size_t at, size_t end, Element *element)
-{
-    size_t next = at, length = 0;
-    element->at = at;
-    if (next == end)
-        return 2;
-    element->id = bytes[next++];
-    if (!identifier_allowed(element->id))
-        return 3;
-    if (next == end)
-        return 2;
-    uint8_t first = bytes[next++];
-    if (first == 0x80 || first == 0xFF)
-        return 4;
-    if (first < 0x80) {
-        length = first;
-    } else {
-        size_t octets = first & 0x7F;
-        if (end - next < octets)
-            return 2;
-        if (bytes[next] == 0 || (octets == 1 && bytes[next] < 0x80))
-            return 4;
-        for (size_t i = 0; i < octets; i++)
-            length = length > LONGEST ? length : length << 8 | bytes[next + i];
-        next += octets;
-    }
-    if (end - next < length)
-        return 2;
-    element->inside = next;
-    element->end = next + length;
-    return 0;
-}
-
-static bool integer_holds(const uint8_t *content, size_t size)
-{
-    if (size == 0)
-        return false;
-    if (size == 1)
-        return true;
-    return !(content[0] == 0x00 && content[1] < 0x80) && !(content[0] == 0xFF && content[1] >= 0x80);
-}
-
-static bool boolean_holds(const uint8_t *content, size_t size)
-{
-    return size == 1 && (content[0] == 0x00 || content[0] == 0xFF);
-}
-
-static bool bits_hold(const uint8_t *content, size_t size)
-{
-    if (size == 0 || content[0] > 7)
-        return false;
-    if (size == 1)
-        return content[0] == 0;
-    return content[size - 1] % (1u << content[0]) == 0;
-}
-
-static bool object_identifier_holds(const uint8_t *content, size_t size)
-{
-    bool starts = true; /* whether the next octet is the first of a part */
-    for (size_t i = 0; i < size; i++) {
-        if (starts && content[i] == 0x80)
-            return false;
-        starts = content[i] < 0x80;
-    }
-    return size > 0 && starts;
-}
-
-/* RFC 3629 by what it is for: each sequence gives a character's number, in the fewest octets, that is no surrogate and at most 10FFFF. */
-static bool utf8_holds(const uint8_t *content, size_t size)
-{
-    for (size_t i = 0; i < size;) {
-        uint8_t lead = content[i++];
-        int more = lead < 0x80 ? 0 : lead >> 5 == 6 ? 1 : lead >> 4 == 14 ? 2 : lead >> 3 == 30 ? 3 : -1;
-        static const uint32_t least[] = {0, 0x80, 0x800, 0x10000};
-        if (more < 0)
-            return false;
-        uint32_t number = more == 0 ? lead : lead & (0x3Fu >> more);
-        for (int k = 0; k < more; k++, i++) {
-            if (i == size || content[i] >> 6 != 2)
-                return false;
-            number = number << 6 | (content[i] & 0x3F);
-        }
-        if (number < least[more] || number > 0x10FFFF || (number >= 0xD800 && number <= 0xDFFF))
-            return false;
-    }
-    return true;
-}
-
-static bool content_holds(uint8_t id, const uint8_t *content, size_t size)
-{
-    switch (id) {
-    case 0x01: return boolean_holds(content, size);
-    case 0x02: return integer_holds(content, size);
-    case 0x03: return bits_hold(content, size);
-    case 0x05: return size == 0;
-    case 0x06: return object_identifier_holds(content, size);
-    case 0x0A: return integer_holds(content, size);
-    case 0x0C: return utf8_holds(content, size);
-    default: return true;
-    }
-}
-
-/* Judges the element at `at` and all that is inside: 0, or the first fault's number with its place. */
-static int nest(const uint8_t *bytes, size_t at, size_t end, int depth, Element *element, size_t *place)
-{
-    *place = at;
-    if (depth > DEEPEST)
-        return 6;
-    int fault = header(bytes, at, end, element);
-    if (fault)
-        return fault;
-    if (!(element->id & 0x20))
-        return content_holds(element->id, bytes + element->inside, element->end - element->inside) ? 0 : 5;
-    Element inner;
-    for (size_t next = element->inside; next < element->end; next = inner.end) {
-        fault = nest(bytes, next, element->end, depth + 1, &inner, place);
-        if (fault)
-            return fault;
-    }
-    return 0;
-}
 
 /* -- Taking the parts of a container -- */
 
@@ -164,7 +22,7 @@ typedef struct {
     size_t long_id;    /* the first certReqId that is too long, or NOWHERE */
     size_t count;
     bool silent;       /* rows are not kept: of a planted fault */
-    size_t rows[MOST_ROWS][WIDTH];
+    size_t rows[MOST_ROWS][ROW_NUMBERS];
 } Walk;
 
 typedef struct {
@@ -196,7 +54,7 @@ static bool ahead(const Walk *walk, const Parts *parts, uint8_t id)
 static Element take(const Walk *walk, Parts *parts)
 {
     Element element;
-    if (header(walk->bytes, parts->next, parts->end, &element) != 0)
+    if (header(walk->bytes, parts->next, parts->end, &element) != ACCEPTED)
         abort(); /* the nest was found sound */
     parts->next = element.end;
     return element;
@@ -256,10 +114,10 @@ static size_t row(Walk *walk, size_t kind, Element element, size_t parent)
     if (walk->silent)
         return 0;
     size_t *numbers = walk->rows[walk->count];
-    numbers[0] = kind;
-    numbers[1] = element.at;
-    numbers[2] = element.end - element.at;
-    numbers[3] = parent;
+    numbers[ROW_KIND] = kind;
+    numbers[ROW_FIRST] = element.at;
+    numbers[ROW_LENGTH] = element.end - element.at;
+    numbers[ROW_PARENT] = parent;
     return walk->count++;
 }
 
@@ -385,7 +243,7 @@ static int two_digits(const uint8_t *text)
     return 10 * (text[0] - '0') + (text[1] - '0');
 }
 
-/* YYMMDDHHMMSSZ or YYYYMMDDHHMMSSZ, with so many digits of the year. */
+/* YYMMDDHHMMSSZ or YYYYMMDDHHMMSSZ, with 2 or 4 digits of the year. */
 static bool is_time(const uint8_t *text, size_t size, size_t year_digits)
 {
     if (size != year_digits + 11 || text[size - 1] != 'Z')
@@ -427,7 +285,7 @@ static bool validity(Walk *walk, Element whole, size_t self)
         if (!ahead(walk, &parts, 0xA0 + tag))
             continue;
         Element limit = take(walk, &parts);
-        row(walk, 20 + tag, limit, self);
+        row(walk, tag == 0 ? KIND_NOT_BEFORE : KIND_NOT_AFTER, limit, self);
         if (!tagged_time(walk, limit))
             return false;
     }
@@ -441,7 +299,7 @@ static bool extensions(Walk *walk, Element whole, size_t self)
         Element one;
         if (!need(walk, &parts, 0x30, &one))
             return false;
-        row(walk, 22, one, self);
+        row(walk, KIND_EXTENSION, one, self);
         if (!extension(walk, one))
             return false;
     } while (more(&parts));
@@ -451,27 +309,27 @@ static bool extensions(Walk *walk, Element whole, size_t self)
 static bool template_field(Walk *walk, int tag, Element field, size_t self)
 {
     switch (tag) {
-    case 0: case 1: return holds(walk, field, integer_holds);
-    case 2: return alg_id(walk, field);
-    case 3: return tagged_name(walk, field);
-    case 4: return validity(walk, field, self);
-    case 5: return reference_fault == SUBJECT_IS_NAME ? name(walk, field) : tagged_name(walk, field);
-    case 6: return spki(walk, field);
-    case 7: case 8: return holds(walk, field, bits_hold);
+    case TAG_VERSION: case TAG_SERIAL_NUMBER: return holds(walk, field, integer_holds);
+    case TAG_SIGNING_ALG: return alg_id(walk, field);
+    case TAG_ISSUER: return tagged_name(walk, field);
+    case TAG_VALIDITY: return validity(walk, field, self);
+    case TAG_SUBJECT: return reference_fault == SUBJECT_IS_NAME ? name(walk, field) : tagged_name(walk, field);
+    case TAG_PUBLIC_KEY: return spki(walk, field);
+    case TAG_ISSUER_UID: case TAG_SUBJECT_UID: return holds(walk, field, bits_hold);
     default: return extensions(walk, field, self);
     }
 }
 
 static bool template(Walk *walk, Element whole, size_t parent)
 {
-    static const uint8_t ids[] = {0x80, 0x81, 0xA2, 0xA3, 0xA4, 0xA5, 0xA6, 0x87, 0x88, 0xA9};
-    size_t self = row(walk, 5, whole, parent);
+    static const uint8_t ids[TEMPLATE_TAGS] = {0x80, 0x81, 0xA2, 0xA3, 0xA4, 0xA5, 0xA6, 0x87, 0x88, 0xA9};
+    size_t self = row(walk, KIND_CERT_TEMPLATE, whole, parent);
     Parts parts = inside(whole);
-    for (int tag = 0; tag < 10; tag++) {
+    for (int tag = 0; tag < TEMPLATE_TAGS; tag++) {
         if (!ahead(walk, &parts, ids[tag]))
             continue;
         Element field = take(walk, &parts);
-        if (!template_field(walk, tag, field, row(walk, 10 + (size_t)tag, field, self)))
+        if (!template_field(walk, tag, field, row(walk, KIND_TEMPLATE_FIELD + (size_t)tag, field, self)))
             return false;
     }
     return done(walk, &parts);
@@ -488,7 +346,7 @@ static bool publication(Walk *walk, Element whole)
         return false;
     if (general_name_ahead(walk, &parts)) {
         bool dont_care = content_of(walk, method)[0] == 0;
-        if (dont_care && walk->edition == 2)
+        if (dont_care && walk->edition == EDITION_2)
             return unfit(walk, &parts);
         Element location = take(walk, &parts);
         if (dont_care)
@@ -534,24 +392,24 @@ static bool old_cert(Walk *walk, Element whole)
     return general_name(walk, &parts) && need(walk, &parts, 0x02, &serial) && done(walk, &parts);
 }
 
-/* The value of control n. */
+/* The value of a control by the last octet of its type. */
 static bool control_value(Walk *walk, uint8_t n, Parts *item)
 {
     Element value;
     switch (n) {
-    case 1: case 2:
+    case REG_TOKEN: case AUTHENTICATOR:
         return need(walk, item, 0x0C, &value);
-    case 3:
+    case PKI_PUBLICATION_INFO:
         return need(walk, item, 0x30, &value) && publication_info(walk, value);
-    case 4:
+    case PKI_ARCHIVE_OPTIONS:
         if (ahead(walk, item, 0xA0))
             return encrypted_key(walk, take(walk, item));
         if (ahead(walk, item, 0x82))
             return holds(walk, take(walk, item), boolean_holds);
         return need(walk, item, 0x81, &value);
-    case 5:
+    case OLD_CERT_ID:
         return need(walk, item, 0x30, &value) && old_cert(walk, value);
-    case 6:
+    case PROTOCOL_ENCR_KEY:
         return need(walk, item, 0x30, &value) && spki(walk, value);
     default:
         return need_any(walk, item, &value);
@@ -570,7 +428,7 @@ static uint8_t known(const Walk *walk, Element type, uint8_t arc, uint8_t most)
 
 static bool controls(Walk *walk, Element whole, size_t parent)
 {
-    size_t self = row(walk, 30, whole, parent);
+    size_t self = row(walk, KIND_CONTROLS, whole, parent);
     Parts parts = inside(whole);
     do {
         Element item, type;
@@ -579,8 +437,8 @@ static bool controls(Walk *walk, Element whole, size_t parent)
         Parts two = inside(item);
         if (!need(walk, &two, 0x06, &type))
             return false;
-        uint8_t n = known(walk, type, 0x01, 6);
-        row(walk, n ? 40u + n : 31u, item, self);
+        uint8_t n = known(walk, type, 0x01, PROTOCOL_ENCR_KEY);
+        row(walk, n ? KIND_CONTROL + (size_t)n : KIND_UNKNOWN_CONTROL, item, self);
         if (!control_value(walk, n, &two) || !done(walk, &two))
             return false;
     } while (more(&parts));
@@ -589,12 +447,12 @@ static bool controls(Walk *walk, Element whole, size_t parent)
 
 static bool cert_req(Walk *walk, Element whole, size_t parent, bool carried)
 {
-    size_t self = row(walk, 3, whole, parent);
+    size_t self = row(walk, KIND_CERT_REQ, whole, parent);
     Parts parts = inside(whole);
     Element id, part;
     if (!need(walk, &parts, 0x02, &id))
         return false;
-    row(walk, 4, id, self);
+    row(walk, KIND_CERT_REQ_ID, id, self);
     if (size_of(id) > LONGEST_ID && walk->long_id == NOWHERE && !(carried && reference_fault == OWN_IDS))
         walk->long_id = id.at;
     if (!need(walk, &parts, 0x30, &part) || !template(walk, part, self))
@@ -608,16 +466,16 @@ static bool cert_req(Walk *walk, Element whole, size_t parent, bool carried)
 static bool pairs(Walk *walk, Parts *item, Element whole, size_t parent)
 {
     Element value;
-    if (!need(walk, item, walk->edition == 1 ? 0x04 : 0x0C, &value))
+    if (!need(walk, item, walk->edition == EDITION_1 ? 0x04 : 0x0C, &value))
         return false;
-    row(walk, walk->edition == 1 ? 72 : 73, whole, parent);
+    row(walk, walk->edition == EDITION_1 ? KIND_OCTET_PAIRS : KIND_UTF8_PAIRS, whole, parent);
     alone(walk, value);
     return true;
 }
 
 static bool reg_info(Walk *walk, Element whole, size_t parent)
 {
-    size_t self = row(walk, 70, whole, parent);
+    size_t self = row(walk, KIND_REG_INFO, whole, parent);
     Parts parts = inside(whole);
     do {
         Element item, type, value;
@@ -626,17 +484,17 @@ static bool reg_info(Walk *walk, Element whole, size_t parent)
         Parts two = inside(item);
         if (!need(walk, &two, 0x06, &type))
             return false;
-        switch (known(walk, type, 0x02, 2)) {
-        case 1:
+        switch (known(walk, type, 0x02, CARRIED_CERT_REQ)) {
+        case PAIRS:
             if (!pairs(walk, &two, item, self))
                 return false;
             break;
-        case 2:
-            if (!need(walk, &two, 0x30, &value) || !cert_req(walk, value, row(walk, 74, item, self), true))
+        case CARRIED_CERT_REQ:
+            if (!need(walk, &two, 0x30, &value) || !cert_req(walk, value, row(walk, KIND_REG_INFO_CERT_REQ, item, self), true))
                 return false;
             break;
         default:
-            row(walk, 71, item, self);
+            row(walk, KIND_UNKNOWN_REG_INFO, item, self);
             if (!need_any(walk, &two, &value))
                 return false;
         }
@@ -666,19 +524,19 @@ static bool poposk_input(Walk *walk, Element whole)
 
 static bool signature(Walk *walk, Element whole, size_t parent)
 {
-    size_t self = row(walk, 51, whole, parent);
+    size_t self = row(walk, KIND_SIGNATURE, whole, parent);
     Parts parts = inside(whole);
     if (ahead(walk, &parts, 0xA0)) {
         Element input = take(walk, &parts);
-        row(walk, 54, input, self);
+        row(walk, KIND_POPOSK_INPUT, input, self);
         if (!poposk_input(walk, input))
             return false;
     }
     Element alg, bits;
     if (!alg_and_bits(walk, &parts, &alg, &bits))
         return false;
-    row(walk, 55, alg, self);
-    row(walk, 56, bits, self);
+    row(walk, KIND_SIGNATURE_ALGORITHM, alg, self);
+    row(walk, KIND_SIGNATURE_BITS, bits, self);
     return true;
 }
 
@@ -689,10 +547,10 @@ static bool key_proof(Walk *walk, size_t kind, Element whole, size_t parent)
     Parts parts = inside(whole);
     bool old = ahead(walk, &parts, 0x80) || ahead(walk, &parts, 0x81) || ahead(walk, &parts, 0x82);
     bool new = ahead(walk, &parts, 0xA3) || ahead(walk, &parts, 0xA4);
-    if (!old && !(new && walk->edition == 2))
+    if (!old && !(new && walk->edition == EDITION_2))
         return unfit(walk, &parts);
     Element choice = take(walk, &parts);
-    row(walk, 60 + (choice.id & 0x1Fu), choice, self);
+    row(walk, KIND_CHOICE + (choice.id & 0x1Fu), choice, self);
     if (new)
         alone(walk, choice);
     bool judged = true;
@@ -709,12 +567,12 @@ static bool proof(Walk *walk, Element whole, size_t parent)
 {
     switch (whole.id) {
     case 0x80:
-        row(walk, 50, whole, parent);
+        row(walk, KIND_RA_VERIFIED, whole, parent);
         return size_of(whole) == 0 || stop(walk, whole.at);
     case 0xA1:
         return signature(walk, whole, parent);
     default:
-        return key_proof(walk, whole.id == 0xA2 ? 52 : 53, whole, parent);
+        return key_proof(walk, whole.id == 0xA2 ? KIND_KEY_ENCIPHERMENT : KIND_KEY_AGREEMENT, whole, parent);
     }
 }
 
@@ -722,7 +580,7 @@ static bool proof(Walk *walk, Element whole, size_t parent)
 
 static bool message(Walk *walk, Element whole, size_t parent)
 {
-    size_t self = row(walk, 2, whole, parent);
+    size_t self = row(walk, KIND_MESSAGE, whole, parent);
     Parts parts = inside(whole);
     Element request;
     if (!need(walk, &parts, 0x30, &request) || !cert_req(walk, request, self, false))
@@ -745,7 +603,7 @@ static bool batch(Walk *walk, const uint8_t *bytes, Element whole, size_t editio
     walk->silent = false;
     if (whole.id != 0x30)
         return stop(walk, whole.at);
-    size_t self = row(walk, 1, whole, 0);
+    size_t self = row(walk, KIND_BATCH, whole, 0);
     Parts parts = inside(whole);
     size_t messages = 0;
     do {
@@ -770,21 +628,24 @@ reference_answer reference_read(size_t edition, const uint8_t *bytes, size_t len
     static Walk own, opposite;
     Element whole;
     size_t place;
-    if (edition != 1 && edition != 2)
-        return refused(13, 0);
+    if (edition != EDITION_1 && edition != EDITION_2)
+        return refused(UNKNOWN_EDITION, 0);
     if (length > LONGEST)
-        return refused(1, 0);
+        return refused(TOO_LONG, 0);
     int fault = nest(bytes, 0, length, 1, &whole, &place);
-    if (fault)
+    if (fault != ACCEPTED)
         return refused(fault, place);
     if (whole.end < length)
-        return refused(7, whole.end);
-    if (!batch(&own, bytes, whole, edition))
-        return batch(&opposite, bytes, whole, 3 - edition) ? refused(9, opposite.difference) : refused(8, own.stop);
+        return refused(TRAILING_BYTES, whole.end);
+    if (!batch(&own, bytes, whole, edition)) {
+        size_t other = edition == EDITION_1 ? EDITION_2 : EDITION_1;
+        bool elsewhere = batch(&opposite, bytes, whole, other);
+        return elsewhere ? refused(OTHER_EDITION, opposite.difference) : refused(NOT_IN_GRAMMAR, own.stop);
+    }
     if (own.long_id != NOWHERE)
-        return refused(10, own.long_id);
-    if (room / WIDTH < own.count)
-        return refused(11, 0);
+        return refused(LONG_CERT_REQ_ID, own.long_id);
+    if (room / ROW_NUMBERS < own.count)
+        return refused(NO_ROOM, 0);
     memcpy(table, own.rows, own.count * sizeof own.rows[0]);
-    return (reference_answer){0, 0, own.count};
+    return (reference_answer){ACCEPTED, 0, own.count};
 }

@@ -1,4 +1,5 @@
-/* The reading, the writing, the verdict and the duplicate search by document 01, written from that paper alone, to be held against the archive. */
+/* The reading, the writing, the verdict and the duplicate search by document 01, written from that paper alone. The comparisons hold the
+ * archive against them. */
 #ifndef REFERENCE_H
 #define REFERENCE_H
 
@@ -29,21 +30,26 @@ typedef struct {
 
 reference_duplicate_answer reference_duplicates(size_t edition, const uint8_t *bytes, size_t length);
 
-/* A fault planted in them, so that the comparison can be seen to find it; 0 for none. */
+/* A fault planted in them, so that a comparison can be seen to find it; 0 for none. */
 enum {
-    SUBJECT_IS_NAME = 1,   /* template's A5 is taken as the Name itself */
-    FALSE_ACCEPTED = 2,    /* an Extension's BOOLEAN 00 is accepted */
-    LAST_DIFFERENCE = 3,   /* 9 stands at the last difference */
-    BYTE_OF_MESSAGES = 4,  /* messages are counted in a byte: the rows of those past 255 are lost */
-    OWN_IDS = 5,           /* 10 is answered for messages' own certReqIds alone */
-    LEAVES_UNCOMPARED = 6,   /* of a draft only kinds and parents are held against the batch's rows */
-    CONTAINERS_MEASURED = 7, /* a draft's containers need the lengths that they have in the batch */
-    SHORT_OUTPUT_FILLED = 8, /* an output that is too short is filled with what fits */
-    EITHER_NAMES = 9,        /* subject or publicKey alone is taken for both */
-    BYTE_OF_POSITIONS = 10,  /* a position is kept in a byte */
-    CARRIED_IDS = 11,        /* the carried certReqIds count among the messages' own */
-    LEAST_EARLIER = 12,      /* of several pairs the one with the least earlier position is answered */
-    LAST_OCTETS = 13         /* certReqIds are compared by their last octet */
+    /* in the reading */
+    SUBJECT_IS_NAME = 1,  /* the template's A5 taken as the Name itself */
+    FALSE_ACCEPTED = 2,   /* an Extension's BOOLEAN 00 accepted */
+    LAST_DIFFERENCE = 3,  /* OTHER_EDITION at the last difference instead of the first */
+    BYTE_OF_MESSAGES = 4, /* messages counted in a byte: the rows of those past 255 are lost */
+    OWN_IDS = 5,          /* LONG_CERT_REQ_ID for the messages' own certReqIds alone */
+
+    /* in the writing */
+    LEAVES_UNCOMPARED = 6,   /* a draft's leaves not compared with the batch's rows */
+    CONTAINERS_MEASURED = 7, /* the lengths of a draft's containers not ignored */
+    SHORT_OUTPUT_FILLED = 8, /* an output that is too short filled with what fits */
+
+    /* in the verdict and the duplicate search */
+    EITHER_NAMES = 9,       /* subject or publicKey alone taken for both */
+    BYTE_OF_POSITIONS = 10, /* a position kept in a byte */
+    CARRIED_IDS = 11,       /* carried certReqIds counted among the messages' own */
+    LEAST_EARLIER = 12,     /* the pair with the least earlier position */
+    LAST_OCTETS = 13        /* certReqIds compared by their last octet */
 };
 extern int reference_fault;
 

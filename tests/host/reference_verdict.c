@@ -1,35 +1,33 @@
 /* The verdict and the duplicate search by document 01, on the rows that the reading shows of a batch. */
 #include "reference.h"
 
+#include "paper.h"
+
 #include <stdbool.h>
 
-enum { WIDTH = 4, MOST_ROWS = 65535 / 2 + 1 };
-enum { KIND, FIRST, WHOLE, PARENT };
-enum { MESSAGE = 2, CERT_REQ, ID, TEMPLATE, SUBJECT = 15, PUBLIC_KEY, RA_VERIFIED = 50, SIGNATURE, ENCIPHERMENT, AGREEMENT,
-    INPUT = 54, DH_MAC = 62 };
-#define NONE SIZE_MAX /* in the place of a row's number */
+#define NONE SIZE_MAX /* instead of a row's number */
 
-static size_t rows[WIDTH * MOST_ROWS], count;
+static size_t rows[ROW_NUMBERS * MOST_ROWS], count;
 
 static reference_answer shown(size_t edition, const uint8_t *bytes, size_t length)
 {
-    reference_answer answer = reference_read(edition, bytes, length, rows, WIDTH * MOST_ROWS);
+    reference_answer answer = reference_read(edition, bytes, length, rows, ROW_NUMBERS * MOST_ROWS);
     count = answer.count;
     return answer;
 }
 
 static size_t field(size_t row, size_t which)
 {
-    return rows[WIDTH * row + which];
+    return rows[ROW_NUMBERS * row + which];
 }
 
 /* The first row of a kind that belongs to a row. */
 static size_t part(size_t kind, size_t of)
 {
     for (size_t row = of + 1; of != NONE && row < count; row++) {
-        if (field(row, FIRST) >= field(of, FIRST) + field(of, WHOLE))
-            break; /* behind what it could belong to */
-        if (field(row, KIND) == kind && field(row, PARENT) == of)
+        if (field(row, ROW_FIRST) >= field(of, ROW_FIRST) + field(of, ROW_LENGTH))
+            break; /* past what it could belong to */
+        if (field(row, ROW_KIND) == kind && field(row, ROW_PARENT) == of)
             return row;
     }
     return NONE;
@@ -46,7 +44,7 @@ static size_t message_at(size_t position)
     if (reference_fault == BYTE_OF_POSITIONS)
         position = (uint8_t)position;
     for (size_t row = 0; row < count; row++)
-        if (field(row, KIND) == MESSAGE && position-- == 0)
+        if (field(row, ROW_KIND) == KIND_MESSAGE && position-- == 0)
             return row;
     return NONE;
 }
@@ -54,40 +52,53 @@ static size_t message_at(size_t position)
 /* "subject and publicKey both in the template" */
 static bool both(size_t message)
 {
-    size_t template = part(TEMPLATE, part(CERT_REQ, message));
-    bool subject = has(SUBJECT, template), key = has(PUBLIC_KEY, template);
+    size_t template = part(KIND_CERT_TEMPLATE, part(KIND_CERT_REQ, message));
+    bool subject = has(KIND_SUBJECT, template), key = has(KIND_PUBLIC_KEY, template);
     return reference_fault == EITHER_NAMES ? subject || key : subject && key;
 }
 
 /* The verdict on the message of a row. */
 static size_t judged(size_t message)
 {
-    size_t signature = part(SIGNATURE, message), encipherment = part(ENCIPHERMENT, message), agreement = part(AGREEMENT, message);
-    bool named = both(message), input = has(INPUT, signature);
-    if (has(RA_VERIFIED, message))
-        return 1;
+    size_t signature = part(KIND_SIGNATURE, message);
+    size_t encipherment = part(KIND_KEY_ENCIPHERMENT, message), agreement = part(KIND_KEY_AGREEMENT, message);
+    bool named = both(message), input = has(KIND_POPOSK_INPUT, signature);
+    if (has(KIND_RA_VERIFIED, message))
+        return VERDICT_RA_VERIFIED;
+    if (signature != NONE && input)
+        return named ? VERDICT_OTHER_SIGNATURE : VERDICT_SIGNED_POPOSK_INPUT;
     if (signature != NONE)
-        return !input && named ? 2 : input && !named ? 3 : 4;
+        return named ? VERDICT_SIGNED_CERT_REQ : VERDICT_OTHER_SIGNATURE;
     if (encipherment != NONE)
-        return has(DH_MAC, encipherment) ? 7 : 5;
+        return has(KIND_DH_MAC, encipherment) ? VERDICT_MISPLACED_DH_MAC : VERDICT_KEY_ENCIPHERMENT;
     if (agreement != NONE)
-        return has(DH_MAC, agreement) && !named ? 7 : 6;
-    return 0;
+        return has(KIND_DH_MAC, agreement) && !named ? VERDICT_MISPLACED_DH_MAC : VERDICT_KEY_AGREEMENT;
+    return VERDICT_NO_PROOF;
+}
+
+/* The row of the element that is signed by this verdict, or NONE. */
+static size_t signed_row(size_t verdict, size_t message)
+{
+    switch (verdict) {
+    case VERDICT_SIGNED_CERT_REQ: return part(KIND_CERT_REQ, message);
+    case VERDICT_SIGNED_POPOSK_INPUT: return part(KIND_POPOSK_INPUT, part(KIND_SIGNATURE, message));
+    default: return NONE;
+    }
 }
 
 reference_verdict_answer reference_verdict(size_t edition, const uint8_t *bytes, size_t length, size_t position)
 {
     reference_answer read = shown(edition, bytes, length);
-    if (read.number != 0)
+    if (read.number != ACCEPTED)
         return (reference_verdict_answer){.number = read.number, .place = read.place};
     size_t message = message_at(position);
     if (message == NONE)
-        return (reference_verdict_answer){.number = 14};
+        return (reference_verdict_answer){.number = NO_SUCH_MESSAGE};
     reference_verdict_answer answer = {.verdict = judged(message)};
-    size_t covered = answer.verdict == 2 ? part(CERT_REQ, message) : answer.verdict == 3 ? part(INPUT, part(SIGNATURE, message)) : NONE;
+    size_t covered = signed_row(answer.verdict, message);
     if (covered != NONE) {
-        answer.from = field(covered, FIRST);
-        answer.length = field(covered, WHOLE);
+        answer.from = field(covered, ROW_FIRST);
+        answer.length = field(covered, ROW_LENGTH);
     }
     return answer;
 }
@@ -95,16 +106,19 @@ reference_verdict_answer reference_verdict(size_t edition, const uint8_t *bytes,
 /* The signed whole number that the INTEGER of a row has. */
 static int64_t number_of(size_t row, const uint8_t *bytes)
 {
-    const uint8_t *element = bytes + field(row, FIRST); /* identifier, one length octet, at most 8 octets of content */
+    const uint8_t *element = bytes + field(row, ROW_FIRST); /* identifier, one length octet, at most 8 octets of content */
     uint64_t number = element[2] >= 0x80 ? UINT64_MAX : 0;
-    for (size_t i = 2; i < field(row, WHOLE); i++)
+    for (size_t i = 2; i < field(row, ROW_LENGTH); i++)
         number = number << 8 | element[i];
     return reference_fault == LAST_OCTETS ? (int64_t)(number & 0xFF) : (int64_t)number;
 }
 
+/* Whether a row is a certReqId of a message, and not a carried one. */
 static bool counts(size_t row)
 {
-    return field(row, KIND) == ID && (reference_fault == CARRIED_IDS || field(field(field(row, PARENT), PARENT), KIND) == MESSAGE);
+    size_t holder = field(field(row, ROW_PARENT), ROW_PARENT); /* of the certReq */
+    bool own = field(holder, ROW_KIND) == KIND_MESSAGE || reference_fault == CARRIED_IDS;
+    return field(row, ROW_KIND) == KIND_CERT_REQ_ID && own;
 }
 
 static reference_duplicate_answer pair(size_t earlier, size_t later)
@@ -132,7 +146,7 @@ reference_duplicate_answer reference_duplicates(size_t edition, const uint8_t *b
     static int64_t ids[MOST_ROWS];
     size_t found = 0;
     reference_answer read = shown(edition, bytes, length);
-    if (read.number != 0)
+    if (read.number != ACCEPTED)
         return (reference_duplicate_answer){.number = read.number, .place = read.place};
     for (size_t row = 0; row < count; row++)
         if (counts(row))

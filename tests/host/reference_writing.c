@@ -2,12 +2,12 @@
  * that name it as their parent; then it is read, and what its own rows show is held against the draft. */
 #include "reference.h"
 
+#include "paper.h"
+
 #include <stdbool.h>
 #include <string.h>
 
-enum { LONGEST = 65535, DEEPEST = 20, WIDTH = 4, MOST_ROWS = LONGEST / 2 + 1 };
-enum { KIND, FIRST, WHOLE, PARENT };
-#define NOTHING SIZE_MAX /* in the place of a row's number: no batch can be built */
+#define NOTHING SIZE_MAX /* instead of a row's number: no batch can be built */
 
 typedef struct {
     const size_t *numbers;
@@ -20,19 +20,20 @@ typedef struct {
 
 static const size_t *row(const Draft *draft, size_t i)
 {
-    return draft->numbers + WIDTH * i;
+    return draft->numbers + ROW_NUMBERS * i;
 }
 
 /* The identifier of a kind of container; 0 for a leaf's. */
 static uint8_t identifier(size_t kind)
 {
     switch (kind) {
-    case 1: case 2: case 3: case 5: case 30: case 70: case 74: return 0x30;
-    case 14: return 0xA4;
-    case 19: return 0xA9;
-    case 51: return 0xA1;
-    case 52: return 0xA2;
-    case 53: return 0xA3;
+    case KIND_BATCH: case KIND_MESSAGE: case KIND_CERT_REQ: case KIND_CERT_TEMPLATE: return 0x30;
+    case KIND_CONTROLS: case KIND_REG_INFO: case KIND_REG_INFO_CERT_REQ: return 0x30;
+    case KIND_VALIDITY: return 0xA4;
+    case KIND_EXTENSIONS: return 0xA9;
+    case KIND_SIGNATURE: return 0xA1;
+    case KIND_KEY_ENCIPHERMENT: return 0xA2;
+    case KIND_KEY_AGREEMENT: return 0xA3;
     default: return 0;
     }
 }
@@ -46,7 +47,7 @@ static bool append(Draft *draft, const uint8_t *octets, size_t size)
     return true;
 }
 
-/* Puts an identifier and a shortest length before what has been appended since the batch had so many octets. */
+/* Puts an identifier and a shortest length before what has been appended since the batch had `start` octets. */
 static bool enclose(Draft *draft, size_t start, uint8_t id)
 {
     size_t size = draft->length - start, used = 0;
@@ -67,19 +68,19 @@ static bool enclose(Draft *draft, size_t start, uint8_t id)
     return true;
 }
 
-/* Appends the octets of a row and of the rows below it; answers the number of the first row behind them, or NOTHING. */
+/* Appends the octets of a row and of the rows below it; answers the number of the first row after them, or NOTHING. */
 static size_t build(Draft *draft, size_t i, int depth)
 {
     static const uint8_t carried_type[] = {0x06, 0x09, 0x2B, 0x06, 0x01, 0x05, 0x05, 0x07, 0x05, 0x02, 0x02};
-    size_t kind = row(draft, i)[KIND], first = row(draft, i)[FIRST], whole = row(draft, i)[WHOLE];
+    size_t kind = row(draft, i)[ROW_KIND], first = row(draft, i)[ROW_FIRST], whole = row(draft, i)[ROW_LENGTH];
     size_t start = draft->length, next = i + 1;
     if (identifier(kind) == 0) {
         bool within = first <= draft->slice_length && whole <= draft->slice_length - first;
         return within && append(draft, draft->slice + first, whole) ? next : NOTHING;
     }
-    if (depth > DEEPEST || (kind == 74 && !append(draft, carried_type, sizeof carried_type)))
+    if (depth > DEEPEST || (kind == KIND_REG_INFO_CERT_REQ && !append(draft, carried_type, sizeof carried_type)))
         return NOTHING;
-    while (next < draft->count && row(draft, next)[PARENT] == i)
+    while (next < draft->count && row(draft, next)[ROW_PARENT] == i)
         next = build(draft, next, depth + 1);
     return next != NOTHING && enclose(draft, start, identifier(kind)) ? next : NOTHING;
 }
@@ -87,26 +88,27 @@ static size_t build(Draft *draft, size_t i, int depth)
 /* Whether the batch's own row shows what the draft's row does. */
 static bool alike(const Draft *draft, const size_t *ours, const size_t *theirs)
 {
-    if (ours[KIND] != theirs[KIND] || ours[PARENT] != theirs[PARENT])
+    if (ours[ROW_KIND] != theirs[ROW_KIND] || ours[ROW_PARENT] != theirs[ROW_PARENT])
         return false;
-    if (identifier(ours[KIND]) != 0)
-        return reference_fault != CONTAINERS_MEASURED || ours[WHOLE] == theirs[WHOLE];
+    if (identifier(ours[ROW_KIND]) != 0)
+        return reference_fault != CONTAINERS_MEASURED || ours[ROW_LENGTH] == theirs[ROW_LENGTH];
     if (reference_fault == LEAVES_UNCOMPARED)
         return true;
-    return ours[WHOLE] == theirs[WHOLE] && memcmp(draft->slice + ours[FIRST], draft->batch + theirs[FIRST], ours[WHOLE]) == 0;
+    size_t length = ours[ROW_LENGTH];
+    return length == theirs[ROW_LENGTH] && memcmp(draft->slice + ours[ROW_FIRST], draft->batch + theirs[ROW_FIRST], length) == 0;
 }
 
 /* Whether the draft describes an acceptable batch, which is then built. */
 static bool describes(Draft *draft, size_t edition, size_t numbers)
 {
-    static size_t table[WIDTH * MOST_ROWS];
-    if (numbers == 0 || numbers % WIDTH != 0 || build(draft, 0, 1) != draft->count)
+    static size_t table[ROW_NUMBERS * MOST_ROWS];
+    if (numbers == 0 || numbers % ROW_NUMBERS != 0 || build(draft, 0, 1) != draft->count)
         return false;
-    reference_answer shown = reference_read(edition, draft->batch, draft->length, table, WIDTH * MOST_ROWS);
-    if (shown.number != 0 || shown.count != draft->count)
+    reference_answer shown = reference_read(edition, draft->batch, draft->length, table, ROW_NUMBERS * MOST_ROWS);
+    if (shown.number != ACCEPTED || shown.count != draft->count)
         return false;
     for (size_t i = 0; i < shown.count; i++)
-        if (!alike(draft, row(draft, i), table + WIDTH * i))
+        if (!alike(draft, row(draft, i), table + ROW_NUMBERS * i))
             return false;
     return true;
 }
@@ -121,16 +123,16 @@ reference_answer reference_write(size_t edition, const size_t *numbers, size_t c
 {
     static Draft draft;
     draft.numbers = numbers;
-    draft.count = count / WIDTH;
+    draft.count = count / ROW_NUMBERS;
     draft.slice = slice;
     draft.slice_length = length;
     draft.length = 0;
-    if (edition != 1 && edition != 2)
-        return refused(13);
+    if (edition != EDITION_1 && edition != EDITION_2)
+        return refused(UNKNOWN_EDITION);
     if (!describes(&draft, edition, count))
-        return refused(12);
+        return refused(NO_SUCH_BATCH);
     bool fits = draft.length <= room;
     if (fits || reference_fault == SHORT_OUTPUT_FILLED)
         memcpy(output, draft.batch, fits ? draft.length : room);
-    return fits ? (reference_answer){0, 0, draft.length} : refused(11);
+    return fits ? (reference_answer){ACCEPTED, 0, draft.length} : refused(NO_ROOM);
 }

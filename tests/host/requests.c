@@ -1,12 +1,12 @@
 /* A batch is written from its last octet to its first, so that each length is known when it is written. */
 #include "requests.h"
 
+#include "../../include/phagundro.h"
 #include "inputs.h"
+#include "random.h"
 
-#include <stdbool.h>
 #include <string.h>
 
-enum { LONGEST = 65535 };
 static uint8_t room[INPUT_ROOM];
 static size_t start; /* of what has been written */
 
@@ -48,7 +48,9 @@ static void id(int64_t number)
     enclose(0x02, end);
 }
 
-enum { NO_PROOF, RA_VERIFIED, SIGNED, SIGNED_INPUT, SIGNED_MAC, UNDER_KEY, SORTS = UNDER_KEY + 2 * 5 };
+/* Sorts of proofs: from UNDER_KEY on, each choice under keyEncipherment and then under keyAgreement. */
+enum { CHOICES = 5, NO_PROOF = 0, RA_VERIFIED, SIGNED, SIGNED_INPUT, SIGNED_MAC, UNDER_KEY, SORTS = UNDER_KEY + 2 * CHOICES };
+
 static const uint8_t alg[] = {0x30, 0x03, 0x06, 0x01, 0x2A}, bits[] = {0x03, 0x01, 0x00};
 
 static void key_content(void)
@@ -96,25 +98,27 @@ static void proof(size_t sort)
     if (sort == RA_VERIFIED)
         WRITE(0x80, 0x00);
     else if (sort >= UNDER_KEY)
-        key_proof((sort - UNDER_KEY) / 5 ? 0xA3 : 0xA2, (sort - UNDER_KEY) % 5);
+        key_proof((sort - UNDER_KEY) / CHOICES ? 0xA3 : 0xA2, (sort - UNDER_KEY) % CHOICES);
     else if (sort != NO_PROOF)
         signature(sort);
 }
 
-/* A template: 1 in `parts` stands for the subject, 2 for publicKey, 4 for parts beside them that look alike. */
+/* The parts of a template; NEIGHBOURS are fields beside the other two that look alike. */
+enum { SUBJECT = 1, PUBLIC_KEY = 2, NEIGHBOURS = 4, TEMPLATES = 8 };
+
 static void template(size_t parts)
 {
     size_t end = start;
-    if (parts & 4)
+    if (parts & NEIGHBOURS)
         WRITE(0x88, 0x01, 0x00);
-    if (parts & 2) {
+    if (parts & PUBLIC_KEY) {
         size_t key = start;
         key_content();
         enclose(0xA6, key);
     }
-    if (parts & 1)
+    if (parts & SUBJECT)
         WRITE(0xA5, 0x02, 0x30, 0x00);
-    if (parts & 4)
+    if (parts & NEIGHBOURS)
         WRITE(0x80, 0x01, 0x02, 0xA3, 0x02, 0x30, 0x00);
     enclose(0x30, end);
 }
@@ -131,7 +135,7 @@ static void request(int64_t number, size_t parts)
 static void carry(int64_t number)
 {
     size_t end = start;
-    request(number, 7);
+    request(number, SUBJECT | PUBLIC_KEY | NEIGHBOURS);
     WRITE(0x06, 0x09, 0x2B, 0x06, 0x01, 0x05, 0x05, 0x07, 0x05, 0x02, 0x02);
     enclose(0x30, end);
     enclose(0x30, end);
@@ -161,7 +165,7 @@ static size_t finish(uint8_t *batch)
     return sizeof room - start;
 }
 
-/* So many messages with certReqIds in ascending order from `first`, but for the last one, which has the number of the one at `same`. */
+/* Messages with certReqIds in ascending order from `first`, but for the last one, which has the number of the one at `same`. */
 static size_t in_order(uint8_t *batch, size_t messages, int64_t first, size_t same)
 {
     begin();
@@ -174,7 +178,7 @@ size_t requests_most(uint8_t *batch)
 {
     int64_t number = 0;
     begin();
-    while (sizeof room - start + 4 + 13 <= LONGEST) /* a message of at most 13 octets, and the batch's header */
+    while (sizeof room - start + 4 + 13 <= PHAGUNDRO_LONGEST) /* a message of at most 13 octets, and the batch's header */
         message(number++ - 128, 0, NO_PROOF, NULL);
     return finish(batch);
 }
@@ -185,15 +189,15 @@ static int64_t near_number(void)
     static const int64_t numbers[] = {0, 1, -1, 5, 7, 127, 128, -128, -129, 255, 256, -256, -257, 65535, 65536, 0x7FFFFFFF, 0x80000000,
         -0x80000000ll, 0xFFFFFFFF, 0x100000000, 0x100000005, INT64_MAX, INT64_MIN, INT64_MAX - 1, INT64_MIN + 1};
     size_t most = sizeof numbers / sizeof *numbers;
-    return inputs_below(8) == 0 ? (int64_t)inputs_below(1000) - 500 : numbers[inputs_below(most)];
+    return below(8) == 0 ? (int64_t)below(1000) - 500 : numbers[below(most)];
 }
 
 static size_t at_random(uint8_t *batch)
 {
     begin();
-    for (size_t left = 1 + inputs_below(8); left > 0; left--) {
+    for (size_t left = 1 + below(8); left > 0; left--) {
         int64_t carried = near_number();
-        message(near_number(), inputs_below(8), inputs_below(SORTS), inputs_below(4) == 0 ? &carried : NULL);
+        message(near_number(), below(TEMPLATES), below(SORTS), below(4) == 0 ? &carried : NULL);
     }
     return finish(batch);
 }
@@ -202,16 +206,18 @@ size_t requests_next(uint8_t *batch)
 {
     static size_t made;
     size_t n = made++;
-    if (n < 8 * SORTS) { /* each proof with each template */
+    if (n < TEMPLATES * SORTS) { /* each proof with each template */
         begin();
-        message(0, n % 8, n / 8, NULL);
+        message(0, n % TEMPLATES, n / TEMPLATES, NULL);
         return finish(batch);
     }
-    static const struct { size_t messages, same; } far_end[] = {{256, 0}, {256, 1}, {256, 254}, {256, 255}, {257, 0}, {257, 255}, {300, 43}, {2000, 0}};
-    n -= 8 * SORTS;
+    static const struct {
+        size_t messages, same;
+    } far_end[] = {{256, 0}, {256, 1}, {256, 254}, {256, 255}, {257, 0}, {257, 255}, {300, 43}, {2000, 0}};
+    n -= TEMPLATES * SORTS;
     if (n < sizeof far_end / sizeof *far_end)
         return in_order(batch, far_end[n].messages, -130, far_end[n].same);
     if (n == sizeof far_end / sizeof *far_end)
         return requests_most(batch);
-    return inputs_below(400) == 0 ? in_order(batch, 250 + inputs_below(600), -300, inputs_below(250)) : at_random(batch);
+    return below(400) == 0 ? in_order(batch, 250 + below(600), -300, below(250)) : at_random(batch);
 }

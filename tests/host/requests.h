@@ -6,7 +6,7 @@
 #include <stddef.h>
 #include <stdint.h>
 
-/* Writes the next batch and answers its length. The first ones are the same for each seed. The random numbers are those of inputs.h. */
+/* Writes the next batch and answers its length. The first ones are the same for each seed. The random numbers are those of random.h. */
 size_t requests_next(uint8_t *batch);
 
 /* The batch of as many messages as 65,535 bytes have room for, each with a certReqId of its own; its length. */

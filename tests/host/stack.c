@@ -1,12 +1,11 @@
-/* How many bytes of stack the archive's calls take, in a line: `OTHERS WRITING SEARCHING`, the most of phagundro_write, of
- * phagundro_duplicates, and before them of each other call.
+/* How many bytes of stack the archive's calls take, at most: for each of phagundro.h's names a line with the name and the bytes.
  *
  *     stack COUNT SEED FILE...
  *
- * Takes so many of the comparison's inputs, the first of which are the files and the longest, deepest and most numerous. Each call runs in a
+ * Takes COUNT of the comparison's inputs, the first of which are the files and the longest, deepest and most numerous. Each call runs in a
  * thread whose stack is marked beforehand: it took what isn't marked any more. The rows of each accepted input are written over it. */
 #define _DEFAULT_SOURCE
-#include "../../include/phagundro.h"
+#include "comparison.h"
 #include "inputs.h"
 
 #include <pthread.h>
@@ -15,10 +14,10 @@
 #include <string.h>
 #include <sys/mman.h>
 
-enum { STACK = 1 << 21, MARK = 0xA5, NUMBERS = 4 * 33000 };
+enum { STACK = 1 << 21, MARK = 0xA5 };
 
-static uint8_t input[INPUT_ROOM], output[INPUT_ROOM];
-static size_t length, edition, rows, table[NUMBERS];
+static uint8_t output[INPUT_ROOM];
+static size_t edition, rows, table[TABLE];
 static uint8_t *stack;
 
 static void *nothing(void *unused)
@@ -34,13 +33,13 @@ static void *accept_it(void *unused)
 
 static void *read_it(void *unused)
 {
-    rows = phagundro_read(edition, input, length, table, NUMBERS).count;
+    rows = phagundro_read(edition, input, length, table, TABLE).count;
     return unused;
 }
 
 static void *write_it(void *unused)
 {
-    phagundro_write(edition, table, 4 * rows, input, length, output, sizeof output);
+    phagundro_write(edition, table, PHAGUNDRO_ROW_NUMBERS * rows, input, length, output, sizeof output);
     return unused;
 }
 
@@ -74,11 +73,6 @@ static size_t taken(void *(*run)(void *))
     return STACK - left;
 }
 
-static void keep_most(size_t *most, size_t bytes)
-{
-    *most = bytes > *most ? bytes : *most;
-}
-
 int main(int count, char **words)
 {
     size_t others = 0, writing = 0, searching = 0;
@@ -89,7 +83,7 @@ int main(int count, char **words)
         return 2;
     for (size_t left = strtoull(words[1], NULL, 10); left > 0; left--) {
         length = inputs_next(input);
-        for (edition = 1; edition <= 2; edition++) {
+        for (edition = PHAGUNDRO_RFC2511; edition <= PHAGUNDRO_RFC4211; edition++) {
             keep_most(&others, taken(accept_it));
             keep_most(&others, taken(read_it));
             keep_most(&others, taken(judge_it));
@@ -99,6 +93,8 @@ int main(int count, char **words)
         }
     }
     size_t thread = taken(nothing); /* takes some itself */
-    printf("%zu %zu %zu\n", others - thread, writing - thread, searching - thread);
+    printf("PHAGUNDRO_STACK %zu\n", others - thread);
+    printf("PHAGUNDRO_STACK_DUPLICATES %zu\n", searching - thread);
+    printf("PHAGUNDRO_STACK_WRITE %zu\n", writing - thread);
     return 0;
 }

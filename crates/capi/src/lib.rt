@@ -1,4 +1,5 @@
 // The C calls, whose manual is include/phagundro.h. A slice comes as a pointer and a length.
+use der::refusal::ACCEPTED;
 use editions::reader::Answer;
 use verdict::duplicates::Duplicates;
 use verdict::verdict::Position;
@@ -9,6 +10,9 @@ ghost use Rattle.writer.specs.Writing.{writeAnswer, outputAfter};
 ghost use Rattle.verdict.specs.Verdict.{verdictAnswer};
 ghost use Rattle.verdict.specs.Duplicates.{duplicatesAnswer};
 ghost use Rattle.capi.specs.OneNumber.{oneNumber};
+
+// What is added to a refusal's number where verdicts, which are smaller, come back in the same number.
+const REFUSED: usize = 256;
 
 // Answers whether a batch is accepted in an edition: 0, or the refusal's number.
 #[no_mangle]
@@ -56,10 +60,10 @@ pub extern "C" fn phagundro_verdict_number(edition: usize, bytes: &[u8], positio
     ensures { λ r. ⌜ r ≡ oneNumber (verdictAnswer edition (now (bytes .entry)) position) ⌝ }
 {
     let found = verdict::verdict::judge(edition, bytes, Position(position));
-    if found.number == 0 {
+    if found.number == ACCEPTED {
         found.verdict
     } else {
-        256 + found.number
+        REFUSED + found.number
     }
 }
 

@@ -11,7 +11,7 @@ use mathlib.Core.Option.{Option, some, none as absent}
 use lib.ListN.{length, getElem?}
 use borrow.Author.Tests.{lt-ltb}
 use Rattle.der.specs.Tree.{Tree, none, element}
-use Rattle.crmf.specs.declared.walk.Seen.{Seen}
+use Rattle.crmf.specs.declared.tally.Tally.{Tally}
 use Rattle.crmf.specs.declared.walk.Walked.the-variants.{Passed}
 use Rattle.crmf.specs.declared.judge.Onward.the-variants.{To}
 use Rattle.crmf.specs.declared.table.Found.{Found}
@@ -29,8 +29,8 @@ use Rattle.crmf.proofs.LinesOfParts.{Stands, stands-start, starts-past,
 use Rattle.crmf.proofs.ChoicesMatch.{holds-true, true-holds, Keeps, FirstOf, matches-begin, begin-matches}
 
 -- the walk from a line on passes
-abbrev pub Accepted : (ℕ → Bool) → Seen → ℕ → ℕ → Tree → Type 0
-Accepted R s k around t = (r : Seen) × (walk R s k around t ≡ Passed r)
+abbrev pub Accepted : (ℕ → Bool) → Tally → ℕ → ℕ → Tree → Type 0
+Accepted R s k around t = (r : Tally) × (walk R s k around t ≡ Passed r)
 
 -- a place below a list's length has a name
 name-at : (ns : List Name) (w : ℕ) → w < length ns → (n : Name) × (getElem? ns w ≡ some n)
@@ -54,7 +54,7 @@ found-somewhere p q = let z : _≡_ {A = ℕ} 0 1 = cc in absurd (omega arith)
 
 module _ (R : ℕ → Bool) where
   -- An inside that the walk passes is what its form asks.
-  within-sound : (m r : Seen) (i : Inside) (first : ℕ) (inside : Tree)
+  within-sound : (m r : Tally) (i : Inside) (first : ℕ) (inside : Tree)
       → ((n : Name) → walk R m (start n) first inside ≡ Passed r → Matches R (content n) inside)
       → innerWalk R m (insideLine i) first inside ≡ Passed r → Within R i inside
   unfolding insideLine
@@ -62,9 +62,9 @@ module _ (R : ℕ → Bool) where
   within-sound m r (holds n) first inside each passed = parts (each n (sym (inner-walked R m (start n) first inside (starts-past n)) ∙ passed))
 
   -- The walk passes an inside that is what its form asks.
-  within-complete : (m : Seen) (i : Inside) (first : ℕ) (inside : Tree)
+  within-complete : (m : Tally) (i : Inside) (first : ℕ) (inside : Tree)
       → ((n : Name) → Matches R (content n) inside → Accepted R m (start n) first inside) → Within R i inside
-      → (r : Seen) × (innerWalk R m (insideLine i) first inside ≡ Passed r)
+      → (r : Tally) × (innerWalk R m (insideLine i) first inside ≡ Passed r)
   unfolding insideLine
   within-complete m free first inside each w = (m, inner-free R m 0 first inside refl)
   within-complete m (holds n) first inside each (parts w) =
@@ -72,7 +72,7 @@ module _ (R : ℕ → Bool) where
       (r, inner-walked R m (start n) first inside (starts-past n) ∙ e)
 
   -- An element that a line passes keeps the choice that the line shows.
-  keeps-sound : (m r : Seen) (x : Line) (h : Choice) (first next : ℕ) (c : List ℕ) (inside rest : Tree) → Shows h x
+  keeps-sound : (m r : Tally) (x : Line) (h : Choice) (first next : ℕ) (c : List ℕ) (inside rest : Tree) → Shows h x
       → readable R (x .mark) ≡ true → innerWalk R m (x .inside) first inside ≡ Passed r → judged (x .judge) (x .next) c ≡ To next
       → ((n : Name) → walk R m (start n) first inside ≡ Passed r → Matches R (content n) inside)
       → ((ps : List Part) → Stands next ps → Matches R ps rest) → Keeps R h c inside rest
@@ -91,7 +91,7 @@ module _ (R : ℕ → Bool) where
       record { name = n; way = there; further = further (content n) (subst (λ (k : ℕ). Stands k (content n)) place (stands-start n)) }
 
   -- The first element that a walk passes is one of the choices and keeps it.
-  first-sound : (s r : Seen) (k around id first whole : ℕ) (c : List ℕ) (inside rest : Tree) (ps : List Part) → Stands k ps
+  first-sound : (s r : Tally) (k around id first whole : ℕ) (c : List ℕ) (inside rest : Tree) (ps : List Part) → Stands k ps
       → (e : Chosen R s k around id first whole c inside rest r)
       → ((n : Name) → walk R (met (line (e .at)) first whole s) (start n) first inside ≡ Passed (e .seen) → Matches R (content n) inside)
       → ((qs : List Part) → Stands (e .next) qs → Matches R qs rest) → FirstOf R ps id c inside rest
@@ -113,7 +113,7 @@ module _ (R : ℕ → Bool) where
           }
 
   -- Soundness: where the lines of some parts stand, the parts describe what the walk passes over.
-  pub walk-sound : (t : Tree) (s r : Seen) (k around : ℕ) (ps : List Part) → Stands k ps → walk R s k around t ≡ Passed r → Matches R ps t
+  pub walk-sound : (t : Tree) (s r : Tally) (k around : ℕ) (ps : List Part) → Stands k ps → walk R s k around t ≡ Passed r → Matches R ps t
   walk-sound none s r k around ps stands passed =
       begin-matches R ps none (sym (closed-skips ps k stands) ∙ passed-none R s k around r passed .0)
   walk-sound (element id first whole c inside rest) s r k around ps stands passed =
@@ -124,10 +124,10 @@ module _ (R : ℕ → Bool) where
       (λ qs st. walk-sound rest (e .seen) r (e .next) around qs st (e .further)))
 
   -- An element that keeps the choice that its line shows is passed.
-  first-complete : (s : Seen) (k around id first whole n : ℕ) (c : List ℕ) (inside rest : Tree) (h : Choice) → seek k id ≡ At n → Shows h (line n)
-      → Keeps R h c inside rest → ((m : Seen) (a : Name) → Matches R (content a) inside → Accepted R m (start a) first inside)
-      → ((m : Seen) (j : ℕ) (ps : List Part) → Stands j ps → Matches R ps rest → Accepted R m j around rest)
-      → (r : Seen) × Chosen R s k around id first whole c inside rest r
+  first-complete : (s : Tally) (k around id first whole n : ℕ) (c : List ℕ) (inside rest : Tree) (h : Choice) → seek k id ≡ At n → Shows h (line n)
+      → Keeps R h c inside rest → ((m : Tally) (a : Name) → Matches R (content a) inside → Accepted R m (start a) first inside)
+      → ((m : Tally) (j : ℕ) (ps : List Part) → Stands j ps → Matches R ps rest → Accepted R m j around rest)
+      → (r : Tally) × Chosen R s k around id first whole c inside rest r
   first-complete s k around id first whole n c inside rest (taking f ps) found shows kept each further =
       let x = line n in
       let (m, inner) = within-complete (met x first whole s) (f .inside) first inside (each (met x first whole s)) (kept .within) in
@@ -164,7 +164,7 @@ module _ (R : ℕ → Bool) where
       )
 
   -- Completeness: where the lines of some parts stand, the walk passes over what the parts describe.
-  pub walk-complete : (t : Tree) (s : Seen) (k around : ℕ) (ps : List Part) → Stands k ps → Matches R ps t → Accepted R s k around t
+  pub walk-complete : (t : Tree) (s : Tally) (k around : ℕ) (ps : List Part) → Stands k ps → Matches R ps t → Accepted R s k around t
   walk-complete none s k around ps stands m = (s, walk-closed R s k around (closed-skips ps k stands ∙ matches-begin m))
   walk-complete (element id first whole c inside rest) s k around ps stands m =
       let b = matches-begin m in
@@ -176,16 +176,16 @@ module _ (R : ℕ → Bool) where
       (r, element-passes R s k around id first whole c inside rest r e)
 
 -- Soundness: what the walk of a container passes over is in the grammar.
-pub accepts-sound : (R : ℕ → Bool) (s r : Seen) (n : Name) (around : ℕ) (t : Tree) → walk R s (start n) around t ≡ Passed r
+pub accepts-sound : (R : ℕ → Bool) (s r : Tally) (n : Name) (around : ℕ) (t : Tree) → walk R s (start n) around t ≡ Passed r
     → Matches R (content n) t
 accepts-sound R s r n around t = walk-sound R t s r (start n) around (content n) (stands-start n)
 
 -- Completeness: what is in the grammar the walk of its container passes over.
-pub accepts-complete : (R : ℕ → Bool) (s : Seen) (n : Name) (around : ℕ) (t : Tree) → Matches R (content n) t
+pub accepts-complete : (R : ℕ → Bool) (s : Tally) (n : Name) (around : ℕ) (t : Tree) → Matches R (content n) t
     → Accepted R s (start n) around t
 accepts-complete R s n around t = walk-complete R t s (start n) around (content n) (stands-start n)
 
 -- Theorem 2: the walk accepts exactly what is in the grammar, whichever forms may be read.
-pub accepts : (R : ℕ → Bool) (s : Seen) (n : Name) (around : ℕ) (t : Tree)
-    → ((r : Seen) × (walk R s (start n) around t ≡ Passed r)) ↔ Matches R (content n) t
+pub accepts : (R : ℕ → Bool) (s : Tally) (n : Name) (around : ℕ) (t : Tree)
+    → ((r : Tally) × (walk R s (start n) around t ≡ Passed r)) ↔ Matches R (content n) t
 accepts R s n around t = (λ a. accepts-sound R s (a .0) n around t (a .1), accepts-complete R s n around t)

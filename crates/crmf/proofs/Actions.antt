@@ -1,4 +1,4 @@
--- What the action of a line says of it, for the quick walk: each law is one computed test of the table's lines. Assumes nothing.
+-- What the action of a line says of it, for the recogniser: each law is one computed test of the table's lines. Assumes nothing.
 use Prim.Native.Nat.{ℕ}
 use mathlib.Core.Bool.{Bool, true, false, not, _&&_, _||_, and-eq-true-iff, false≢true}
 use mathlib.Core.Logic.{_⊎_, inl, inr, ⊎-elim}
@@ -7,13 +7,13 @@ use native.Mathlib.Omega.{arith}
 use borrow.Author.Tests.{eqb-true, eqb-false, not-true}
 use lib.Dec.{eqb}
 use Rattle.der.specs.Identifier.{allowed, constructed}
-use Rattle.der.proofs.Laws.{ruled}
+use Rattle.der.proofs.Laws.{ruled, constructed-octet, known, known-allowed}
 use Rattle.crmf.specs.Codes as codes
 use Rattle.crmf.specs.Kinds as kinds
 use Rattle.crmf.specs.Value.{Rule, always, integer, bitString}
 use Rattle.crmf.specs.Notation.{Identifiers, octet, generalName, anything, nothing, named, Mark, both, alone, Name, AlgId, Spki, OneName, Rdn, Attribute}
 use Rattle.crmf.specs.Table.{Judge, keep, choose, Line, lines, start}
-use Rattle.crmf.specs.Packed.{judgeCode, actionOf}
+use Rattle.crmf.specs.Packed.{judgeCode, constructedBit, actionOf}
 use Rattle.crmf.specs.Walk.{line}
 use Rattle.crmf.proofs.Tests.{all, either}
 use Rattle.crmf.proofs.JudgeCodes.{same-rule, rule-range, selector-range}
@@ -38,10 +38,11 @@ unfolding computed named
 inside-constructed k id e some =
     ⊎-elim (λ p. absurd (some (eqb-true _ _ p)))
     (λ p.
-    let (a, is, fits) = one-octet (λ i. allowed i && constructed i) (line k .identifiers) p in
+    let (a, is, fits) = one-octet (λ i. known i && constructedBit i) (line k .identifiers) p in
+    let (may, made) = and-eq-true-iff _ _ .0 fits in
     let same : id ≡ a = eqb-true _ _ (ap (λ i. named i id) (sym is) ∙ e) in
-    rw same (and-eq-true-iff _ _ .0 fits))
-    (either _ _ (at-line (λ x. eqb (x .inside) 0 || one (λ i. allowed i && constructed i) (x .identifiers)) refl k))
+    rw same (known-allowed a may, constructed-octet a ∙ made))
+    (either _ _ (at-line (λ x. eqb (x .inside) 0 || one (λ i. known i && constructedBit i) (x .identifiers)) refl k))
 
 -- A line of both editions for elements of one identifier, a list's or not, whose value keeps a rule; lists have lines inside, others none.
 pub record Plain (k i : ℕ) (r : Rule) (list : Bool) : Type 0 where
@@ -84,7 +85,7 @@ judged-by r x = eqb (judgeCode (x .judge)) (judgeCode (keep r)) && common (x .ma
 
 abbrev plainly : (ℕ → Bool) → Rule → Bool → Line → Bool
 plainly f r list x =
-    (one (λ i. allowed i && (alike (constructed i) list && f i)) (x .identifiers) && alike (eqb (x .inside) 0) (not list)) && judged-by r x
+    (one (λ i. known i && (alike (constructedBit i) list && f i)) (x .identifiers) && alike (eqb (x .inside) 0) (not list)) && judged-by r x
 
 judged-right : (r : Rule) (x : Line) → judged-by r x ≡ true → (x .judge ≡ keep r) × (x .mark ≡ both)
 judged-right r x e =
@@ -96,10 +97,10 @@ plain f r list k e =
     let (head, tail) = and-eq-true-iff _ _ .0 e in
     let (o, inner) = and-eq-true-iff _ _ .0 head in
     let (j, m) = judged-right r (line k) tail in
-    let (i, is, fits) = one-octet (λ i. allowed i && (alike (constructed i) list && f i)) (line k .identifiers) o in
+    let (i, is, fits) = one-octet (λ i. known i && (alike (constructedBit i) list && f i)) (line k .identifiers) o in
     let (a, more) = and-eq-true-iff _ _ .0 fits in
     let (c, t) = and-eq-true-iff _ _ .0 more in
-    (i, record { identifier = is; may = a; lists = alike-same _ _ c; free = alike-same _ _ inner; judge = j; mark = m }, t)
+    (i, record { identifier = is; may = known-allowed i a; lists = constructed-octet i ∙ alike-same _ _ c; free = alike-same _ _ inner; judge = j; mark = m }, t)
 
 -- a test that passes at all lines of an action
 at-action : (a : ℕ) (f : Line → Bool) → all (λ x. not (eqb (actionOf x) a) || f x) lines ≡ true → (k : ℕ) → actionOf (line k) ≡ a → f (line k) ≡ true

@@ -10,8 +10,8 @@ use mathlib.Core.Option.{some}
 use lib.Dec.{eqb}
 use lib.ListN.{length, length-append}
 use Rattle.der.specs.Identifier.{constructed}
-use Rattle.der.specs.Tree.{Tree, none, element, header, encode, WellFormed}
-use Rattle.der.proofs.Laws.{header-some, encode-none, encode-length}
+use Rattle.der.specs.Tree.{Tree, none, element, header, encode, Formed, WellFormed}
+use Rattle.der.proofs.Laws.{header-some, encode-none, encode-length, well-formed-none, well-formed-deep, well-formed-element}
 use Rattle.crmf.specs.Notation.{Mark, both, alone, Inside, Part}
 use Rattle.crmf.specs.Language.{Matches, end, pass, take, choose, Within, unseen, parts, Occurrence, occurs, occurrences, occurrencesIn}
 use Rattle.crmf.specs.Walk.{line, trail}
@@ -71,13 +71,17 @@ occurs-ascend both p = tt
 occurs-ascend (alone e d) p = (omega arith, omega arith, tt)
 
 module _ (left place id first whole : ℕ) (c : List ℕ) (inside rest : Tree) (formed : WellFormed (suc left) place (element id first whole c inside rest)) where
+  -- the element by itself is well-formed
+  own : Formed place id first whole c inside (WellFormed left (place + length (header id c)) inside)
+  own = well-formed-element left place id first whole c inside rest .0 formed .0
+
   -- the elements inside a well-formed element are well-formed behind its header, and fit into its content
   formed-inside : WellFormed left (place + length (header id c)) inside × (length (encode inside) ≤ length c)
   formed-inside = go (constructed id) refl
     where
       go : (b : Bool) → constructed id ≡ b → WellFormed left (place + length (header id c)) inside × (length (encode inside) ≤ length c)
-      go true made = let (filled, inner) = formed .0 .filled made in (inner, rw (ap length filled) (omega arith))
-      go false plain = let bare = formed .0 .valued plain .0 in (rw bare tt, rw bare (omega (arith, ap length encode-none)))
+      go true made = let (filled, inner) = own .filled made in (inner, rw (ap length filled) (omega arith))
+      go false plain = let bare = own .valued plain .0 in (rw bare (well-formed-none left (place + length (header id c))), rw bare (omega (arith, ap length encode-none)))
 
   -- places at the element, inside it and behind it ascend
   element-ascends : (here inner later : List Occurrence) → Ascends first (suc first) here
@@ -86,12 +90,12 @@ module _ (left place id first whole : ℕ) (c : List ℕ) (inside rest : Tree) (
       → Ascends place (place + length (encode (element id first whole c inside rest))) (here ++ (inner ++ later))
   element-ascends here inner later at-it in-it behind =
       let h = length (header id c) in
-      let sized = formed .0 .sized in
+      let sized = own .sized in
       let size = length-append (header id c) c in
       let octet = header-some id c in
       let long = encode-length id first whole c inside rest in
       let fits = formed-inside .1 in
-      let at = formed .0 .placed in
+      let at = own .placed in
       let ends = place + length (encode (element id first whole c inside rest)) in
       ascends-append place (place + h) ends here (inner ++ later) (omega arith) (omega arith)
       (ascends-wider first (suc first) place (place + h) here (omega arith) (omega arith) at-it)
@@ -110,11 +114,11 @@ ascends-within low high j t inner = go (eqb j 0)
 -- The places of a trail ascend strictly, from the first place of the elements on and before their end.
 pub trail-ascends : (left place k : ℕ) (t : Tree) → WellFormed left place t → Ascends place (place + length (encode t)) (trail k t)
 trail-ascends left place k none formed = rw trail-end tt
-trail-ascends zero place k (element id first whole c inside rest) formed = absurd formed
+trail-ascends zero place k (element id first whole c inside rest) formed = absurd (well-formed-deep place id first whole c inside rest formed)
 trail-ascends (suc left) place k (element id first whole c inside rest) formed =
     go (way k id c inside)
     (λ j. trail-ascends left (place + length (header id c)) j inside (formed-inside left place id first whole c inside rest formed .0))
-    (λ j. trail-ascends (suc left) (place + whole) j rest (formed .1))
+    (λ j. trail-ascends (suc left) (place + whole) j rest (well-formed-element left place id first whole c inside rest .0 formed .1))
   where
     h : ℕ
     h = length (header id c)
@@ -156,15 +160,15 @@ mutual
       → Ascends place (place + length (encode t)) (occurrences m)
   occurrences-ascend end left place formed = tt
   occurrences-ascend (pass ok m) left place formed = occurrences-ascend m left place formed
-  occurrences-ascend (take f among fits read kept w m) zero place formed = absurd formed
+  occurrences-ascend (take f among fits read kept w m) zero place formed = absurd (well-formed-deep _ _ _ _ _ _ _ formed)
   occurrences-ascend (take {id = id} {first = first} {whole = whole} {c = c} {inside = inside} {rest = rest} f among fits read kept w m) (suc left) place formed =
       element-ascends left place id first whole c inside rest formed (occurs (f .mark) first) (occurrencesIn w) (occurrences m)
       (occurs-ascend (f .mark) first)
       (occurrencesIn-ascend w left (place + length (header id c)) (formed-inside left place id first whole c inside rest formed .0))
-      (occurrences-ascend m (suc left) (place + whole) (formed .1))
-  occurrences-ascend (choose n chosen m) zero place formed = absurd formed
+      (occurrences-ascend m (suc left) (place + whole) (well-formed-element left place id first whole c inside rest .0 formed .1))
+  occurrences-ascend (choose n chosen m) zero place formed = absurd (well-formed-deep _ _ _ _ _ _ _ formed)
   occurrences-ascend (choose {id = id} {first = first} {whole = whole} {c = c} {inside = inside} {rest = rest} n chosen m) (suc left) place formed =
-      behind-ascends left place id first whole c inside rest (occurrences m) formed (occurrences-ascend m (suc left) (place + whole) (formed .1))
+      behind-ascends left place id first whole c inside rest (occurrences m) formed (occurrences-ascend m (suc left) (place + whole) (well-formed-element left place id first whole c inside rest .0 formed .1))
 
   -- so do those inside an element
   pub occurrencesIn-ascend : {R : ℕ → Bool} {i : Inside} {t : Tree} (w : Within R i t) (left place : ℕ) → WellFormed left place t

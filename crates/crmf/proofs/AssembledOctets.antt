@@ -11,8 +11,8 @@ use borrow.Author.Tests.{eqb-true, eqb-false, leb-true, ltb-true, ltb-false}
 use Rattle.der.specs.Octets.{Octets}
 use Rattle.der.specs.Length.{lengthOctets}
 use Rattle.der.specs.Tree.{Tree, encode, WellFormed}
-use Rattle.der.specs.Walk.{longest}
-use Rattle.der.proofs.Laws.{octets-take, octets-drop, shortest-small, shortest-one, shortest-two}
+use Rattle.der.specs.Bounds.{longest}
+use Rattle.der.proofs.Laws.{octets-take, octets-drop, shortest-small, shortest-one, shortest-two, octets-none, octets-more, octets-append}
 use Rattle.crmf.specs.Kinds as kinds
 use Rattle.crmf.specs.Notation.{Top}
 use Rattle.crmf.specs.Grammar.{content}
@@ -23,18 +23,6 @@ use Rattle.crmf.proofs.PieceLaws.{identifier-of, implied-type, implied-
 use Rattle.crmf.proofs.Tests.{all}
 use Rattle.crmf.proofs.RowsInPlace.{noRow}
 use Rattle.crmf.proofs.RowLaws.{row-zero, row-parent, row-within}
-
--- no octets, one more, and some behind others
-octets-none : Octets []
-octets-none i = omega arith
-
-octets-more : (b : ℕ) (bs : List ℕ) → b < 256 → Octets bs → Octets (b ∷ bs)
-octets-more b bs small rest zero = small
-octets-more b bs small rest (suc i) = rest i
-
-octets-append : (us vs : List ℕ) → Octets us → Octets vs → Octets (us ++ vs)
-octets-append [] vs first rest = rest
-octets-append (u ∷ us) vs first rest = octets-more u (us ++ vs) (first 0) (octets-append us vs (λ i. first (suc i)) rest)
 
 -- a test that computes
 all-octets : (bs : List ℕ) → all (λ b. ltb b 256) bs ≡ true → Octets bs

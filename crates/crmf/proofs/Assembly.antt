@@ -10,7 +10,7 @@ use lib.ListN.{length, getD, length-append}
 use Rattle.der.specs.Identifier.{constructed}
 use Rattle.der.specs.Length.{lengthOctets}
 use Rattle.der.specs.Tree.{Tree, none, element, header, encode, WellFormed}
-use Rattle.der.proofs.Laws.{constructed-bit, header-octets, length-some, shortest-small, encode-none, encode-element}
+use Rattle.der.proofs.Laws.{constructed-bit, header-octets, length-some, shortest-small, encode-none, encode-element, well-formed-deep, well-formed-element}
 use Rattle.crmf.specs.Kinds as kinds
 use Rattle.crmf.specs.Value.{same, Selector, infoType, typeNumber, selected}
 use Rattle.crmf.specs.Notation.{among, named, Name, Top, Inside, Form, Occurs, once, optional, repeated, Part, part}
@@ -305,18 +305,19 @@ mutual
       → shows ps ≡ true → up < n → Tiled n up (pieces m n up around) (encode t)
   tiled end left q wf n up around test below = rw encode-none (tiled-none n up)
   tiled (pass {o = o} {fs = fs} {ps = ps} ok m) left q wf n up around test below = tiled m left q wf n up around (shown-part o fs ps test .past) below
-  tiled (take f among fits read kept w m) zero q wf n up around test below = absurd wf
+  tiled (take f among fits read kept w m) zero q wf n up around test below = absurd (well-formed-deep _ _ _ _ _ _ _ wf)
   tiled (take {o = o} {fs = fs} {ps = ps} {id = id} {first = p} {whole = size} {c = c} {inside = inside} {rest = rest} f among fits read kept w m)
       (suc left) q wf n up around test below =
       let shown = shown-part o fs ps test in
+      let formed = well-formed-element left q id p size c inside rest .0 wf in
       let octets = header id c ++ c in
       let deeper = q + length (header id c) in
-      rw (encode-element id p size c inside rest) (element-tiled f id c inside (λ j u. piecesIn w j u octets) n up around fits (λ con. wf .0 .filled con .0)
-      (λ on con. tiled-in w left deeper (wf .0 .filled con .1) (suc n) n octets on (omega arith))
+      rw (encode-element id p size c inside rest) (element-tiled f id c inside (λ j u. piecesIn w j u octets) n up around fits (λ con. formed .0 .filled con .0)
+      (λ on con. tiled-in w left deeper (formed .0 .filled con .1) (suc n) n octets on (omega arith))
       (λ silent. quiet-inside 8 w (suc n) n octets silent)
-      (λ on con same. rw same (items-in w left deeper (wf .0 .filled con .1) n up c on (wf .0 .filled con .0) below))
+      (λ on con same. rw same (items-in w left deeper (formed .0 .filled con .1) n up c on (formed .0 .filled con .0) below))
       (λ j. pieces m j up around) (encode rest)
-      (λ j low. tiled m (suc left) (q + size) (wf .1) j up around (shown .behind-form) low) below (shown .form among))
+      (λ j low. tiled m (suc left) (q + size) (formed .1) j up around (shown .behind-form) low) below (shown .form among))
   tiled (choose name way m) left q wf n up around test below = never-both false test refl
 
   tiled-in : {R : ℕ → Bool} {i : Inside} {t : Tree} (w : Within R i t) (left q : ℕ) → WellFormed left q t → (n up : ℕ) (around : List ℕ)
@@ -335,10 +336,10 @@ mutual
   item-tiled end left q wf n up c test filled below = never-both false test refl
   item-tiled (pass ok m) left q wf n up c test filled below = never-both false test refl
   item-tiled (take f among fits read kept w m) left q wf n up c test filled below = never-both false test refl
-  item-tiled (choose name way m) zero q wf n up c test filled below = absurd wf
+  item-tiled (choose name way m) zero q wf n up c test filled below = absurd (well-formed-deep _ _ _ _ _ _ _ wf)
   item-tiled (choose {s = s} {names = ns} {ps = ps} {id = id} {first = p} {whole = w} {c = d} {inside = i} {rest = rest} name way m) (suc left) q wf n up c test filled below =
       let (six, valued) = item-says id (selected s d) s ns ps name test way in
-      value-tiled m (suc left) (q + w) (wf .1) n up (header 0x30 c ++ c) s (selected s d) valued below (element-two 0x30 c)
+      value-tiled m (suc left) (q + w) (well-formed-element left q id p w d i rest .0 wf .1) n up (header 0x30 c ++ c) s (selected s d) valued below (element-two 0x30 c)
       (λ info two. carried-octets d c p w i rest (rw info at two) (rw six at filled))
 
   value-tiled : {R : ℕ → Bool} {ps : List Part} {t : Tree} (m : Matches R ps t) (left q : ℕ) → WellFormed left q t → (n up : ℕ) (around : List ℕ)
@@ -348,14 +349,15 @@ mutual
   value-tiled (pass {o = o} {fs = fs} {ps = ps} ok m) left q wf n up around s i test below two carries =
       let no-pass : passable o ≡ false = value-alone s i o fs ps test .0 in
       never-both (passable o) (holds-true (passable o) ok) no-pass
-  value-tiled (take f among fits read kept w m) zero q wf n up around s i test below two carries = absurd wf
+  value-tiled (take f among fits read kept w m) zero q wf n up around s i test below two carries = absurd (well-formed-deep _ _ _ _ _ _ _ wf)
   value-tiled (take {o = o} {fs = fs} {ps = ps} {id = id} {first = p} {whole = size} {c = c} {inside = inside} {rest = rest} f among fits read kept w m)
       (suc left) q wf n up around s i test below two carries =
       let alone = value-alone s i o fs ps test in
+      let one = well-formed-element left q id p size c inside rest .0 wf .0 in
       let last = nothing-left m (alone .1) in
       value-form f id c inside rest (λ j u. piecesIn w j u (header id c ++ c)) (λ j. pieces m j up around) n up around s i p size below two fits
-      (last .0) (λ j. last .1 j up around) (λ con. wf .0 .filled con .0)
-      (λ on con. tiled-in w left (q + length (header id c)) (wf .0 .filled con .1) (suc (suc n)) (suc n) (header id c ++ c) on (omega arith))
+      (last .0) (λ j. last .1 j up around) (λ con. one .filled con .0)
+      (λ on con. tiled-in w left (q + length (header id c)) (one .filled con .1) (suc (suc n)) (suc n) (header id c ++ c) on (omega arith))
       (λ silent. quiet-inside 8 w (suc n) n (header id c ++ c) silent) carries
       (form-valued s i f (forms-at (valueForm s i) among (alone .2)))
   value-tiled (choose name way m) left q wf n up around s i test below two carries = never-both false test refl
@@ -386,19 +388,20 @@ batch-together : {R : ℕ → Bool} {t : Tree} (m : Matches R (part once (batchF
     → Together (pieces m 0 0 []) (encode t)
 unfolding pieces isOctet
 batch-together (pass ok m) left wf = absurd ok
-batch-together (take f among fits read kept w m) zero wf = absurd wf
+batch-together (take f among fits read kept w m) zero wf = absurd (well-formed-deep _ _ _ _ _ _ _ wf)
 batch-together (take {id = id} {first = p} {whole = size} {c = c} {inside = inside} {rest = rest} f among fits read kept w m) (suc left) wf =
+    let one = well-formed-element left 0 id p size c inside rest .0 wf .0 in
     let os = header id c ++ c in
     let same = only-form among in
     let is = only-octet (f .identifiers) 0x30 id (ap (λ (g : Form). isOctet (g .identifiers) 0x30) same) fits in
     let con : constructed id ≡ true = rw is (constructed-bit 0x30 refl) in
     let last = nothing-left m refl in
     let on : showingIn (f .inside) ≡ true = ap (λ (g : Form). showingIn (g .inside)) same ∙ batch-shown in
-    let below = tiled-in w left (0 + length (header id c)) (wf .0 .filled con .1) 1 0 os on (omega arith) in
+    let below = tiled-in w left (0 + length (header id c)) (one .filled con .1) 1 0 os on (omega arith) in
     let octets : encode (element id p size c inside rest) ≡ os =
     encode-element id p size c inside rest ∙ ap (λ (l : List ℕ). os ++ l) (ap encode (last .0) ∙ encode-none) ∙ append-nil os in
     rw octets (subst (λ (g : Form). Together (onePieces (g .kind) (g .item) os (λ j u. piecesIn w j u os) (λ j. pieces m j 0 []) 0 0 []) os) (sym same)
-    (one-together id c inside (λ j u. piecesIn w j u os) (λ j. pieces m j 0 []) is (wf .0 .filled con .0) below (λ j. last .1 j 0 [])))
+    (one-together id c inside (λ j u. piecesIn w j u os) (λ j. pieces m j 0 []) is (one .filled con .0) below (λ j. last .1 j 0 [])))
 
 -- An accepted batch is the assembly of its pieces; each has two octets of its own, and none is longer than the batch.
 pub together : {R : ℕ → Bool} {t : Tree} (m : Matches R (content Top) t) (left : ℕ) → WellFormed left 0 t → Together (pieces m 0 0 []) (encode t)

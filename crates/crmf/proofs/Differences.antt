@@ -8,7 +8,7 @@ use mathlib.Core.Option.{none}
 use lib.Dec.{eqb}
 use borrow.Author.Tests.{eqb-true}
 use Rattle.der.specs.Tree.{Tree}
-use Rattle.crmf.specs.declared.walk.Seen.{Seen}
+use Rattle.crmf.specs.declared.tally.Tally.{Tally}
 use Rattle.crmf.specs.declared.walk.Walked.{Walked}
 use Rattle.crmf.specs.declared.walk.Walked.the-variants.{Passed, Broken}
 use Rattle.crmf.specs.Notation.{Name}
@@ -25,7 +25,7 @@ use Rattle.crmf.proofs.OneEdition.{other}
 -- How a walk follows one that passes, by the differences that occur: it passes alike, or stops at the first.
 abbrev pub StopsAt : Walked → Walked → List Occurrence → Type 0
 StopsAt w u [] = w ≡ u
-StopsAt w u (o ∷ os) = (d : ℕ) × ((r : Seen) × (w ≡ Broken (o .place) d r))
+StopsAt w u (o ∷ os) = (d : ℕ) × ((r : Tally) × (w ≡ Broken (o .place) d r))
 
 -- what isn't unread is read
 read : (b : Bool) → not b ≡ false → b ≡ true
@@ -37,7 +37,7 @@ foreign-unread : {e : ℕ} → Edition e → not (eqb e (other e)) ≡ true
 foreign-unread first-edition = refl
 foreign-unread second-edition = refl
 
-module _ {e : ℕ} (n : Name) {t : Tree} (m : Matches (λ x. eqb x e) (content n) t) (s : Seen) (around : ℕ) where
+module _ {e : ℕ} (n : Name) {t : Tree} (m : Matches (λ x. eqb x e) (content n) t) (s : Tally) (around : ℕ) where
   -- Every difference that occurs is the edition's own.
   pub own-difference : (o : Occurrence) → List·Memᴰ o (occurrences m) → o .edition ≡ e
   own-difference o member =
@@ -47,7 +47,7 @@ module _ {e : ℕ} (n : Name) {t : Tree} (m : Matches (λ x. eqb x e) (content n
       eqb-true _ _ (read (eqb (o .edition) e) (first-none (unread (λ x. eqb x e)) (occurrences m) o clear member))
 
   -- The other edition's walk passes alike where none occurs, and otherwise stops at the first.
-  pub other-walk : Edition e → (r : Seen) × ((walk (λ x. eqb x e) s (start n) around t ≡ Passed r)
+  pub other-walk : Edition e → (r : Tally) × ((walk (λ x. eqb x e) s (start n) around t ≡ Passed r)
       × StopsAt (walk (λ x. eqb x (other e)) s (start n) around t) (Passed r) (occurrences m))
   unfolding firstOf
   other-walk ed =
@@ -58,7 +58,7 @@ module _ {e : ℕ} (n : Name) {t : Tree} (m : Matches (λ x. eqb x e) (content n
       w : Walked
       w = walk (λ x. eqb x (other e)) s (start n) around t
 
-      go : (r : Seen) (os : List Occurrence) → ((o : Occurrence) → List·Memᴰ o os → o .edition ≡ e)
+      go : (r : Tally) (os : List Occurrence) → ((o : Occurrence) → List·Memᴰ o os → o .edition ≡ e)
           → Follows w (Passed r) (firstOf (unread (λ x. eqb x (other e))) os) → StopsAt w (Passed r) os
       go r [] own alike = alike
       go r (o ∷ os) own stops =

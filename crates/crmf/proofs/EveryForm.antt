@@ -6,7 +6,7 @@ use mathlib.Core.Logic.{_↔_}
 use mathlib.Core.Bool.{Bool, true, false}
 use lib.Dec.{eqb}
 use Rattle.der.specs.Tree.{Tree, none, element}
-use Rattle.crmf.specs.declared.walk.Seen.{Seen}
+use Rattle.crmf.specs.declared.tally.Tally.{Tally}
 use Rattle.crmf.specs.declared.walk.Walked.{Walked}
 use Rattle.crmf.specs.declared.walk.Walked.the-variants.{Passed, Broken}
 use Rattle.crmf.specs.Notation.{Mark, both, alone}
@@ -22,17 +22,17 @@ isPassed (Passed r) = true
 isPassed (Broken q d r) = false
 
 -- a walk that passes has met something
-pub is-passed : (w : Walked) → isPassed w ≡ true → (r : Seen) × (w ≡ Passed r)
+pub is-passed : (w : Walked) → isPassed w ≡ true → (r : Tally) × (w ≡ Passed r)
 is-passed (Passed r) same = (r, refl)
 is-passed (Broken q d r) same = let z : _≡_ {A = ℕ} 0 1 = cc in absurd (omega arith)
 
 -- a walk that doesn't pass breaks somewhere
-pub is-broken : (w : Walked) → isPassed w ≡ false → (q d : ℕ) × (r : Seen) × (w ≡ Broken q d r)
+pub is-broken : (w : Walked) → isPassed w ≡ false → (q d : ℕ) × (r : Tally) × (w ≡ Broken q d r)
 is-broken (Passed r) same = let z : _≡_ {A = ℕ} 0 1 = cc in absurd (omega arith)
 is-broken (Broken q d r) same = (q, d, r, refl)
 
 -- the test inside an element, from the test over the elements inside it
-pub passes-within : (s : Seen) (j place : ℕ) (t : Tree) → isPassed (walk all s j place t) ≡ passes j t
+pub passes-within : (s : Tally) (j place : ℕ) (t : Tree) → isPassed (walk all s j place t) ≡ passes j t
     → isPassed (innerWalk all s j place t) ≡ passesIn j t
 unfolding innerWalk
 passes-within s j place t inner = go (eqb j 0)
@@ -47,7 +47,7 @@ all-read both = refl
 all-read (alone e d) = refl
 
 -- The walk that reads every form passes where `passes` says so, whatever was met before.
-pub walk-passes : (s : Seen) (k around : ℕ) (t : Tree) → isPassed (walk all s k around t) ≡ passes k t
+pub walk-passes : (s : Tally) (k around : ℕ) (t : Tree) → isPassed (walk all s k around t) ≡ passes k t
 walk-passes s k around none = go (closed k) refl
   where
     go : (b : Bool) → closed k ≡ b → isPassed (walk all s k around none) ≡ passes k none
@@ -59,8 +59,8 @@ walk-passes s k around (element id first whole c inside rest) =
     t : Tree
     t = element id first whole c inside rest
 
-    go : Way k id c inside → ((r : Seen) (j : ℕ) → isPassed (walk all r j first inside) ≡ passes j inside)
-        → ((r : Seen) (j : ℕ) → isPassed (walk all r j around rest) ≡ passes j rest)
+    go : Way k id c inside → ((r : Tally) (j : ℕ) → isPassed (walk all r j first inside) ≡ passes j inside)
+        → ((r : Tally) (j : ℕ) → isPassed (walk all r j around rest) ≡ passes j rest)
         → isPassed (walk all s k around t) ≡ passes k t
     go (lost missing) inner later = ap isPassed (walk-nowhere all s k around id first whole c inside rest missing)
         ∙ sym (passes-lost k id first whole c inside rest missing)
@@ -84,15 +84,15 @@ walk-passes s k around (element id first whole c inside rest) =
         ∙ later r next ∙ sym (passes-on k n id first whole c inside rest found next fine on)
 
 -- so an inside that passes the test the walk passes
-pub inner-passed : (m : Seen) (j place : ℕ) (t : Tree) → passesIn j t ≡ true → (r : Seen) × (innerWalk all m j place t ≡ Passed r)
+pub inner-passed : (m : Tally) (j place : ℕ) (t : Tree) → passesIn j t ≡ true → (r : Tally) × (innerWalk all m j place t ≡ Passed r)
 inner-passed m j place t fine = is-passed (innerWalk all m j place t) (passes-within m j place t (walk-passes m j place t) ∙ fine)
 
 -- and breaks in one that doesn't
-pub inner-broken : (m : Seen) (j place : ℕ) (t : Tree) → passesIn j t ≡ false → (q d : ℕ) × (r : Seen) × (innerWalk all m j place t ≡ Broken q d r)
+pub inner-broken : (m : Tally) (j place : ℕ) (t : Tree) → passesIn j t ≡ false → (q d : ℕ) × (r : Tally) × (innerWalk all m j place t ≡ Broken q d r)
 inner-broken m j place t stops = is-broken (innerWalk all m j place t) (passes-within m j place t (walk-passes m j place t) ∙ stops)
 
 -- The test passes exactly where the walk that reads every form does.
-pub passes-accepts : (k : ℕ) (t : Tree) (s : Seen) (around : ℕ)
-    → (passes k t ≡ true) ↔ ((r : Seen) × (walk (λ e. true) s k around t ≡ Passed r))
+pub passes-accepts : (k : ℕ) (t : Tree) (s : Tally) (around : ℕ)
+    → (passes k t ≡ true) ↔ ((r : Tally) × (walk (λ e. true) s k around t ≡ Passed r))
 passes-accepts k t s around =
     (λ fine. is-passed (walk all s k around t) (walk-passes s k around t ∙ fine), λ a. sym (walk-passes s k around t) ∙ ap isPassed (a .1))

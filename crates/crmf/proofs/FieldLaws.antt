@@ -12,10 +12,22 @@ use lib.ListN.{length, length-append, length-take, length-drop, take, drop, getD
 use lib.Seq.{take-append-seam, take-take, take-add, drop-drop}
 use Rattle.der.specs.Identifier.{constructed}
 use Rattle.der.specs.Tree.{Tree, none, element, header, encode, Formed, WellFormed, moved}
-use Rattle.der.proofs.Laws.{encode-none, encode-element, encode-length, encode-moved, moved-none, moved-element, well-formed-moved}
-use Rattle.der.proofs.Parts.{append-parts}
+use Rattle.der.proofs.Laws.{encode-none, encode-element, encode-length, encode-moved, moved-none, moved-element, well-formed-moved, well-formed-none, well-formed-deep, well-formed-element, append-parts}
 use Rattle.crmf.specs.Notation.{among}
 use Rattle.crmf.specs.Fields.{Field, fields, chain, octets, start, finish, Runs, Consists, StandsAt, missing, nth, seek, child, listed, movedField}
+
+-- the first field with an identifier inside a field, and a field that may be missing, as a list
+pub child-seek : (id : ℕ) (f : Field) → child id f ≡ seek (id ∷ []) (fields (f .inside))
+unfolding child
+child-seek id f = refl
+
+pub listed-none : listed absent ≡ []
+unfolding listed
+listed-none = refl
+
+pub listed-some : (f : Field) → listed (some f) ≡ f ∷ []
+unfolding listed
+listed-some f = refl
 
 -- no elements have no fields
 pub fields-none : fields none ≡ []
@@ -58,31 +70,34 @@ FormedField (suc left) f =
 pub fields-formed : (left p : ℕ) (t : Tree) → WellFormed left p t → (f : Field) → List·Memᴰ f (fields t) → FormedField left f
 unfolding fields
 fields-formed left p none w f m = absurd (List·Memᴰ·not-nil m)
-fields-formed zero p (element id first whole c inside rest) w f m = absurd w
+fields-formed zero p (element id first whole c inside rest) w f m = absurd (well-formed-deep p id first whole c inside rest w)
 fields-formed (suc left) p (element id first whole c inside rest) w f (List·Memᴰ·head e) =
+    let one = well-formed-element left p id first whole c inside rest .0 w .0 in
     rw e
-    (subst (λ (q : ℕ). Formed q id first whole c inside (WellFormed left (q + length (header id c)) inside)) (sym (w .0 .placed)) (w .0))
+    (subst (λ (q : ℕ). Formed q id first whole c inside (WellFormed left (q + length (header id c)) inside)) (sym (one .placed)) one)
 fields-formed (suc left) p (element id first whole c inside rest) w f (List·Memᴰ·tail m) =
-    fields-formed (suc left) (p + whole) rest (w .1) f m
+    fields-formed (suc left) (p + whole) rest (well-formed-element left p id first whole c inside rest .0 w .1) f m
 
 -- well-formed elements stand one behind the other
 pub fields-run : (left p : ℕ) (t : Tree) → WellFormed left p t → Runs p (p + length (encode t)) (fields t)
 unfolding fields octets
 fields-run left p none w = omega (arith, ap length encode-none)
-fields-run zero p (element id first whole c inside rest) w = absurd w
+fields-run zero p (element id first whole c inside rest) w = absurd (well-formed-deep p id first whole c inside rest w)
 fields-run (suc left) p (element id first whole c inside rest) w =
+    let (one, more) = well-formed-element left p id first whole c inside rest .0 w in
     let size : p + whole + length (encode rest) ≡ p + length (encode (element id first whole c inside rest))
-    = omega (arith, w .0 .sized, encode-length id first whole c inside rest) in
-    (w .0 .placed, w .0 .sized, subst (λ (e : ℕ). Runs (p + whole) e (fields rest)) size (fields-run (suc left) (p + whole) rest (w .1)))
+    = omega (arith, one .sized, encode-length id first whole c inside rest) in
+    (one .placed, one .sized, subst (λ (e : ℕ). Runs (p + whole) e (fields rest)) size (fields-run (suc left) (p + whole) rest more))
 
 -- well-formed fields that stand one behind the other are well-formed elements
 pub chain-formed : (left from to : ℕ) (fs : List Field) → Runs from to fs → ((f : Field) → List·Memᴰ f fs → FormedField left f)
     → WellFormed left from (chain fs)
 unfolding chain
-chain-formed left from to [] run each = tt
+chain-formed left from to [] run each = well-formed-none left from
 chain-formed zero from to (f ∷ fs) run each = absurd (each f (List·Memᴰ·head refl))
 chain-formed (suc left) from to (f ∷ fs) run each =
-    let own = each f (List·Memᴰ·head refl) in (
+    let own = each f (List·Memᴰ·head refl) in
+    well-formed-element left from (f .identifier) (f .place) (f .whole) (f .content) (f .inside) (chain fs) .1 (
       subst
           (λ (q : ℕ). Formed q (f .identifier) (f .place) (f .whole) (f .content) (f .inside) (WellFormed left (q + length (header (f .identifier) (f .content))) (f .inside)))
           (run .0)
@@ -207,21 +222,21 @@ seek-missing ids (g ∷ fs) e f m = by-test (among ids (g .identifier)) refl e (
 
 -- the first of such fields that has one of the identifiers, where there is no other
 pub seek-own : (ids : List ℕ) (o : Option Field) → IfAny (λ f. among ids (f .identifier) ≡ true) o → seek ids (listed o) ≡ o
-unfolding seek
+unfolding seek listed
 seek-own ids absent e = refl
 seek-own ids (some f) e = rw (e, seek)
 
 -- behind a field that may stand there and has none of them
 pub seek-behind : (ids : List ℕ) (o : Option Field) (fs : List Field) → IfAny (λ f. among ids (f .identifier) ≡ false) o
     → seek ids (listed o ++ fs) ≡ seek ids fs
-unfolding seek
+unfolding seek listed
 seek-behind ids absent fs e = refl
 seek-behind ids (some f) fs e = rw (e, seek)
 
 -- before a field that has none of them
 pub seek-before : (ids : List ℕ) (o p : Option Field) → IfAny (λ f. among ids (f .identifier) ≡ true) o
     → IfAny (λ f. among ids (f .identifier) ≡ false) p → seek ids (listed o ++ listed p) ≡ o
-unfolding seek
+unfolding seek listed
 seek-before ids absent absent e n = refl
 seek-before ids absent (some f) e n = rw (n, seek)
 seek-before ids (some f) p e n = rw (e, seek)
@@ -243,7 +258,7 @@ inside-moved d f = fields-moved d (f .inside)
 
 -- a field further on, by its number
 pub nth-moved : (d n : ℕ) (f : Field) → nth n (movedField d f) ≡ movedField d (nth n f)
-unfolding nth movedField
+unfolding nth movedField missing
 nth-moved d n f =
     let absence : missing (movedField d f) ≡ movedField d (missing f) =
     ap (λ (t : Tree). record { identifier = 0; place = d + f .place; whole = 0; content = []; inside = t }) (sym (moved-none d)) in
@@ -264,6 +279,7 @@ seek-moved d ids (f ∷ fs) = by-test (among ids (f .identifier)) (seek-moved d 
 
 -- a field inside a field further on, by its identifier
 pub child-moved : (d id : ℕ) (f : Field) → child id (movedField d f) ≡ Option·map (movedField d) (child id f)
+unfolding child
 child-moved d id f = rw (inside-moved d f) (seek-moved d (id ∷ []) (fields (f .inside)))
 
 -- fields further on, behind the first ones

@@ -14,12 +14,12 @@ use lib.Dec.{eqb}
 use borrow.Author.Tests.{eqb-true, eqb-false, eq-eqb, ne-eqb}
 use Rattle.der.specs.declared.reading.Element.{Element}
 use Rattle.der.specs.Identifier.{constructed}
-use Rattle.der.specs.Walk.{depth}
+use Rattle.der.specs.Bounds.{depth}
 use Rattle.der.specs.Tree.{Tree, none, header, encode, WellFormed, Single}
 use Rattle.der.specs.Reading.{readAt, tree}
 use Rattle.der.proofs.Laws.{take-drop, slice-none, tree-end, tree-at, header-some, sequence-constructed}
 use Rattle.crmf.specs.Notation.{among, Top}
-use Rattle.crmf.specs.Fields.{Field, fields, fieldsBetween, octets, finish, StandsAt, seek, child}
+use Rattle.crmf.specs.Fields.{Field, fields, fieldsBetween, octets, StandsAt, seek, child, listed}
 use Rattle.crmf.specs.Grammar.{content}
 use Rattle.crmf.specs.Language.{Matches}
 use Rattle.crmf.specs.Messages.{proofs, Message, messageOf, batch, messages}
@@ -40,6 +40,7 @@ fieldAt s p x =
 
 -- from an end on there are no fields
 pub fields-end : (s : List ℕ) (p e : ℕ) → e ≤ p → fieldsBetween s p e ≡ []
+unfolding fieldsBetween
 fields-end s p e past = ap (λ (bs : List ℕ). fields (tree p bs)) (slice-none p e s (omega arith)) ∙ ap fields (tree-end p) ∙ fields-none
 
 -- What the fields from a place to another say of the first: it is the one that is read there, and the others stand behind it.
@@ -51,6 +52,7 @@ pub record Begins (s : List ℕ) (p e : ℕ) (f : Field) (fs : List Field) : Typ
 module _ (s : List ℕ) (p e : ℕ) (fits : e ≤ length s) (high : length s ≤ 65535) where
   -- before an end they are the one that is read there and those behind it
   pub fields-at : p < e → let x = readAt s p e in fieldsBetween s p e ≡ fieldAt s p x ∷ fieldsBetween s (x .end) e
+  unfolding fieldsBetween
   fields-at room = ap fields (tree-at s p e room fits high) ∙ fields-element _ _ _ _ _ _
 
   -- and where there is a first, it is that one
@@ -66,6 +68,7 @@ module _ (s : List ℕ) (p e : ℕ) (fits : e ≤ length s) (high : length s ≤
 -- the fields inside a constructed one
 pub inside-fields : (s : List ℕ) (p : ℕ) (x : Element) → constructed (x .identifier) ≡ true
     → fields (fieldAt s p x .inside) ≡ fieldsBetween s (x .content) (x .end)
+unfolding fieldsBetween
 inside-fields s p x made = rw (made, fieldAt)
 
 -- among no fields none is found
@@ -86,7 +89,7 @@ module _ (id : ℕ) (f : Field) (fs : List Field) where
 
 -- what is found inside a field by its identifier has it
 pub child-identified : (id : ℕ) (f x : Field) → child id f ≡ some x → x .identifier ≡ id
-unfolding among
+unfolding among seek child
 child-identified id f x found = by-test (eqb (x .identifier) id) refl (seek-found (id ∷ []) (fields (f .inside)) x found .1)
   where
     by-test : (b : Bool) → eqb (x .identifier) id ≡ b → b || false ≡ true → x .identifier ≡ id
@@ -142,7 +145,7 @@ proof-cases id is = first (eqb id 0x80) refl is
 pub proof-child-stands : {R : ℕ → Bool} (t : Tree) → Matches R (content Top) t → WellFormed depth 0 t → Single t
     → (m : Message) → List·Memᴰ m (messages t) → (p : Field) → m .proof ≡ some p → constructed (p .identifier) ≡ true
     → (id : ℕ) (x : Field) → child id p ≡ some x → StandsAt (encode t) (x .place) (octets x) × (x .whole ≡ length (octets x))
-unfolding octets
+unfolding octets child listed
 proof-child-stands t top w one m n p has made id x found =
     let k = message-parts t top w one m n in
     let thirty : constructed (m .own .identifier) ≡ true = ap constructed (k .thirty) ∙ sequence-constructed in
@@ -156,7 +159,7 @@ proof-child-stands t top w one m n p has made id x found =
 
 -- A field that stands at its place, as long as its octets, lies within the bytes, and its octets are that part of them.
 pub stands-part : (s : List ℕ) (f : Field) → StandsAt s (f .place) (octets f) → f .whole ≡ length (octets f)
-    → (finish f ≤ length s) × (slice (f .place) (finish f) s ≡ octets f)
+    → (f .place + f .whole ≤ length s) × (slice (f .place) (f .place + f .whole) s ≡ octets f)
 stands-part s f stands size = (
   omega (arith, stands-fit s (f .place) (octets f) stands (octets-some f)),
   ap (λ (n : ℕ). slice (f .place) (f .place + n) s) size ∙ sym (take-drop (length (octets f)) (f .place) s) ∙ stands,

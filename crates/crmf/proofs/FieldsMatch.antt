@@ -61,7 +61,7 @@ once-begun (take {id = id} {first = p} {whole = w} {c = c} {inside = i} {rest = 
 
 -- a part that may stand once
 pub optional-begun : {R : ℕ → Bool} {forms : List Form} {ps : List Part} {t : Tree} → Matches R (part optional forms ∷ ps) t → MayBegin R forms ps t
-unfolding fields
+unfolding fields listed
 optional-begun (pass {t = t} ok m) = record { item = absent; rest = t; keeping = tt; further = m; split = refl }
 optional-begun (take {id = id} {first = p} {whole = w} {c = c} {inside = i} {rest = r} f one fits read kept within m) =
     record {

@@ -5,12 +5,13 @@ use native.Mathlib.Omega.{arith}
 use mathlib.Core.Path.{_≡_, refl, sym, ap, subst, _∙_}
 use mathlib.Core.Bool.{Bool, true, false}
 use mathlib.Core.List.{List}
+use lib.Dec.{leb}
 use lib.ListN.{length, take, drop}
 use lib.Seq.{take-all, take-at, drop-at}
 use borrow.Author.Tests.{le-leb, leb-true}
-use Rattle.der.specs.Walk.{longest}
+use Rattle.der.specs.Bounds.{longest}
 use Rattle.der.specs.Reading.{tree}
-use Rattle.crmf.specs.declared.walk.Seen.{Seen}
+use Rattle.crmf.specs.declared.tally.Tally.{Tally}
 use Rattle.crmf.specs.declared.walk.Walked.the-variants.{Passed}
 use Rattle.crmf.specs.Notation.{Top}
 use Rattle.crmf.specs.Grammar.{content}
@@ -20,6 +21,11 @@ use Rattle.crmf.specs.Rows.{Row, width, numbers, batchRows}
 use Rattle.crmf.specs.Fill.{over, written, fits, rowsOf, filled}
 use Rattle.crmf.proofs.RowsOfLines.{rows-lines, walk-counts}
 use Rattle.crmf.proofs.Writing.{numbers-length, length-over}
+
+-- there is room for rows where the table has `width` numbers for each
+pub fits-room : (count : ℕ) (old : List ℕ) → fits count old ≡ leb (width * count) (length old)
+unfolding fits
+fits-room count old = refl
 
 -- A table with so many rows written into its first numbers, and its other numbers as they were.
 pub record Holds (rs : List Row) (count : ℕ) (old new : List ℕ) : Type 0 where
@@ -32,7 +38,7 @@ pub record Holds (rs : List Row) (count : ℕ) (old new : List ℕ) : Type 0 whe
 -- all of some rows written from the first number on
 written-all : (old : List ℕ) (count : ℕ) (rs : List Row) → length rs ≡ count → width * count ≤ length old
     → Holds rs count old (written old 0 count rs)
-unfolding numbers
+unfolding numbers over
 written-all old count rs counted room =
     let size : length (numbers rs) ≡ width * count = omega (arith, numbers-length rs) in
     let place : 0 + length (numbers rs) ≡ width * count = omega arith in
@@ -57,13 +63,13 @@ over-holds old rs room =
 module _ (s : List ℕ) (short : length s ≤ longest) {R : ℕ → Bool} (m : Matches R (content Top) (tree 0 s)) where
   -- The rows that filling finds in a batch are those of any derivation.
   pub rows-of : rowsOf s ≡ batchRows m
-  unfolding rowsOf
+  unfolding rowsOf batchRows
   rows-of = rw (rowsOf, le-leb _ _ short) (rows-lines Top m 0 0 0 0)
 
-  module _ (r : Seen) (passed : countOf s ≡ Passed r) where
+  module _ (r : Tally) (passed : countOf s ≡ Passed r) where
     -- They are as many as counting answers.
     pub rows-counted : length (batchRows m) ≡ r .count
-    unfolding countOf
+    unfolding countOf fresh batchRows
     rows-counted =
         let walked = rw (countOf, le-leb _ _ short) at passed in
         omega (arith, walk-counts every Top m fresh r 0 0 0 0 0 walked)
@@ -72,7 +78,7 @@ module _ (s : List ℕ) (short : length s ≤ longest) {R : ℕ → Bool} (m : M
     pub filled-rows : (old : List ℕ) → fits (r .count) old ≡ true → Holds (batchRows m) (r .count) old (filled s (r .count) old)
     unfolding filled
     filled-rows old room =
-        let all = written-all old (r .count) (batchRows m) rows-counted (leb-true _ _ room) in
+        let all = written-all old (r .count) (batchRows m) rows-counted (leb-true _ _ (sym (fits-room (r .count) old) ∙ room)) in
         let same : filled s (r .count) old ≡ written old 0 (r .count) (batchRows m) =
         rw (filled, room) (ap (written old 0 (r .count)) rows-of) in
         subst (Holds (batchRows m) (r .count) old) (sym same) all
@@ -85,4 +91,4 @@ filled-short s count old few = rw (filled, few)
 -- With room for all of an input's rows they are written into the first numbers, and the others stay.
 pub filled-whole : (s old : List ℕ) → fits (length (rowsOf s)) old ≡ true → filled s (length (rowsOf s)) old ≡ over old 0 (numbers (rowsOf s))
 unfolding filled
-filled-whole s old room = rw (filled, room) (written-all old (length (rowsOf s)) (rowsOf s) refl (leb-true _ _ room) .whole)
+filled-whole s old room = rw (filled, room) (written-all old (length (rowsOf s)) (rowsOf s) refl (leb-true _ _ (sym (fits-room (length (rowsOf s)) old) ∙ room)) .whole)

@@ -9,7 +9,7 @@ use lib.Dec.{eqb}
 use borrow.Author.Tests.{eqb-true}
 use Rattle.der.specs.Tree.{Tree, element}
 use Rattle.der.specs.Tree as tree
-use Rattle.crmf.specs.declared.walk.Seen.{Seen}
+use Rattle.crmf.specs.declared.tally.Tally.{Tally}
 use Rattle.crmf.specs.declared.walk.Walked.{Walked}
 use Rattle.crmf.specs.declared.walk.Walked.the-variants.{Passed, Broken}
 use Rattle.crmf.specs.Notation.{Mark, both, alone}
@@ -29,8 +29,8 @@ pub data Edition : ℕ → Type 0 where
   second-edition : Edition 2
 
 -- the first form of an edition alone that was met: its difference (0: none) and its place
-abbrev pub firstSeen : ℕ → Seen → ℕ × ℕ
-firstSeen e s = elim (eqb e 1) [ true ↦ (s .one, s .«one_at») | false ↦ (s .two, s .«two_at») ]
+abbrev pub firstSeen : ℕ → Tally → ℕ × ℕ
+firstSeen e s = elim (eqb e 1) [ true ↦ (s .one .number, s .one .place) | false ↦ (s .two .number, s .two .place) ]
 
 -- the difference and place of an occurrence, or what was known
 abbrev pub firstOr : ℕ × ℕ → Option Occurrence → ℕ × ℕ
@@ -91,7 +91,7 @@ after-append e h a b good = by-known (eqb (h .0) 0) refl
     by-known true free = by-first (firstOf f a) refl free
 
 -- what is noted of the first edition, by the tests
-noted-first : (a b c : Bool) (see : Seen → ℕ × ℕ) (s n m : Seen) (o : Occurrence) → see n ≡ (o .difference, o .place) → see m ≡ see s
+noted-first : (a b c : Bool) (see : Tally → ℕ × ℕ) (s n m : Tally) (o : Occurrence) → see n ≡ (o .difference, o .place) → see m ≡ see s
     → see (elim (a && b) [ true ↦ n | false ↦ elim c [ true ↦ m | false ↦ s ] ])
     ≡ (elim b [ false ↦ see s | true ↦ firstOr (see s) (elim a [ true ↦ some o | false ↦ none ]) ])
 noted-first true true c see s n m o new old = new
@@ -103,7 +103,7 @@ noted-first false false true see s n m o new old = old
 noted-first false false false see s n m o new old = refl
 
 -- and of the second
-noted-second : (a b c d : Bool) (see : Seen → ℕ × ℕ) (s n m : Seen) (o : Occurrence) → (a ≡ true → c ≡ false) → see n ≡ see s
+noted-second : (a b c d : Bool) (see : Tally → ℕ × ℕ) (s n m : Tally) (o : Occurrence) → (a ≡ true → c ≡ false) → see n ≡ see s
     → see m ≡ (o .difference, o .place)
     → see (elim (a && b) [ true ↦ n | false ↦ elim (c && d) [ true ↦ m | false ↦ s ] ])
     ≡ (elim d [ false ↦ see s | true ↦ firstOr (see s) (elim c [ true ↦ some o | false ↦ none ]) ])
@@ -118,18 +118,18 @@ noted-second false b false true see s n m o apart old new = refl
 noted-second false b false false see s n m o apart old new = refl
 
 -- A long certReqId leaves the forms that were met.
-lengthy-seen : {e : ℕ} → Edition e → (kind p w : ℕ) (s : Seen) → firstSeen e (lengthy kind p w s) ≡ firstSeen e s
+lengthy-seen : {e : ℕ} → Edition e → (kind p w : ℕ) (s : Tally) → firstSeen e (lengthy kind p w s) ≡ firstSeen e s
 unfolding lengthy
-lengthy-seen ed kind p w s = go ed (longId kind w && eqb (s .long) 0) refl
+lengthy-seen ed kind p w s = go ed (longId kind w && eqb (s .long .whole) 0) refl
   where
-    go : {e : ℕ} → Edition e → (b : Bool) → (longId kind w && eqb (s .long) 0) ≡ b → firstSeen e (lengthy kind p w s) ≡ firstSeen e s
+    go : {e : ℕ} → Edition e → (b : Bool) → (longId kind w && eqb (s .long .whole) 0) ≡ b → firstSeen e (lengthy kind p w s) ≡ firstSeen e s
     go first-edition true t = rw (lengthy, t)
     go first-edition false t = rw (lengthy, t)
     go second-edition true t = rw (lengthy, t)
     go second-edition false t = rw (lengthy, t)
 
 -- An element's form is noted as the first of its edition, if none was known.
-pub met-seen : {e : ℕ} → Edition e → (x : Line) (p w : ℕ) (s : Seen) → firstSeen e (met x p w s) ≡ after e (firstSeen e s) (occurs (x .mark) p)
+pub met-seen : {e : ℕ} → Edition e → (x : Line) (p w : ℕ) (s : Tally) → firstSeen e (met x p w s) ≡ after e (firstSeen e s) (occurs (x .mark) p)
 unfolding met noted after firstOf
 met-seen {e} ed x p w s = lengthy-seen ed (x .kind) p w (noted (x .mark) p s) ∙ go (x .mark) ed
   where
@@ -140,18 +140,18 @@ met-seen {e} ed x p w s = lengthy-seen ed (x .kind) p w (noted (x .mark) p s) �
     go both first-edition = sym (after-none 1 (firstSeen 1 s))
     go both second-edition = sym (after-none 2 (firstSeen 2 s))
     go (alone f d) first-edition =
-        noted-first (eqb f 1) (eqb (s .one) 0) (eqb f 2 && eqb (s .two) 0) (firstSeen 1) s _ _ (record { place = p; edition = f; difference = d }) refl refl
+        noted-first (eqb f 1) (eqb (s .one .number) 0) (eqb f 2 && eqb (s .two .number) 0) (firstSeen 1) s _ _ (record { place = p; edition = f; difference = d }) refl refl
     go (alone f d) second-edition =
-        noted-second (eqb f 1) (eqb (s .one) 0) (eqb f 2) (eqb (s .two) 0) (firstSeen 2) s _ _ (record { place = p; edition = f; difference = d })
+        noted-second (eqb f 1) (eqb (s .one .number) 0) (eqb f 2) (eqb (s .two .number) 0) (firstSeen 2) s _ _ (record { place = p; edition = f; difference = d })
         (apart f) refl refl
 
 -- what a walk has met
-abbrev pub seenOf : Walked → Seen
+abbrev pub seenOf : Walked → Tally
 seenOf (Passed r) = r
 seenOf (Broken q d r) = r
 
 -- inside an element, from the elements inside it
-seen-within : (e : ℕ) (s : Seen) (j place : ℕ) (t : Tree)
+seen-within : (e : ℕ) (s : Tally) (j place : ℕ) (t : Tree)
     → firstSeen e (seenOf (walk all s j place t)) ≡ after e (firstSeen e s) (trail j t)
     → firstSeen e (seenOf (innerWalk all s j place t)) ≡ after e (firstSeen e s) (trailIn j t)
 unfolding innerWalk
@@ -163,7 +163,7 @@ seen-within e s j place t inner = go (eqb j 0)
     go false = inner
 
 -- What the walk that reads every form has met of an edition: what was met before it, or where that is none the first of its trail.
-pub walk-seen : {e : ℕ} → Edition e → (s : Seen) (k around : ℕ) (t : Tree)
+pub walk-seen : {e : ℕ} → Edition e → (s : Tally) (k around : ℕ) (t : Tree)
     → firstSeen e (seenOf (walk all s k around t)) ≡ after e (firstSeen e s) (trail k t)
 walk-seen {e} ed s k around tree.none = rw (trail-end, after-none e (firstSeen e s)) (go (closed k) refl)
   where
@@ -187,7 +187,7 @@ walk-seen {e} ed s k around (element id first whole c inside rest) =
 
     -- behind the element's inside
     settled : (n : ℕ) (w : Walked) → innerWalk all (met (line n) first whole s) (line n .inside) first inside ≡ w
-        → ((m : Seen) (j : ℕ) → firstSeen e (seenOf (walk all m j first inside)) ≡ after e (firstSeen e m) (trail j inside))
+        → ((m : Tally) (j : ℕ) → firstSeen e (seenOf (walk all m j first inside)) ≡ after e (firstSeen e m) (trail j inside))
         → firstSeen e (seenOf w) ≡ after e h (here n ++ in-it n)
     settled n w is inner =
         let m = met (line n) first whole s in
@@ -197,8 +197,8 @@ walk-seen {e} ed s k around (element id first whole c inside rest) =
         ∙ sym (after-append e h (here n) (in-it n) (fair-occurs (line n .mark) first (line-fair n))))
 
     go : Way k id c inside
-        → ((m : Seen) (j : ℕ) → firstSeen e (seenOf (walk all m j first inside)) ≡ after e (firstSeen e m) (trail j inside))
-        → ((r : Seen) (j : ℕ) → firstSeen e (seenOf (walk all r j around rest)) ≡ after e (firstSeen e r) (trail j rest))
+        → ((m : Tally) (j : ℕ) → firstSeen e (seenOf (walk all m j first inside)) ≡ after e (firstSeen e m) (trail j inside))
+        → ((r : Tally) (j : ℕ) → firstSeen e (seenOf (walk all r j around rest)) ≡ after e (firstSeen e r) (trail j rest))
         → firstSeen e (seenOf (walk all s k around t)) ≡ after e h (trail k t)
     go (lost missing) inner later =
         rw (walk-nowhere all s k around id first whole c inside rest missing, trail-lost k id first whole c inside rest missing)

@@ -71,15 +71,20 @@
 --     count-whole           of an input that is not too long, counting is the walk over its tree that reads every form (`rows-whole` of rows)
 --     whole-count           the rows that the lines find in it are as many as were counted
 --     whole-long            and their first long certReqId is the one that was met
---     quick-walk            an input with a quick count is one element, and counting passes with as many rows and nothing to refuse (`Quick`)
---     walk-quick            conversely, one element that the edition's own walk passes has a quick count, where no row is a long certReqId
---     quick-stays           a quick reading leaves the table where it counts none, and else fills it (`quick-fills`)
+--     none-met              at first no form of the other edition was met
+--     quick-walk            an input that is recognised is one element, and counting passes with as many rows and nothing to refuse (`Quick`)
+--     walk-quick            conversely, one element that the edition's own walk passes is recognised, where no row is a long certReqId
+--     quick-stays           the recogniser leaves the table as it is for an input that isn't recognised, and else fills it (`quick-fills`)
+--     not-recognised        the recogniser has one answer
 --     numbers-row           the definitions of rows' numbers and of pieces, one step at a time: `pieces-row`, `own-container`, `own-leaf`,
 --                           `whole-container`, `whole-leaf`, `children-piece`, `assembled-piece`, `within-piece`; and where there is
 --                           nothing, `numbers-none`, `pieces-none`, `children-none`, `assembled-none`, `within-none`
 --     container-kinds       which kinds are containers', their identifiers (`identifier-of`) and types (`implied-type`, `implied-none`)
 --     children-bound        where no piece is longer than a limit, a piece's children have together at most so much for each piece
 --     same-more             the first octets of two lists and one more are compared; with none, `same-none`; of other lengths, `other-length`
+--     over-parts            what is written over a list stands between what was before its place and after its end
+--     fits-room             there is room for rows where a table has `width` numbers for each
+--     child-seek            the first field inside a field with an identifier; and a field that may be missing, as a list (`listed-none`, `listed-some`)
 pub use Rattle.crmf.proofs.Accepts.{accepts}
 pub use Rattle.crmf.proofs.EveryForm.{all, isPassed, walk-passes, passes-accepts}
 pub use Rattle.crmf.proofs.Choices.{Choice, taking, choosing, identifiersOf, choices, deterministic}
@@ -97,21 +102,22 @@ pub use Rattle.crmf.proofs.RowLaws.{Inner, row-zero, rows-some, rows-as
 pub use Rattle.crmf.proofs.RowsMoved.{shift, matches-moved, rows-moved}
 pub use Rattle.crmf.proofs.PiecesOf.{pieceIf, pieces, piecesIn}
 pub use Rattle.crmf.proofs.ShownPieces.{pieces-length, rows-pieces, batch-pieces}
-pub use Rattle.crmf.proofs.FilledRows.{Holds, over-holds, rows-of, rows-counted, filled-rows, filled-short, filled-whole}
-pub use Rattle.crmf.proofs.FieldLaws.{FormedField, IfAny}
+pub use Rattle.crmf.proofs.FilledRows.{fits-room, Holds, over-holds, rows-of, rows-counted, filled-rows, filled-short, filled-whole}
+pub use Rattle.crmf.proofs.FieldLaws.{child-seek, listed-none, listed-some, FormedField, IfAny}
 pub use Rattle.crmf.proofs.FieldSteps.{fieldAt, Begins, fields-end, fields-at, fields-begin, inside-fields, seek-none, seek-here, seek-next, child-identified, batch-at, messages-inside, message-field, proof-cases, proof-child-stands, stands-part}
 pub use Rattle.crmf.proofs.FieldsMatch.{Holding}
 pub use Rattle.crmf.proofs.MessageLaws.{ProofMatches, raVerified, signature, keyEncipherment, keyAgreement, MessageMatches, MessageParts, BatchContent, MessageStands}
 pub use Rattle.crmf.proofs.MessageLaws.{batch-content, message-parts, messages-match, messages-formed, messages-stand, messages-moved, batch-of-matches, batch-of-formed, at-position}
 pub use Rattle.crmf.proofs.Assembly.{assembly, rows-few, pieces-short}
 pub use Rattle.crmf.proofs.AssembledOctets.{pieces-octets, row-ends}
-pub use Rattle.crmf.proofs.Writing.{numbers-length}
+pub use Rattle.crmf.proofs.Writing.{over-parts, numbers-length}
 pub use Rattle.crmf.proofs.MessageSteps.{fieldRead, sequence-read, first-read, IdRead, id-read, batch-read}
 pub use Rattle.crmf.proofs.MessageSizes.{ids-some, ids-eight, messages-few}
 pub use Rattle.crmf.proofs.LongIds.{rows-long, walk-long, long-none}
 pub use Rattle.crmf.proofs.WholeInput.{count-whole, rows-whole, whole-count, whole-long}
+pub use Rattle.crmf.proofs.CountSteps.{not-recognised}
 pub use Rattle.crmf.proofs.QuickWays.{quick-stays, quick-fills}
-pub use Rattle.crmf.proofs.QuickCounts.{Quick, quick-walk}
+pub use Rattle.crmf.proofs.QuickCounts.{none-met, Quick, quick-walk}
 pub use Rattle.crmf.proofs.PassedCounts.{walk-quick}
 pub use Rattle.crmf.proofs.ValueRules.{other-length, same-none, same-more, same-octets, same-itself}
 pub use Rattle.crmf.proofs.PieceLaws.{container-kinds, identifier-of, implied-type, implied-none, pieces-none, pieces-row, own-container, own-leaf}

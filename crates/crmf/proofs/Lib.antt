@@ -19,6 +19,7 @@ pub mod FieldsMatch
 pub mod FilledRows
 pub mod FineInsides
 pub mod FirstSeen
+pub mod Fitting
 pub mod Judging
 pub mod Laws
 pub mod LinesOfParts
@@ -50,7 +51,6 @@ pub mod ShortIds
 pub mod Showing
 pub mod ShownParts
 pub mod ShownPieces
-pub mod Slices
 pub mod StepWays
 pub mod TableChecks
 pub mod Tests

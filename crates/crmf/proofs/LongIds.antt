@@ -9,7 +9,7 @@ use lib.Dec.{eqb, ltb}
 use lib.ListN.{length}
 use borrow.Author.Tests.{eqb-true, eq-eqb, ltb-true, ne-eqb}
 use Rattle.der.specs.Tree.{Tree, none, element}
-use Rattle.crmf.specs.declared.walk.Seen.{Seen}
+use Rattle.crmf.specs.declared.tally.Tally.{Tally}
 use Rattle.crmf.specs.declared.walk.Walked.the-variants.{Passed}
 use Rattle.crmf.specs.Kinds as kinds
 use Rattle.crmf.specs.Notation.{Mark, both, alone, Name}
@@ -24,8 +24,8 @@ use Rattle.crmf.proofs.Passing.{innerWalk, inner-free, inner-walked, pa
 use Rattle.crmf.proofs.RowsOfLines.{rowsOne, rowsWithin, inner-no-rows, inner-rows, rows-from-element, rows-lines, row-none, row-own}
 
 -- what a walk has met of long certReqIds
-abbrev known : Seen → ℕ × ℕ
-known s = (s .long, s .«long_at»)
+abbrev known : Tally → ℕ × ℕ
+known s = (s .long .whole, s .long .place)
 
 -- no item of the table is a certReqId
 item-not-id : (k : ℕ) → not (eqb (line k .item) kinds.certReqId) ≡ true
@@ -63,30 +63,30 @@ item-long h item p w up e = row-long h item p w up ∙ other-kind h item p w (de
     denied false f = refl
 
 -- what is noted leaves what is known
-noted-long : (m : Mark) (p : ℕ) (s : Seen) → known (noted m p s) ≡ known s
+noted-long : (m : Mark) (p : ℕ) (s : Tally) → known (noted m p s) ≡ known s
 unfolding noted
 noted-long both p s = refl
-noted-long (alone e d) p s = by-one (eqb e 1 && eqb (s .one) 0) refl
+noted-long (alone e d) p s = by-one (eqb e 1 && eqb (s .one .number) 0) refl
   where
-    by-two : (eqb e 1 && eqb (s .one) 0) ≡ false → (b : Bool) → (eqb e 2 && eqb (s .two) 0) ≡ b → known (noted (alone e d) p s) ≡ known s
+    by-two : (eqb e 1 && eqb (s .one .number) 0) ≡ false → (b : Bool) → (eqb e 2 && eqb (s .two .number) 0) ≡ b → known (noted (alone e d) p s) ≡ known s
     by-two f true t = rw (noted, f) (rw t)
     by-two f false t = rw (noted, f) (rw t)
 
-    by-one : (b : Bool) → (eqb e 1 && eqb (s .one) 0) ≡ b → known (noted (alone e d) p s) ≡ known s
+    by-one : (b : Bool) → (eqb e 1 && eqb (s .one .number) 0) ≡ b → known (noted (alone e d) p s) ≡ known s
     by-one true t = rw (noted, t)
-    by-one false t = by-two t (eqb e 2 && eqb (s .two) 0) refl
+    by-one false t = by-two t (eqb e 2 && eqb (s .two .number) 0) refl
 
 -- and the element's kind and length come to it
-lengthy-long : (kind p w : ℕ) (s : Seen) → known (lengthy kind p w s) ≡ longer (known s) kind p w
+lengthy-long : (kind p w : ℕ) (s : Tally) → known (lengthy kind p w s) ≡ longer (known s) kind p w
 unfolding lengthy
-lengthy-long kind p w s = go (longId kind w && eqb (s .long) 0) refl
+lengthy-long kind p w s = go (longId kind w && eqb (s .long .whole) 0) refl
   where
-    go : (b : Bool) → (longId kind w && eqb (s .long) 0) ≡ b → known (lengthy kind p w s) ≡ longer (known s) kind p w
+    go : (b : Bool) → (longId kind w && eqb (s .long .whole) 0) ≡ b → known (lengthy kind p w s) ≡ longer (known s) kind p w
     go true t = rw (lengthy, longer, t)
     go false t = rw (lengthy, longer, t)
 
 -- what is known with an element in a line's form
-pub met-long : (x : Line) (p w : ℕ) (s : Seen) → (met x p w s .long, met x p w s .«long_at») ≡ longer (s .long, s .«long_at») (x .kind) p w
+pub met-long : (x : Line) (p w : ℕ) (s : Tally) → (met x p w s .long .whole, met x p w s .long .place) ≡ longer (s .long .whole, s .long .place) (x .kind) p w
 unfolding met
 met-long x p w s =
     lengthy-long (x .kind) p w (noted (x .mark) p s) ∙ ap (λ (h : ℕ × ℕ). longer h (x .kind) p w) (noted-long (x .mark) p s)
@@ -112,7 +112,7 @@ rows-one-long kind item p w inner behind n up place whole a b d other within fur
     ∙ further (next + length own + length inside)
 
 -- an inside that the walk passes
-inner-long : (R : ℕ → Bool) (m r : Seen) (i first : ℕ) (inside : Tree) (n up place whole : ℕ)
+inner-long : (R : ℕ → Bool) (m r : Tally) (i first : ℕ) (inside : Tree) (n up place whole : ℕ)
     → (walk R m i first inside ≡ Passed r → firstLong (known m) (rowsFrom i inside n up place whole) ≡ known r)
     → innerWalk R m i first inside ≡ Passed r → firstLong (known m) (rowsWithin i inside n up place whole) ≡ known r
 unfolding firstLong
@@ -126,8 +126,8 @@ inner-long R m r i first inside n up place whole each w = go (eqb i 0) refl
         ap (firstLong (known m)) (inner-rows i inside n up place whole e) ∙ each (sym (inner-walked R m i first inside e) ∙ w)
 
 -- What the counting walk has met of long certReqIds is the first row that is one.
-pub rows-long : (R : ℕ → Bool) (t : Tree) (s r : Seen) (k around n up place whole : ℕ) → walk R s k around t ≡ Passed r
-    → firstLong (s .long, s .«long_at») (rowsFrom k t n up place whole) ≡ (r .long, r .«long_at»)
+pub rows-long : (R : ℕ → Bool) (t : Tree) (s r : Tally) (k around n up place whole : ℕ) → walk R s k around t ≡ Passed r
+    → firstLong (s .long .whole, s .long .place) (rowsFrom k t n up place whole) ≡ (r .long .whole, r .long .place)
 unfolding rowsFrom firstLong
 rows-long R none s r k around n up place whole passed = ap known (passed-none R s k around r passed .1)
 rows-long R (element id p w c inside rest) s r k around n up place whole passed =
@@ -145,8 +145,8 @@ rows-long R (element id p w c inside rest) s r k around n up place whole passed 
     (λ j u. ap (λ (h : ℕ × ℕ). firstLong h (inner j u)) (sym (met-long x p w s)) ∙ within j u) further
 
 -- What a walk over a container's elements has met of them is the first of any derivation's rows that is one.
-pub walk-long : {R : ℕ → Bool} (Q : ℕ → Bool) (name : Name) {t : Tree} (m : Matches R (content name) t) (s r : Seen) (around n up place whole : ℕ)
-    → walk Q s (start name) around t ≡ Passed r → firstLong (s .long, s .«long_at») (rows m n up place whole) ≡ (r .long, r .«long_at»)
+pub walk-long : {R : ℕ → Bool} (Q : ℕ → Bool) (name : Name) {t : Tree} (m : Matches R (content name) t) (s r : Tally) (around n up place whole : ℕ)
+    → walk Q s (start name) around t ≡ Passed r → firstLong (s .long .whole, s .long .place) (rows m n up place whole) ≡ (r .long .whole, r .long .place)
 walk-long Q name {t = t} m s r around n up place whole passed =
     ap (firstLong (known s)) (sym (rows-lines name m n up place whole)) ∙ rows-long Q t s r (start name) around n up place whole passed
 
@@ -181,24 +181,24 @@ pub long-none : (rs : List Row) → eqb (firstLong (0, 0) rs .0) 0 ≡ allShort 
 long-none rs = long-known (0, 0) rs
 
 -- Where nothing is known behind some rows, nothing was known before them.
-none-before : (s r : Seen) (rs : List Row) → firstLong (known s) rs ≡ known r → r .long ≡ 0 → s .long ≡ 0
+none-before : (s r : Tally) (rs : List Row) → firstLong (known s) rs ≡ known r → r .long .whole ≡ 0 → s .long .whole ≡ 0
 none-before s r rs is zero =
-    let both-none = ap (λ (h : ℕ × ℕ). eqb (h .0) 0) is ∙ eq-eqb (r .long) 0 zero in
-    eqb-true (s .long) 0 (and-eq-true-iff (eqb (s .long) 0) (allShort rs) .0 (sym (long-known (known s) rs) ∙ both-none) .0)
+    let both-none = ap (λ (h : ℕ × ℕ). eqb (h .0) 0) is ∙ eq-eqb (r .long .whole) 0 zero in
+    eqb-true (s .long .whole) 0 (and-eq-true-iff (eqb (s .long .whole) 0) (allShort rs) .0 (sym (long-known (known s) rs) ∙ both-none) .0)
 
 -- Before a walk that passes and has met no long certReqId none was met.
-pub walk-short : (R : ℕ → Bool) (t : Tree) (s r : Seen) (k around : ℕ) → walk R s k around t ≡ Passed r → r .long ≡ 0 → s .long ≡ 0
+pub walk-short : (R : ℕ → Bool) (t : Tree) (s r : Tally) (k around : ℕ) → walk R s k around t ≡ Passed r → r .long .whole ≡ 0 → s .long .whole ≡ 0
 walk-short R t s r k around passed = none-before s r (rowsFrom k t 0 0 0 0) (rows-long R t s r k around 0 0 0 0 passed)
 
 -- So it is before an inside.
-pub inner-short : (R : ℕ → Bool) (m r : Seen) (i first : ℕ) (inside : Tree) → innerWalk R m i first inside ≡ Passed r → r .long ≡ 0 → m .long ≡ 0
+pub inner-short : (R : ℕ → Bool) (m r : Tally) (i first : ℕ) (inside : Tree) → innerWalk R m i first inside ≡ Passed r → r .long .whole ≡ 0 → m .long .whole ≡ 0
 inner-short R m r i first inside passed =
     none-before m r (rowsWithin i inside 0 0 0 0)
     (inner-long R m r i first inside 0 0 0 0 (rows-long R inside m r i first 0 0 0 0) passed)
 
 -- With an element in a line's form none is known: it is none.
-pub met-short : (x : Line) (p w : ℕ) (s : Seen) → met x p w s .long ≡ 0 → not (longId (x .kind) w) ≡ true
+pub met-short : (x : Line) (p w : ℕ) (s : Tally) → met x p w s .long .whole ≡ 0 → not (longId (x .kind) w) ≡ true
 met-short x p w s zero =
     let nothing = ap (λ (h : ℕ × ℕ). eqb (h .0) 0 && true) (sym (met-long x p w s)) ∙ ap (λ (n : ℕ). eqb n 0 && true) zero in
     and-eq-true-iff (not (longId (x .kind) w)) true .0
-    (and-eq-true-iff (eqb (s .long) 0) _ .0 (sym (longer-none (known s) (x .kind) p w true) ∙ nothing) .1) .0
+    (and-eq-true-iff (eqb (s .long .whole) 0) _ .0 (sym (longer-none (known s) (x .kind) p w true) ∙ nothing) .1) .0

@@ -9,7 +9,7 @@ use mathlib.Core.Option.{Option}
 use lib.Dec.{T}
 use borrow.Author.Tests.{lt-ltb}
 use Rattle.der.specs.Tree.{Tree, none, element}
-use Rattle.crmf.specs.declared.walk.Seen.{Seen}
+use Rattle.crmf.specs.declared.tally.Tally.{Tally}
 use Rattle.crmf.specs.declared.judge.Onward.the-variants.{To}
 use Rattle.crmf.specs.declared.table.Found.the-variants.{At}
 use Rattle.crmf.specs.Value.{keeps, selected}
@@ -114,6 +114,6 @@ pub trail-occurrences : {R : ℕ → Bool} {t : Tree} (n : Name) (m : Matches R 
 trail-occurrences {R} {t} n m = trail-matches R t (start n) (content n) (stands-start n) m
 
 -- So what the walk has met of an edition is what was met before it, or else the first occurrence of the edition that the meaning gives.
-pub marks-met : {R : ℕ → Bool} {t : Tree} {e : ℕ} → Edition e → (s : Seen) (around : ℕ) (n : Name) (m : Matches R (content n) t)
+pub marks-met : {R : ℕ → Bool} {t : Tree} {e : ℕ} → Edition e → (s : Tally) (around : ℕ) (n : Name) (m : Matches R (content n) t)
     → firstSeen e (seenOf (walk all s (start n) around t)) ≡ after e (firstSeen e s) (occurrences m)
 marks-met {t = t} {e = e} ed s around n m = walk-seen ed s (start n) around t ∙ ap (after e (firstSeen e s)) (trail-occurrences n m)

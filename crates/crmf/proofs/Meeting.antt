@@ -5,7 +5,7 @@ use mathlib.Core.Bool.{Bool, true, false, _&&_}
 use native.Mathlib.Omega.{arith}
 use borrow.Author.Tests.{ltb-true}
 use lib.Dec.{ltb, eqb}
-use Rattle.crmf.specs.declared.walk.Seen.{Seen}
+use Rattle.crmf.specs.declared.tally.Tally.{Tally}
 use Rattle.crmf.specs.Codes as codes
 use Rattle.crmf.specs.Notation.{Mark, both, alone}
 use Rattle.crmf.specs.Table.{Line}
@@ -24,7 +24,7 @@ unfolding computed
 small-at = at-line (λ x. small (x .mark)) refl
 
 -- a mark is noted by the edition and the difference of its code
-marked : (m : Mark) (code p : ℕ) (s : Seen) → small m ≡ true → markCode m ≡ code → noted m p s ≡ noted (alone (code / codes.edition) (code % codes.edition)) p s
+marked : (m : Mark) (code p : ℕ) (s : Tally) → small m ≡ true → markCode m ≡ code → noted m p s ≡ noted (alone (code / codes.edition) (code % codes.edition)) p s
 unfolding markCode noted
 marked both code p s h coded = rw (sym coded)
 marked (alone e d) code p s h coded =
@@ -34,30 +34,28 @@ marked (alone e d) code p s h coded =
     ap₂ (λ (e′ d′ : ℕ). noted (alone e′ d′) p s) high low
 
 -- what is noted, by the tests of the edition and of what was met before
-module _ (k code p : ℕ) (s : Seen) (coded : markCode (line k .mark) ≡ code) where
+module _ (k code p : ℕ) (s : Tally) (coded : markCode (line k .mark) ≡ code) where
   by-code : noted (line k .mark) p s ≡ noted (alone (code / codes.edition) (code % codes.edition)) p s
   by-code = marked (line k .mark) code p s (small-at k) coded
 
-  pub met-one : (eqb (code / codes.edition) 1 && eqb (s .one) 0) ≡ true
-      → noted (line k .mark) p s ≡ record { count = s .count; one = code % codes.edition; «one_at» = p; two = s .two; «two_at» = s .«two_at»; long = s .long; «long_at» = s .«long_at» }
+  pub met-one : (eqb (code / codes.edition) 1 && eqb (s .one .number) 0) ≡ true
+      → noted (line k .mark) p s ≡ record { count = s .count; one = record { number = code % codes.edition; place = p }; two = s .two; long = s .long }
   unfolding noted
   met-one t = by-code ∙ rw (noted, t)
 
-  pub met-two : (eqb (code / codes.edition) 1 && eqb (s .one) 0) ≡ false → (eqb (code / codes.edition) 2 && eqb (s .two) 0) ≡ true
-      → noted (line k .mark) p s ≡ record { count = s .count; one = s .one; «one_at» = s .«one_at»; two = code % codes.edition; «two_at» = p; long = s .long; «long_at» = s .«long_at» }
+  pub met-two : (eqb (code / codes.edition) 1 && eqb (s .one .number) 0) ≡ false → (eqb (code / codes.edition) 2 && eqb (s .two .number) 0) ≡ true
+      → noted (line k .mark) p s ≡ record { count = s .count; one = s .one; two = record { number = code % codes.edition; place = p }; long = s .long }
   unfolding noted
   met-two f t = by-code ∙ rw (noted, f) (rw t)
 
-  pub met-none : (eqb (code / codes.edition) 1 && eqb (s .one) 0) ≡ false → (eqb (code / codes.edition) 2 && eqb (s .two) 0) ≡ false
+  pub met-none : (eqb (code / codes.edition) 1 && eqb (s .one .number) 0) ≡ false → (eqb (code / codes.edition) 2 && eqb (s .two .number) 0) ≡ false
       → noted (line k .mark) p s ≡ s
   unfolding noted
   met-none f t = by-code ∙ rw (noted, f) (rw t)
 
 -- what is met with an element: what is noted, with a long certReqId and the sum of the rows
-pub met-with : (x : Line) (p w : ℕ) (s m r : Seen) (n a b : ℕ) → m ≡ noted (x .mark) p s → r ≡ lengthy (x .kind) p w m → n ≡ r .count + a + b
-    → a ≡ rowsOf (x .item) → b ≡ rowsOf (x .kind)
-    → record { count = n; one = r .one; «one_at» = r .«one_at»; two = r .two; «two_at» = r .«two_at»; long = r .long; «long_at» = r .«long_at» }
-    ≡ met x p w s
+pub met-with : (x : Line) (p w : ℕ) (s m r : Tally) (n a b : ℕ) → m ≡ noted (x .mark) p s → r ≡ lengthy (x .kind) p w m → n ≡ r .count + a + b
+    → a ≡ rowsOf (x .item) → b ≡ rowsOf (x .kind) → record { count = n; one = r .one; two = r .two; long = r .long } ≡ met x p w s
 unfolding met
 met-with x p w s m r n a b noting longer sum item kind =
     let total : n ≡ r .count + (rowsOf (x .item) + rowsOf (x .kind)) = omega arith in

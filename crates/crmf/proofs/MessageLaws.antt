@@ -12,10 +12,10 @@ use lib.Dec.{T, eqb}
 use lib.ListN.{length, length-map, getElem?}
 use lib.Seq.{take-length}
 use borrow.Author.Tests.{eqb-true}
-use Rattle.der.specs.Walk.{depth}
+use Rattle.der.specs.Bounds.{depth}
 use Rattle.der.specs.Identifier.{constructed}
 use Rattle.der.specs.Tree.{Tree, none, element, header, encode, WellFormed, Single, moved}
-use Rattle.der.proofs.Laws.{encode-none, encode-element, moved-none, moved-element, sequence-constructed, sequence-allowed}
+use Rattle.der.proofs.Laws.{encode-none, encode-element, moved-none, moved-element, sequence-constructed, sequence-allowed, well-formed-none, well-formed-element, single-none, single-element}
 use Rattle.crmf.specs.Kinds as kinds
 use Rattle.crmf.specs.Value.{keeps, isEmpty, empty}
 use Rattle.crmf.specs.Notation
@@ -298,9 +298,9 @@ alone-octets id first whole c inside =
 -- the one element of a tree is its batch
 single-batch : (t : Tree) → Single t → (fields t ≡ batch t ∷ []) × (encode t ≡ octets (batch t))
 unfolding fields batch octets
-single-batch none one = absurd one
+single-batch none one = absurd (single-none one)
 single-batch (element id first whole c inside rest) one =
-    rw one (refl, alone-octets id first whole c inside)
+    rw (single-element id first whole c inside rest .0 one) (refl, alone-octets id first whole c inside)
 
 -- it is well-formed
 single-formed : (left p : ℕ) (t : Tree) → WellFormed left p t → Single t → FormedField left (batch t) × (batch t .place ≡ p)
@@ -374,6 +374,7 @@ pub record MessageStands (s : List ℕ) (m : Message) : Type 0 where
 
 -- what holds of every one of some fields, some of which may not be there
 listed-any : {P : Field → Type 0} (o : Option Field) → ((f : Field) → List·Memᴰ f (listed o) → P f) → IfAny P o
+unfolding listed
 listed-any absent each = tt
 listed-any (some f) each = each f (List·Memᴰ·head refl)
 
@@ -424,8 +425,9 @@ unfolding batchOf
 batch-of-formed to fs run each =
     let c = flatMap octets fs in
     let same : c ≡ encode (chain fs) = ap (flatMap octets) (sym (fields-chain fs)) ∙ sym (encode-fields (chain fs)) in
+    let size = length (header 0x30 c ++ c) in
     let formed = chain-formed 19 (length (header 0x30 c)) to fs run each in (
-      (
+      well-formed-element 19 0 0x30 0 size c (chain fs) none .1 (
         record {
           placed = refl;
           sized = refl;
@@ -433,9 +435,9 @@ batch-of-formed to fs run each =
           filled = λ e. (same, rw zero-add formed);
           valued = λ e. never-both (constructed 0x30) sequence-constructed e;
         },
-        tt,
+        well-formed-none depth (0 + size),
       ),
-      refl,
+      single-element 0x30 0 size c (chain fs) none .1 refl,
     )
 
 -- It has the messages of those fields.
@@ -453,7 +455,7 @@ batch-of-octets fs = let c = flatMap octets fs in alone-octets 0x30 0 (length (h
 -- an element that is a batch is the batch around its messages
 again : (t : Tree) → BatchContent t → Single t → batchOf (map (λ (m : Message). m .own) (messages t)) ≡ t
 unfolding batchOf batch fields octets
-again none b one = absurd one
+again none b one = absurd (single-none one)
 again (element id first whole c inside rest) b one =
     let t = element id first whole c inside rest in
     let fs = map (λ (m : Message). m .own) (messages t) in
@@ -462,7 +464,7 @@ again (element id first whole c inside rest) b one =
     let w : whole ≡ length (header id c ++ c) = b .size ∙ ap length (b .all) in
     let g : c ≡ flatMap octets fs = b .whole .written in
     let h : chain fs ≡ inside = ap chain (messages-own t) ∙ chain-fields inside in
-    cc
+    cc (single-element id first whole c inside rest .0 one)
 
 -- A batch is the batch around its messages.
 pub batch-again : {R : ℕ → Bool} (t : Tree) → Matches R (content Top) t → WellFormed depth 0 t → Single t

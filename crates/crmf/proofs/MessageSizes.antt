@@ -8,7 +8,7 @@ use mathlib.Core.List.{List, [], _∷_, map, List·Memᴰ, List·Memᴰ·head, L
 use lib.ListN.{length, length-append, length-map}
 use Rattle.der.specs.Identifier.{constructed}
 use Rattle.der.specs.Tree.{Tree, header, encode, WellFormed, Single}
-use Rattle.der.specs.Walk.{depth}
+use Rattle.der.specs.Bounds.{depth}
 use Rattle.der.proofs.Laws.{header-two, integer-some, sequence-constructed, integer-primitive}
 use Rattle.crmf.specs.Notation.{Top}
 use Rattle.crmf.specs.Grammar.{content}

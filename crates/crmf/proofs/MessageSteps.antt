@@ -4,20 +4,16 @@ use Prim.Native.Nat.{ℕ, _-_, _≤_, _<_}
 use native.Mathlib.Nat.{lt-of-not-le}
 use native.Mathlib.Omega.{arith}
 use mathlib.Core.Path.{_≡_, sym, ap, _∙_}
-use mathlib.Core.Bool.{Bool, true, false}
 use mathlib.Core.List.{List, [], _∷_, map}
 use lib.ListN.{length}
-use lib.Seq.{slice, take-all}
 use Rattle.der.specs.Identifier.{constructed}
-use Rattle.der.specs.Tree.{Tree, none, encode}
-use Rattle.der.specs.Walk.{longest}
+use Rattle.der.specs.Tree.{encode}
+use Rattle.der.specs.Bounds.{longest}
 use Rattle.der.specs.Reading.{readAt, tree}
-use Rattle.der.proofs.Parts.{slice-none}
-use Rattle.der.proofs.Laws.{read-at-in-order, tree-at, tree-end, sequence-constructed}
+use Rattle.der.proofs.Laws.{read-at-in-order, sequence-constructed}
 use Rattle.crmf.specs.Grammar.{content}
-use Rattle.crmf.specs.Fields.{Field, fields}
+use Rattle.crmf.specs.Fields.{Field, fields, fieldsBetween}
 use Rattle.crmf.specs.Messages.{messageOf, batch, messages}
-use Rattle.crmf.proofs.FieldLaws.{fields-none, fields-element}
 use Rattle.crmf.proofs.FieldSteps.{fieldAt, fields-end, fields-at, inside-fields, batch-at}
 use Rattle.crmf.proofs.MessageLaws.{MessageParts, BatchContent}
 use Rattle.crmf.proofs.MessageSizes.{octets-two}
@@ -27,13 +23,13 @@ abbrev pub fieldRead : List ℕ → ℕ → ℕ → Field
 fieldRead s p e = fieldAt s p (readAt s p e)
 
 -- fields stand only where an octet does
-fields-some : (s : List ℕ) (p e : ℕ) (f : Field) (fs : List Field) → fields (tree p (slice p e s)) ≡ f ∷ fs → p < e
+fields-some : (s : List ℕ) (p e : ℕ) (f : Field) (fs : List Field) → fieldsBetween s p e ≡ f ∷ fs → p < e
 fields-some s p e f fs there =
     lt-of-not-le (λ past. let z : _≡_ {A = ℕ} 0 1 = cc (fields-end s p e past) in omega arith)
 
 -- The fields inside a SEQUENCE that is read are those from its content to its end.
 pub sequence-read : (s : List ℕ) (p e : ℕ) → fieldRead s p e .identifier ≡ 0x30
-    → let x = readAt s p e in fields (fieldRead s p e .inside) ≡ fields (tree (x .content) (slice (x .content) (x .end) s))
+    → let x = readAt s p e in fields (fieldRead s p e .inside) ≡ fieldsBetween s (x .content) (x .end)
 sequence-read s p e thirty = inside-fields s p (readAt s p e) (ap constructed thirty ∙ sequence-constructed)
 
 -- The first field inside a SEQUENCE is what is read from its content on.
@@ -68,7 +64,7 @@ id-read s p e some fits high k =
 
 -- Where a whole input is read as a batch, its messages are those of the fields from the batch's content to the input's end.
 pub batch-read : (s : List ℕ) → length s ≤ longest → encode (tree 0 s) ≡ s → BatchContent (tree 0 s)
-    → let p = readAt s 0 (length s) .content in messages (tree 0 s) ≡ map messageOf (fields (tree p (slice p (length s) s)))
+    → let p = readAt s 0 (length s) .content in messages (tree 0 s) ≡ map messageOf (fieldsBetween s p (length s))
 unfolding messages
 batch-read s high encoded b =
     let n = length s in
@@ -78,4 +74,4 @@ batch-read s high encoded b =
     let ends : x .end ≡ n = omega (arith, ap (λ (f : Field). f .whole) (sym own) ∙ b .size ∙ ap length encoded) in
     let thirty = ap (λ (f : Field). f .identifier) (sym own) ∙ b .thirty in
     let inside = ap (λ (f : Field). fields (f .inside)) own ∙ sequence-read s 0 n thirty in
-    ap (map messageOf) (inside ∙ ap (λ (e : ℕ). fields (tree (x .content) (slice (x .content) e s))) ends)
+    ap (map messageOf) (inside ∙ ap (λ (e : ℕ). fieldsBetween s (x .content) e) ends)

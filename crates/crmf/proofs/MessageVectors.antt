@@ -3,6 +3,7 @@
 use Prim.Native.Nat.{ℕ}
 use mathlib.Core.Path.{_≡_, refl}
 use mathlib.Core.List.{List, [], _∷_, _++_, map}
+use Rattle.der.specs.Identifier.{tagNumber, constructed, allowed}
 use Rattle.der.specs.Length.{valueFrom, shortest, longForm, lengthOf}
 use Rattle.der.specs.Header.{sizedBy, headOf}
 use Rattle.der.specs.Reading.{given, read, treeOf, tree}
@@ -19,7 +20,7 @@ figures m =
 -- the smallest batch
 smallest : map figures (messages (tree 0 (0x30 ∷ 0x09 ∷ 0x30 ∷ 0x07 ∷ 0x30 ∷ 0x05 ∷ 0x02 ∷ 0x01 ∷ 0x00 ∷ 0x30 ∷ 0x00 ∷ [])))
     ≡ ((0x30 ∷ 2 ∷ 9 ∷ []) ∷ (0x30 ∷ 4 ∷ 7 ∷ []) ∷ (0x02 ∷ 6 ∷ 3 ∷ []) ∷ (0x30 ∷ 9 ∷ 2 ∷ []) ∷ []) ∷ []
-unfolding tree treeOf read given headOf sizedBy lengthOf longForm shortest valueFrom among fields nth seek messageOf batch messages
+unfolding tagNumber constructed allowed tree treeOf read given headOf sizedBy lengthOf longForm shortest valueFrom among fields nth seek messageOf batch messages listed
 smallest = refl
 
 -- two messages, the second with a proof and a regInfo
@@ -30,5 +31,5 @@ two : map figures (messages (tree 0 (
     ≡ ((0x30 ∷ 2 ∷ 9 ∷ []) ∷ (0x30 ∷ 4 ∷ 7 ∷ []) ∷ (0x02 ∷ 6 ∷ 3 ∷ []) ∷ (0x30 ∷ 9 ∷ 2 ∷ []) ∷ [])
     ∷ ((0x30 ∷ 11 ∷ 20 ∷ []) ∷ (0x30 ∷ 13 ∷ 7 ∷ []) ∷ (0x02 ∷ 15 ∷ 3 ∷ []) ∷ (0x30 ∷ 18 ∷ 2 ∷ []) ∷ (0x80 ∷ 20 ∷ 2 ∷ []) ∷ (0x30 ∷ 22 ∷ 9 ∷ []) ∷ [])
     ∷ []
-unfolding tree treeOf read given headOf sizedBy lengthOf longForm shortest valueFrom among fields nth seek messageOf batch messages
+unfolding tagNumber constructed allowed tree treeOf read given headOf sizedBy lengthOf longForm shortest valueFrom among fields nth seek messageOf batch messages listed
 two = refl

@@ -8,7 +8,7 @@ use mathlib.Core.Option.{Option, none, some}
 use lib.Dec.{eqb}
 use borrow.Author.Tests.{eqb-true, eqb-false, eq-eqb}
 use Rattle.der.specs.Tree.{Tree}
-use Rattle.crmf.specs.declared.walk.Seen.{Seen}
+use Rattle.crmf.specs.declared.tally.Tally.{Tally}
 use Rattle.crmf.specs.declared.walk.Walked.{Walked}
 use Rattle.crmf.specs.declared.walk.Walked.the-variants.{Broken}
 use Rattle.crmf.specs.Notation.{alone}
@@ -61,7 +61,7 @@ abbrev pub foreign : ℕ → Walked → ℕ × ℕ
 foreign e w = firstSeen (other e) (seenOf w)
 
 -- The walk of one edition alone, from what the walk that reads every form has met of the other edition.
-module _ {e : ℕ} (ed : Edition e) (s : Seen) (k around : ℕ) (t : Tree) (fresh : firstSeen (other e) s .0 ≡ 0) where
+module _ {e : ℕ} (ed : Edition e) (s : Tally) (k around : ℕ) (t : Tree) (fresh : firstSeen (other e) s .0 ≡ 0) where
   -- the first of the trail is what was met
   seen-first : foreign e (walk all s k around t) ≡ firstOr (firstSeen (other e) s) (firstOf (λ x. eqb x (other e)) (trail k t))
   seen-first =
@@ -86,14 +86,14 @@ module _ {e : ℕ} (ed : Edition e) (s : Seen) (k around : ℕ) (t : Tree) (fres
 
   -- Otherwise it breaks there, with the detail of its difference.
   pub own-stops : (foreign e (walk all s k around t) .0 ≡ 0 → ⊥)
-      → (r : Seen) × (walk (λ x. eqb x e) s k around t
+      → (r : Tally) × (walk (λ x. eqb x e) s k around t
       ≡ Broken (foreign e (walk all s k around t) .1)
       (unreadDetail (alone (other e) (foreign e (walk all s k around t) .0))) r)
   own-stops seen = go (firstOf (λ x. eqb x (other e)) (trail k t)) refl own-follows
     where
       go : (x : Option Occurrence) → firstOf (λ x. eqb x (other e)) (trail k t) ≡ x
           → Follows (walk (λ x. eqb x e) s k around t) (walk all s k around t) x
-          → (r : Seen) × (walk (λ x. eqb x e) s k around t
+          → (r : Tally) × (walk (λ x. eqb x e) s k around t
           ≡ Broken (foreign e (walk all s k around t) .1)
           (unreadDetail (alone (other e) (foreign e (walk all s k around t) .0))) r)
       go none is alike = absurd (seen (ap (λ (h : ℕ × ℕ). h .0) (rw is at seen-first) ∙ fresh))

@@ -7,7 +7,7 @@ use mathlib.Core.List.{List}
 use lib.Dec.{eqb, ltb}
 use borrow.Author.Tests.{ltb-true}
 use Rattle.der.specs.Tree.{Tree, none, element}
-use Rattle.crmf.specs.declared.walk.Seen.{Seen}
+use Rattle.crmf.specs.declared.tally.Tally.{Tally}
 use Rattle.crmf.specs.declared.walk.Walked.{Walked}
 use Rattle.crmf.specs.declared.walk.Walked.the-variants.{Passed, Broken}
 use Rattle.crmf.specs.declared.judge.Onward.{Onward}
@@ -20,7 +20,7 @@ use Rattle.crmf.specs.Table.{keep, choose}
 use Rattle.crmf.specs.Walk.{line, seek, closed, ruleDetail, ways, judged, unreadDetail, met, walk}
 
 -- the walk inside an element whose inside starts at a line: none where that is 0
-unfoldable pub innerWalk : (ℕ → Bool) → Seen → ℕ → ℕ → Tree → Walked
+unfoldable pub innerWalk : (ℕ → Bool) → Tally → ℕ → ℕ → Tree → Walked
 innerWalk R m i first inside = elim (eqb i 0) [ true ↦ Passed m | false ↦ walk R m i first inside ]
 
 -- a value that keeps its rule goes on with the line behind
@@ -66,42 +66,42 @@ way-onward s next n c to = go (ltb (selected s c) (ways s)) refl
     go false e = breaks-not-to (sym (judged-astray s next c e) ∙ to)
 
 -- What a walk that passes found for the first element: its line, what was met behind its inside, and the line behind it.
-pub record Chosen (R : ℕ → Bool) (s : Seen) (k around id first whole : ℕ) (c : List ℕ) (inside rest : Tree) (r : Seen) : Type 0 where
+pub record Chosen (R : ℕ → Bool) (s : Tally) (k around id first whole : ℕ) (c : List ℕ) (inside rest : Tree) (r : Tally) : Type 0 where
   pub at : ℕ
   pub found : seek k id ≡ At at
   pub read : readable R (line at .mark) ≡ true
-  pub seen : Seen
+  pub seen : Tally
   pub inner : innerWalk R (met (line at) first whole s) (line at .inside) first inside ≡ Passed seen
   pub next : ℕ
   pub onward : judged (line at .judge) (line at .next) c ≡ To next
   pub further : walk R seen next around rest ≡ Passed r
 
 -- no walk both passes and breaks
-pub passed-not-broken : {A : Type 0} {q d : ℕ} {r s : Seen} → Broken q d r ≡ Passed s → A
+pub passed-not-broken : {A : Type 0} {q d : ℕ} {r s : Tally} → Broken q d r ≡ Passed s → A
 passed-not-broken same = let z : _≡_ {A = ℕ} 0 1 = cc in absurd (omega arith)
 
 -- a free inside passes and meets nothing
-pub inner-free : (R : ℕ → Bool) (m : Seen) (i first : ℕ) (inside : Tree) → eqb i 0 ≡ true → innerWalk R m i first inside ≡ Passed m
+pub inner-free : (R : ℕ → Bool) (m : Tally) (i first : ℕ) (inside : Tree) → eqb i 0 ≡ true → innerWalk R m i first inside ≡ Passed m
 unfolding innerWalk
 inner-free R m i first inside free = rw (free, innerWalk)
 
 -- an inside that starts at a line is walked from there
-pub inner-walked : (R : ℕ → Bool) (m : Seen) (i first : ℕ) (inside : Tree) → eqb i 0 ≡ false
+pub inner-walked : (R : ℕ → Bool) (m : Tally) (i first : ℕ) (inside : Tree) → eqb i 0 ≡ false
     → innerWalk R m i first inside ≡ walk R m i first inside
 unfolding innerWalk
 inner-walked R m i first inside starts = rw (starts, innerWalk)
 
 -- the walk at a container's end, where it may end
-pub walk-closed : (R : ℕ → Bool) (s : Seen) (k around : ℕ) → closed k ≡ true → walk R s k around none ≡ Passed s
+pub walk-closed : (R : ℕ → Bool) (s : Tally) (k around : ℕ) → closed k ≡ true → walk R s k around none ≡ Passed s
 unfolding walk
 walk-closed R s k around ok = rw (ok, walk)
 
 -- the walk at a container's end, where a part is missing
-pub walk-open : (R : ℕ → Bool) (s : Seen) (k around : ℕ) → closed k ≡ false → walk R s k around none ≡ Broken around 2 s
+pub walk-open : (R : ℕ → Bool) (s : Tally) (k around : ℕ) → closed k ≡ false → walk R s k around none ≡ Broken around 2 s
 unfolding walk
 walk-open R s k around missing = rw (missing, walk)
 
-module _ (R : ℕ → Bool) (s : Seen) (k around id first whole : ℕ) (c : List ℕ) (inside rest : Tree) where
+module _ (R : ℕ → Bool) (s : Tally) (k around id first whole : ℕ) (c : List ℕ) (inside rest : Tree) where
   -- an element that fits no part
   pub walk-nowhere : seek k id ≡ Nowhere → walk R s k around (element id first whole c inside rest) ≡ Broken first 1 s
   unfolding walk
@@ -114,32 +114,32 @@ module _ (R : ℕ → Bool) (s : Seen) (k around id first whole : ℕ) (c : List
   walk-unread n e u = rw (e, walk) (rw u)
 
   -- an element with a break inside
-  pub walk-inner-broken : (n q d : ℕ) (r : Seen) → seek k id ≡ At n → readable R (line n .mark) ≡ true
+  pub walk-inner-broken : (n q d : ℕ) (r : Tally) → seek k id ≡ At n → readable R (line n .mark) ≡ true
       → innerWalk R (met (line n) first whole s) (line n .inside) first inside ≡ Broken q d r
       → walk R s k around (element id first whole c inside rest) ≡ Broken q d r
   unfolding walk innerWalk
   walk-inner-broken n q d r e u w = rw (e, walk) (rw u (rw w))
 
   -- an element whose value breaks its rule
-  pub walk-breaks : (n d : ℕ) (r : Seen) → seek k id ≡ At n → readable R (line n .mark) ≡ true
+  pub walk-breaks : (n d : ℕ) (r : Tally) → seek k id ≡ At n → readable R (line n .mark) ≡ true
       → innerWalk R (met (line n) first whole s) (line n .inside) first inside ≡ Passed r → judged (line n .judge) (line n .next) c ≡ Breaks d
       → walk R s k around (element id first whole c inside rest) ≡ Broken first d r
   unfolding walk innerWalk
   walk-breaks n d r e u w j = rw (e, walk) (rw u (rw w (rw j)))
 
   -- an element that is passed: the walk goes on behind it
-  pub walk-next : (n next : ℕ) (r : Seen) → seek k id ≡ At n → readable R (line n .mark) ≡ true
+  pub walk-next : (n next : ℕ) (r : Tally) → seek k id ≡ At n → readable R (line n .mark) ≡ true
       → innerWalk R (met (line n) first whole s) (line n .inside) first inside ≡ Passed r → judged (line n .judge) (line n .next) c ≡ To next
       → walk R s k around (element id first whole c inside rest) ≡ walk R r next around rest
   unfolding walk innerWalk
   walk-next n next r e u w j = rw (e, walk) (rw u (rw w (rw j)))
 
   -- A walk that passes over an element chose its line, read it, passed its inside, kept its rule and passed the rest.
-  pub passed-element : (r : Seen) → walk R s k around (element id first whole c inside rest) ≡ Passed r
+  pub passed-element : (r : Tally) → walk R s k around (element id first whole c inside rest) ≡ Passed r
       → Chosen R s k around id first whole c inside rest r
   passed-element r passed = by-line (seek k id) refl
     where
-      by-onward : (n : ℕ) (m : Seen) → seek k id ≡ At n → readable R (line n .mark) ≡ true
+      by-onward : (n : ℕ) (m : Tally) → seek k id ≡ At n → readable R (line n .mark) ≡ true
           → innerWalk R (met (line n) first whole s) (line n .inside) first inside ≡ Passed m → (o : Onward)
           → judged (line n .judge) (line n .next) c ≡ o → Chosen R s k around id first whole c inside rest r
       by-onward n m e u w (Breaks d) j = passed-not-broken (sym (walk-breaks n d m e u w j) ∙ passed)
@@ -160,12 +160,12 @@ module _ (R : ℕ → Bool) (s : Seen) (k around id first whole : ℕ) (c : List
       by-line (At n) e = by-read n e (readable R (line n .mark)) refl
 
   -- From the same parts, the walk over the element passes.
-  pub element-passes : (r : Seen) → Chosen R s k around id first whole c inside rest r
+  pub element-passes : (r : Tally) → Chosen R s k around id first whole c inside rest r
       → walk R s k around (element id first whole c inside rest) ≡ Passed r
   element-passes r h = walk-next (h .at) (h .next) (h .seen) (h .found) (h .read) (h .inner) (h .onward) ∙ h .further
 
 -- A walk that passes at the end of the elements stands where the container may end, and met nothing more.
-pub passed-none : (R : ℕ → Bool) (s : Seen) (k around : ℕ) (r : Seen) → walk R s k around none ≡ Passed r
+pub passed-none : (R : ℕ → Bool) (s : Tally) (k around : ℕ) (r : Tally) → walk R s k around none ≡ Passed r
     → (closed k ≡ true) × (s ≡ r)
 passed-none R s k around r passed = go (closed k) refl
   where

@@ -10,7 +10,7 @@ use mathlib.Core.Option.{Option, none, some}
 use lib.Dec.{eqb}
 use Rattle.der.specs.Tree.{Tree, element}
 use Rattle.der.specs.Tree as tree
-use Rattle.crmf.specs.declared.walk.Seen.{Seen}
+use Rattle.crmf.specs.declared.tally.Tally.{Tally}
 use Rattle.crmf.specs.declared.walk.Walked.{Walked}
 use Rattle.crmf.specs.declared.walk.Walked.the-variants.{Passed, Broken}
 use Rattle.crmf.specs.declared.table.Found.the-variants.{At}
@@ -91,7 +91,7 @@ first-split f (x ∷ os) o here = go (f (x .edition)) refl (first-split f os o)
 -- there is none, and else w breaks at its place, with the detail of its form.
 abbrev pub Follows : Walked → Walked → Option Occurrence → Type 0
 Follows w u none = w ≡ u
-Follows w u (some o) = (r : Seen) × (w ≡ Broken (o .place) (unreadDetail (alone (o .edition) (o .difference))) r)
+Follows w u (some o) = (r : Tally) × (w ≡ Broken (o .place) (unreadDetail (alone (o .edition) (o .difference))) r)
 
 -- a form that may be read gives no occurrence that may not
 occurs-read : (R : ℕ → Bool) (m : Mark) (p : ℕ) → readable R m ≡ true → firstOf (unread R) (occurs m p) ≡ none
@@ -108,7 +108,7 @@ occurs-unread R both p no-read = let z : _≡_ {A = ℕ} 0 1 = cc in absurd (ome
 occurs-unread R (alone e d) p no-read = (record { place = p; edition = e; difference = d }, rw (no-read, firstOf), refl, refl)
 
 -- inside an element, from the elements inside it
-follows-within : (R : ℕ → Bool) (s : Seen) (j place : ℕ) (t : Tree)
+follows-within : (R : ℕ → Bool) (s : Tally) (j place : ℕ) (t : Tree)
     → Follows (walk R s j place t) (walk all s j place t) (firstOf (unread R) (trail j t))
     → Follows (innerWalk R s j place t) (innerWalk all s j place t) (firstOf (unread R) (trailIn j t))
 unfolding firstOf innerWalk
@@ -121,7 +121,7 @@ follows-within R s j place t inner = go (eqb j 0)
     go false = inner
 
 -- at an element that fits a line: the form itself, then the inside, then what the trail has behind it
-follows-element : (R : ℕ → Bool) (s : Seen) (k n around id first whole : ℕ) (c : List ℕ) (inside rest : Tree) (tail : List Occurrence)
+follows-element : (R : ℕ → Bool) (s : Tally) (k n around id first whole : ℕ) (c : List ℕ) (inside rest : Tree) (tail : List Occurrence)
     → seek k id ≡ At n
     → trail k (element id first whole c inside rest) ≡ occurs (line n .mark) first ++ (trailIn (line n .inside) inside ++ tail)
     → Follows (innerWalk R (met (line n) first whole s) (line n .inside) first inside) (innerWalk all (met (line n) first whole s) (line n .inside) first inside)
@@ -137,7 +137,7 @@ follows-element R s k n around id first whole c inside rest tail found split inn
     t : Tree
     t = element id first whole c inside rest
 
-    m : Seen
+    m : Tally
     m = met (line n) first whole s
 
     here : List Occurrence
@@ -166,7 +166,7 @@ follows-element R s k n around id first whole c inside rest tail found split inn
 
 -- The strong form. A walk with any set of readable forms answers as the walk that reads every form does, whether that passes or breaks, if
 -- every occurrence of the trail may be read; otherwise it breaks at the first that may not.
-pub own-walk : (R : ℕ → Bool) (s : Seen) (k around : ℕ) (t : Tree)
+pub own-walk : (R : ℕ → Bool) (s : Tally) (k around : ℕ) (t : Tree)
     → Follows (walk R s k around t) (walk all s k around t) (firstOf (unread R) (trail k t))
 unfolding firstOf
 own-walk R s k around tree.none = rw trail-end (go (closed k) refl)
@@ -181,8 +181,8 @@ own-walk R s k around (element id first whole c inside rest) =
     t = element id first whole c inside rest
 
     go : Way k id c inside
-        → ((m : Seen) (j : ℕ) → Follows (walk R m j first inside) (walk all m j first inside) (firstOf (unread R) (trail j inside)))
-        → ((r : Seen) (j : ℕ) → Follows (walk R r j around rest) (walk all r j around rest) (firstOf (unread R) (trail j rest)))
+        → ((m : Tally) (j : ℕ) → Follows (walk R m j first inside) (walk all m j first inside) (firstOf (unread R) (trail j inside)))
+        → ((r : Tally) (j : ℕ) → Follows (walk R r j around rest) (walk all r j around rest) (firstOf (unread R) (trail j rest)))
         → Follows (walk R s k around t) (walk all s k around t) (firstOf (unread R) (trail k t))
     go (lost missing) inner later =
         rw (trail-lost k id first whole c inside rest missing)
@@ -218,18 +218,18 @@ own-walk R s k around (element id first whole c inside rest) =
         ) (later r next))
 
 -- where a walk passes, the walk that reads every form answers alike
-pub passed-follows : (w u : Walked) (x : Option Occurrence) (r : Seen) → Follows w u x → w ≡ Passed r → (x ≡ none) × (u ≡ Passed r)
+pub passed-follows : (w u : Walked) (x : Option Occurrence) (r : Tally) → Follows w u x → w ≡ Passed r → (x ≡ none) × (u ≡ Passed r)
 passed-follows w u none r alike passed = (refl, sym alike ∙ passed)
 passed-follows w u (some o) r breaks passed = let z : _≡_ {A = ℕ} 0 1 = cc (breaks .1) in absurd (omega arith)
 
 -- A walk that passes met no occurrence that it may not read.
-pub passed-reads : (R : ℕ → Bool) (s r : Seen) (k around : ℕ) (t : Tree) → walk R s k around t ≡ Passed r → firstOf (unread R) (trail k t) ≡ none
+pub passed-reads : (R : ℕ → Bool) (s r : Tally) (k around : ℕ) (t : Tree) → walk R s k around t ≡ Passed r → firstOf (unread R) (trail k t) ≡ none
 passed-reads R s r k around t passed =
     passed-follows (walk R s k around t) (walk all s k around t) (firstOf (unread R) (trail k t)) r (own-walk R s k around t) passed .0
 
 -- Theorem 4: where a walk with one set of readable forms passes, a walk with another set passes alike, if every occurrence of the trail may
 -- be read; otherwise it stops exactly at the first that may not.
-pub two-sets : (R Q : ℕ → Bool) (s r : Seen) (k around : ℕ) (t : Tree) → walk R s k around t ≡ Passed r
+pub two-sets : (R Q : ℕ → Bool) (s r : Tally) (k around : ℕ) (t : Tree) → walk R s k around t ≡ Passed r
     → Follows (walk Q s k around t) (Passed r) (firstOf (unread Q) (trail k t))
 two-sets R Q s r k around t passed =
     let whole = passed-follows (walk R s k around t) (walk all s k around t) (firstOf (unread R) (trail k t)) r (own-walk R s k around t) passed in

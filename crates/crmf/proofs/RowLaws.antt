@@ -8,8 +8,8 @@ use mathlib.Core.List.{List, [], _∷_, _++_, append-nil}
 use lib.ListN.{length, getD, take as upto, length-append, length-take}
 use lib.Seq.{getD-take}
 use Rattle.der.specs.Identifier.{constructed}
-use Rattle.der.specs.Tree.{Tree, none, element, header, encode, WellFormed}
-use Rattle.der.proofs.Laws.{header-some, encode-none, encode-length}
+use Rattle.der.specs.Tree.{Tree, none, element, header, encode, WellFormed, Formed}
+use Rattle.der.proofs.Laws.{header-some, encode-none, encode-length, well-formed-none, well-formed-deep, well-formed-element}
 use Rattle.crmf.specs.Kinds as kinds
 use Rattle.crmf.specs.Value.{selected}
 use Rattle.crmf.specs.Notation.{among, Top, Batch, Inside, Form, once, Part, part, holding, row}
@@ -65,18 +65,24 @@ module _ (q id p w : ℕ) (c : List ℕ) (inside rest : Tree) where
 
   -- so any well-formed element does
   pub standing : (left : ℕ) → WellFormed left q (element id p w c inside rest) → Standing left q id p w c inside rest
-  standing zero wf = absurd wf
+  standing zero wf = absurd (well-formed-deep q id p w c inside rest wf)
   standing (suc left) wf = go (constructed id) refl
     where
+      one : Formed q id p w c inside (WellFormed left (q + length (header id c)) inside)
+      one = well-formed-element left q id p w c inside rest .0 wf .0
+
+      more : WellFormed (suc left) (q + w) rest
+      more = well-formed-element left q id p w c inside rest .0 wf .1
+
       go : (b : Bool) → constructed id ≡ b → Standing (suc left) q id p w c inside rest
       go true e =
-          let (octets, deeper) = wf .0 .filled e in
-          stands-at (suc left) left (wf .0 .placed) (wf .0 .sized) deeper [] (octets ∙ sym (append-nil (encode inside))) (wf .1)
+          let (octets, deeper) = one .filled e in
+          stands-at (suc left) left (one .placed) (one .sized) deeper [] (octets ∙ sym (append-nil (encode inside))) more
       go false e =
-          let empty = wf .0 .valued e .0 in
-          let nothing : WellFormed left (q + length (header id c)) inside = rw empty tt in
+          let empty = one .valued e .0 in
+          let nothing : WellFormed left (q + length (header id c)) inside = rw empty (well-formed-none left (q + length (header id c))) in
           let none-inside : encode inside ≡ [] = ap encode empty ∙ encode-none in
-          stands-at (suc left) left (wf .0 .placed) (wf .0 .sized) nothing c (rw none-inside) (wf .1)
+          stands-at (suc left) left (one .placed) (one .sized) nothing c (rw none-inside) more
 
 mutual
   unfolding rows rowsIn rowsOne early earlyIn rightIn
@@ -197,7 +203,7 @@ pub record Inner (outer r : Row) : Type 0 where
 module _ {R : ℕ → Bool} {t : Tree} (m : Matches R (content Top) t) (left : ℕ) (wf : WellFormed left 0 t) where
   -- the batch's rows begin with its own
   top : Batched (batchRows m) (length (encode t))
-  unfolding content
+  unfolding content batchRows
   top = batched m left wf
 
   -- Row 0 is the batch: kind 1, from byte 0 on, the batch's whole length, its own parent.

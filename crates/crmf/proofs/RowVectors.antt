@@ -3,16 +3,17 @@ use Prim.Native.Nat.{ℕ}
 use mathlib.Core.Path.{_≡_, refl}
 use mathlib.Core.List.{List, [], _∷_, _++_, map}
 use Rattle.der.specs.Each.{Each}
+use Rattle.der.specs.Identifier.{tagNumber, constructed, allowed}
 use Rattle.der.specs.Length.{valueFrom, shortest, longForm, lengthOf, base256}
 use Rattle.der.specs.Header.{sizedBy, headOf}
-use Rattle.der.specs.Reading.{given, read, treeOf, tree}
+use Rattle.der.specs.Reading.{nothingAt, given, read, treeOf, tree}
 use Rattle.crmf.specs.Value.{same, number, typeNumber, selected}
 use Rattle.crmf.specs.Notation.{among, named, order}
 use Rattle.crmf.specs.Grammar.{content}
 use Rattle.crmf.specs.Table.{partSize, size, startsFrom, start, insideLine, passOf, formLines, nextLine, wayLine, partLines, containerLines, linesFrom, lines}
 use Rattle.crmf.specs.Walk.{line, seekIn, seek}
 use Rattle.crmf.specs.Rows.{numbers}
-use Rattle.crmf.specs.Fill.{goes, rowsFrom, rowsOf, filled}
+use Rattle.crmf.specs.Fill.{goes, rowsFrom, rowsOf, over, fits, filled}
 
 -- A batch, its octets as the digits of a number, and the numbers of its rows.
 record Example : Type 0 where
@@ -65,8 +66,8 @@ examples =
 
 -- every example has such rows
 worked : Each Shows examples
-unfolding valueFrom shortest longForm lengthOf base256 sizedBy headOf
-    given read treeOf tree same number typeNumber selected among named order content
+unfolding tagNumber constructed allowed valueFrom shortest longForm lengthOf base256 sizedBy headOf
+    nothingAt given read treeOf tree same number typeNumber selected among named order content
     partSize size startsFrom start insideLine passOf formLines nextLine wayLine partLines containerLines linesFrom lines
     line seekIn seek goes rowsFrom rowsOf numbers
 worked = (refl, (refl, (refl, (refl, (refl, (refl, (refl, (refl, tt))))))))
@@ -78,8 +79,8 @@ before more = 7 ∷ 7 ∷ 7 ∷ 7 ∷ 7 ∷ 7 ∷ 7 ∷ 7 ∷ 7 ∷ 7 ∷ 7 ∷ 
 -- "19 and 20 numbers of table for S": one number short the table stays; with room it holds the rows, and the number behind them stays
 tables : map (filled (batch 0x3009300730050201003000) 5) (before [] ∷ before (7 ∷ []) ∷ before (7 ∷ 8 ∷ []) ∷ [])
     ≡ before [] ∷ first 11 9 ∷ (first 11 9 ++ (8 ∷ [])) ∷ []
-unfolding valueFrom shortest longForm lengthOf base256 sizedBy headOf
-    given read treeOf tree same number typeNumber selected among named order content
+unfolding tagNumber constructed allowed valueFrom shortest longForm lengthOf base256 sizedBy headOf
+    nothingAt given read treeOf tree same number typeNumber selected among named order content
     partSize size startsFrom start insideLine passOf formLines nextLine wayLine partLines containerLines linesFrom lines
-    line seekIn seek goes rowsFrom rowsOf numbers filled
+    line seekIn seek goes rowsFrom rowsOf numbers over fits filled
 tables = refl

@@ -11,7 +11,7 @@ use lib.Dec.{T, eqb}
 use lib.ListN.{length, length-append}
 use borrow.Author.Tests.{lt-ltb}
 use Rattle.der.specs.Tree.{Tree, none, element}
-use Rattle.crmf.specs.declared.walk.Seen.{Seen}
+use Rattle.crmf.specs.declared.tally.Tally.{Tally}
 use Rattle.crmf.specs.declared.walk.Walked.the-variants.{Passed}
 use Rattle.crmf.specs.declared.judge.Onward.the-variants.{To}
 use Rattle.crmf.specs.declared.table.Found.the-variants.{At, Nowhere}
@@ -213,30 +213,30 @@ pub parent-own : (kind n up : ℕ) → eqb kind 0 ≡ false → parentIf kind n 
 parent-own kind n up e = rw (e, parentIf)
 
 -- what is noted leaves the count
-noted-count : (m : Mark) (p : ℕ) (s : Seen) → noted m p s .count ≡ s .count
+noted-count : (m : Mark) (p : ℕ) (s : Tally) → noted m p s .count ≡ s .count
 unfolding noted
 noted-count both p s = refl
-noted-count (alone e d) p s = by-one (eqb e 1 && eqb (s .one) 0) refl
+noted-count (alone e d) p s = by-one (eqb e 1 && eqb (s .one .number) 0) refl
   where
-    by-two : (eqb e 1 && eqb (s .one) 0) ≡ false → (b : Bool) → (eqb e 2 && eqb (s .two) 0) ≡ b → noted (alone e d) p s .count ≡ s .count
+    by-two : (eqb e 1 && eqb (s .one .number) 0) ≡ false → (b : Bool) → (eqb e 2 && eqb (s .two .number) 0) ≡ b → noted (alone e d) p s .count ≡ s .count
     by-two f true t = rw (noted, f) (rw t)
     by-two f false t = rw (noted, f) (rw t)
 
-    by-one : (b : Bool) → (eqb e 1 && eqb (s .one) 0) ≡ b → noted (alone e d) p s .count ≡ s .count
+    by-one : (b : Bool) → (eqb e 1 && eqb (s .one .number) 0) ≡ b → noted (alone e d) p s .count ≡ s .count
     by-one true t = rw (noted, t)
-    by-one false t = by-two t (eqb e 2 && eqb (s .two) 0) refl
+    by-one false t = by-two t (eqb e 2 && eqb (s .two .number) 0) refl
 
 -- as does a long certReqId
-lengthy-count : (kind p w : ℕ) (s : Seen) → lengthy kind p w s .count ≡ s .count
+lengthy-count : (kind p w : ℕ) (s : Tally) → lengthy kind p w s .count ≡ s .count
 unfolding lengthy
-lengthy-count kind p w s = go (longId kind w && eqb (s .long) 0) refl
+lengthy-count kind p w s = go (longId kind w && eqb (s .long .whole) 0) refl
   where
-    go : (b : Bool) → (longId kind w && eqb (s .long) 0) ≡ b → lengthy kind p w s .count ≡ s .count
+    go : (b : Bool) → (longId kind w && eqb (s .long .whole) 0) ≡ b → lengthy kind p w s .count ≡ s .count
     go true t = rw (lengthy, t)
     go false t = rw (lengthy, t)
 
 -- an element's line counts the rows of its kinds
-pub met-count : (x : Line) (p w : ℕ) (s : Seen) → met x p w s .count ≡ s .count + (rowsOf (x .item) + rowsOf (x .kind))
+pub met-count : (x : Line) (p w : ℕ) (s : Tally) → met x p w s .count ≡ s .count + (rowsOf (x .item) + rowsOf (x .kind))
 unfolding met
 met-count x p w s =
     ap (λ (n : ℕ). n + (rowsOf (x .item) + rowsOf (x .kind))) (lengthy-count (x .kind) p w (noted (x .mark) p s) ∙ noted-count (x .mark) p s)
@@ -265,7 +265,7 @@ rows-one-count kind item p w inner behind n up place whole a b d within further 
     )
 
 -- the count of an inside that the walk passes
-inner-count : (R : ℕ → Bool) (m r : Seen) (i first : ℕ) (inside : Tree) (n up place whole : ℕ)
+inner-count : (R : ℕ → Bool) (m r : Tally) (i first : ℕ) (inside : Tree) (n up place whole : ℕ)
     → (walk R m i first inside ≡ Passed r → length (rowsFrom i inside n up place whole) + m .count ≡ r .count)
     → innerWalk R m i first inside ≡ Passed r → length (rowsWithin i inside n up place whole) + m .count ≡ r .count
 inner-count R m r i first inside n up place whole each w = go (eqb i 0) refl
@@ -273,15 +273,15 @@ inner-count R m r i first inside n up place whole each w = go (eqb i 0) refl
     go : (b : Bool) → eqb i 0 ≡ b → length (rowsWithin i inside n up place whole) + m .count ≡ r .count
     go true e =
         let same : m ≡ r = cc (inner-free R m i first inside e) in
-        omega (arith, ap length (inner-no-rows i inside n up place whole e), ap (λ (s : Seen). s .count) same)
+        omega (arith, ap length (inner-no-rows i inside n up place whole e), ap (λ (s : Tally). s .count) same)
     go false e = rw (inner-rows i inside n up place whole e) (each (sym (inner-walked R m i first inside e) ∙ w))
 
 -- The counting walk's count is the number of rows.
-pub rows-count : (R : ℕ → Bool) (t : Tree) (s r : Seen) (k around n up place whole : ℕ) → walk R s k around t ≡ Passed r
+pub rows-count : (R : ℕ → Bool) (t : Tree) (s r : Tally) (k around n up place whole : ℕ) → walk R s k around t ≡ Passed r
     → length (rowsFrom k t n up place whole) + s .count ≡ r .count
 unfolding rowsFrom
 rows-count R none s r k around n up place whole passed =
-    omega (arith, ap (λ (m : Seen). m .count) (passed-none R s k around r passed .1))
+    omega (arith, ap (λ (m : Tally). m .count) (passed-none R s k around r passed .1))
 rows-count R (element id p w c inside rest) s r k around n up place whole passed =
     let e = passed-element R s k around id p w c inside rest r passed in
     let x = line (e .at) in
@@ -297,7 +297,7 @@ rows-count R (element id p w c inside rest) s r k around n up place whole passed
     (λ j u. ap (λ (a : ℕ). length (inner j u) + a) (sym (met-count x p w s)) ∙ within j u) further
 
 -- The count of a walk over a container's elements is the number of any derivation's rows.
-pub walk-counts : {R : ℕ → Bool} (Q : ℕ → Bool) (name : Name) {t : Tree} (m : Matches R (content name) t) (s r : Seen) (around n up place whole : ℕ)
+pub walk-counts : {R : ℕ → Bool} (Q : ℕ → Bool) (name : Name) {t : Tree} (m : Matches R (content name) t) (s r : Tally) (around n up place whole : ℕ)
     → walk Q s (start name) around t ≡ Passed r → length (rows m n up place whole) + s .count ≡ r .count
 walk-counts Q name {t = t} m s r around n up place whole passed =
     ap (λ (l : List Row). length l + s .count) (sym (rows-lines name m n up place whole))

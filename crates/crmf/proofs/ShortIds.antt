@@ -177,7 +177,7 @@ id-short f s =
 -- Where no row of a batch is a certReqId of more than 8 content octets, no message's certReqId is one: it has at most 10 octets.
 pub ids-short : {R : ℕ → Bool} (t : Tree) (top : Matches R (content Top) t) → allShort (batchRows top) ≡ true
     → (m : Message) → List·Memᴰ m (messages t) → m .certReqId .whole ≤ 10
-unfolding content batch
+unfolding content batch batchRows
 ids-short {R} t top short m at =
     let b = once-short top (record { n = 0; up = 0; place = 0; whole = 0; short = short }) in
     let all : ShortInside R Batch (batch t .inside) = rw (b .split) (short-inside 1 0x30 Batch (b .item) (short-only (b .field))) in

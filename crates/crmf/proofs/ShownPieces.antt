@@ -125,6 +125,7 @@ module _ (s : List ℕ) where
 -- The rows of a batch show the derivation's pieces of its octets.
 pub batch-pieces : {R : ℕ → Bool} {t : Tree} (m : Matches R (content Top) t) (left : ℕ) → WellFormed left 0 t → (s : List ℕ) → encode t ≡ s
     → piecesOf s (batchRows m) ≡ pieces m 0 0 []
+unfolding batchRows
 batch-pieces {t = t} m left wf s same =
     let there : StandsAt s 0 (encode t) = rw same (take-length s) in
     rows-pieces s m left 0 wf there 0 0 0 0 [] refl

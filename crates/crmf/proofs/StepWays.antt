@@ -1,4 +1,5 @@
--- What a step says of an element, a law for each shape of a line: any of a mark, a value, a certReqId, and one with lines inside. Assumes nothing.
+-- How the recogniser may visit an element, a law for each shape of a line: any of a mark, a value, a certReqId, and one with lines inside.
+-- Assumes nothing.
 use Prim.Native.Nat.{ℕ, _+_, _/_, _≤_, _<_}
 use mathlib.Core.Path.{_≡_, refl, sym, ap, ap₂, subst, _∙_}
 use mathlib.Core.Bool.{Bool, true, false, not, _&&_, and-eq-true-iff, and-true, and-false, Bool·not-not}
@@ -9,11 +10,12 @@ use lib.Dec.{eqb, ltb, leb}
 use lib.ListN.{length}
 use borrow.Author.Tests.{ltb-true, leb-true, leb-false, le-ltb, lt-ltb, ne-eqb}
 use Rattle.der.specs.Content.{holds, integer}
-use Rattle.der.specs.Sound.{wholeOf}
-use Rattle.der.proofs.Laws.{whole-value, holds-integer, holds-free, ruled}
+use Rattle.der.specs.Recognise.{isElement}
+use Rattle.der.proofs.Laws.{is-element-value, holds-integer, holds-free, ruled}
 use Rattle.crmf.specs.declared.judge.Onward.{Onward}
 use Rattle.crmf.specs.declared.judge.Onward.the-variants.{To, Breaks}
-use Rattle.crmf.specs.declared.step.Step.the-variants.{Stop, On, Into}
+use Rattle.crmf.specs.declared.quick.Recognition.the-variants.{Rows, Unrecognised}
+use Rattle.crmf.specs.declared.step.Visit.the-variants.{Refuse, Skip, Descend}
 use Rattle.crmf.specs.Codes as codes
 use Rattle.crmf.specs.Kinds as kinds
 use Rattle.crmf.specs.Value.{Rule, always, keeps}
@@ -24,7 +26,7 @@ use Rattle.crmf.specs.Table.{keep, start}
 use Rattle.crmf.specs.Packed.{markCode, actionOf}
 use Rattle.crmf.specs.Walk.{line, judged, ruleDetail}
 use Rattle.crmf.specs.Quick.{stands, countsAt}
-use Rattle.crmf.specs.QuickSteps.{inner, outcome, Sized, Taken, Fine}
+use Rattle.crmf.specs.QuickSteps.{contentCount, ruledCount, Sized, VisitJustified, RowlessFrom}
 use Rattle.crmf.proofs.Fields.{computed, at-line}
 use Rattle.crmf.proofs.Actions.{Plain, plain-names, Asked, id-kind, Opens}
 
@@ -72,49 +74,49 @@ pub asked-mark : {k i : ℕ} {r : Rule} → Asked k i r → line k .mark ≡ bot
 asked-mark (inl x) = x .mark
 asked-mark (inr (j, x, free)) = x .mark
 
--- What a step says of an element.
+-- How an element may be visited.
 module _ (e k whole left id : ℕ) (c : List ℕ) where
   -- what its value says
   abbrev says : Onward
   says = judged (line k .judge) (line k .next) c
 
   -- its value breaks its rule
-  pub stop-breaks : (d : ℕ) → says ≡ Breaks d → Taken e k whole left id c Stop
-  unfolding outcome
-  stop-breaks d breaks n p = rw (outcome, breaks)
+  pub refuse-breaks : (d : ℕ) → says ≡ Breaks d → VisitJustified e k whole left id c Refuse
+  unfolding ruledCount
+  refuse-breaks d breaks n p = rw (ruledCount, breaks)
 
-  -- its inside comes to nothing
-  stop-none : ((n p : ℕ) → inner e k whole left n p id c ≡ 0) → Taken e k whole left id c Stop
-  unfolding outcome
-  stop-none nothing n p = go says refl
+  -- its content isn't recognised
+  refuse-content : ((n p : ℕ) → contentCount e k whole left n p id c ≡ Unrecognised) → VisitJustified e k whole left id c Refuse
+  unfolding ruledCount
+  refuse-content nothing n p = go says refl
     where
-      go : (o : Onward) → says ≡ o → outcome e k whole left n p id c ≡ 0
-      go (To next) on = rw (outcome, on) (nothing n p)
-      go (Breaks d) breaks = rw (outcome, breaks)
+      go : (o : Onward) → says ≡ o → ruledCount e k whole left n p id c ≡ Unrecognised
+      go (To next) on = rw (ruledCount, on) (nothing n p)
+      go (Breaks d) breaks = rw (ruledCount, breaks)
 
   -- it may not stand there
-  pub stop-wrong : stands e (line k) whole ≡ false → Taken e k whole left id c Stop
-  unfolding inner
-  stop-wrong wrong = stop-none (λ n p. rw (inner, wrong))
+  pub refuse-wrong : stands e (line k) whole ≡ false → VisitJustified e k whole left id c Refuse
+  unfolding contentCount
+  refuse-wrong wrong = refuse-content (λ n p. rw (contentCount, wrong))
 
   module _ (good : stands e (line k) whole ≡ true) (next : ℕ) where
-    -- an inside with lines of its own
-    pub into : says ≡ To next → eqb (line k .inside) 0 ≡ false → Taken e k whole left id c (Into next)
-    unfolding inner
-    into on lined = (on, λ n p some. rw (inner, good, lined))
+    -- a content with lines of its own
+    pub descend : says ≡ To next → eqb (line k .inside) 0 ≡ false → VisitJustified e k whole left id c (Descend next)
+    unfolding contentCount
+    descend on lined = (on, λ n p. rw (contentCount, good, lined))
 
-    -- the same that is fine
-    on-inside : says ≡ To next → eqb (line k .inside) 0 ≡ false → ((n p : ℕ) → 1 ≤ n → countsAt e left (line k .inside) n p c ≡ n)
-        → Taken e k whole left id c (On next)
-    unfolding inner
-    on-inside on lined fine = (on, λ n p some. rw (inner, good, lined) (fine n p some))
+    -- the same that was checked
+    skip-inside : says ≡ To next → eqb (line k .inside) 0 ≡ false → ((n p : ℕ) → countsAt e left (line k .inside) n p c ≡ Rows n)
+        → VisitJustified e k whole left id c (Skip next)
+    unfolding contentCount
+    skip-inside on lined checked = (on, λ n p. rw (contentCount, good, lined) (checked n p))
 
     -- an element with a free inside
-    pub on-whole : says ≡ To next → eqb (line k .inside) 0 ≡ true → (t : Bool) → wholeOf id left c ≡ t
-        → Taken e k whole left id c (elim t [ true ↦ On next | false ↦ Stop ])
-    unfolding inner
-    on-whole on free true is = (on, λ n p some. rw (inner, good, free, is))
-    on-whole on free false is = stop-none (λ n p. rw (inner, good, free, is))
+    pub skip-whole : says ≡ To next → eqb (line k .inside) 0 ≡ true → (t : Bool) → isElement id left c ≡ t
+        → VisitJustified e k whole left id c (elim t [ true ↦ Skip next | false ↦ Refuse ])
+    unfolding contentCount
+    skip-whole on free true is = (on, λ n p. rw (contentCount, good, free, is))
+    skip-whole on free false is = refuse-content (λ n p. rw (contentCount, good, free, is))
 
     module _ (to : next ≡ line k .next) where
       -- what the line's rule says
@@ -129,76 +131,76 @@ module _ (e k whole left id : ℕ) (c : List ℕ) where
       said-always is = said always is true refl
 
       -- an element with a free inside, and a rule
-      on-kept : (r : Rule) → line k .judge ≡ keep r → eqb (line k .inside) 0 ≡ true → (w b : Bool) → wholeOf id left c ≡ w → keeps r c ≡ b
-          → Taken e k whole left id c (elim (w && b) [ true ↦ On next | false ↦ Stop ])
-      on-kept r is free true true fine kept = on-whole (said r is true kept) free true fine
-      on-kept r is free false true fault kept = on-whole (said r is true kept) free false fault
-      on-kept r is free true false fine broken = stop-breaks (ruleDetail r) (said r is false broken)
-      on-kept r is free false false fault broken = stop-breaks (ruleDetail r) (said r is false broken)
+      skip-kept : (r : Rule) → line k .judge ≡ keep r → eqb (line k .inside) 0 ≡ true → (w b : Bool) → isElement id left c ≡ w → keeps r c ≡ b
+          → VisitJustified e k whole left id c (elim (w && b) [ true ↦ Skip next | false ↦ Refuse ])
+      skip-kept r is free true true sound kept = skip-whole (said r is true kept) free true sound
+      skip-kept r is free false true fault kept = skip-whole (said r is true kept) free false fault
+      skip-kept r is free true false sound broken = refuse-breaks (ruleDetail r) (said r is false broken)
+      skip-kept r is free false false fault broken = refuse-breaks (ruleDetail r) (said r is false broken)
 
       -- any element
-      pub on-any : line k .judge ≡ keep always → eqb (line k .inside) 0 ≡ true → (t : Bool) → wholeOf id left c ≡ t
-          → Taken e k whole left id c (elim t [ true ↦ On next | false ↦ Stop ])
-      on-any is free t fine = on-whole (said-always is) free t fine
+      pub skip-any : line k .judge ≡ keep always → eqb (line k .inside) 0 ≡ true → (t : Bool) → isElement id left c ≡ t
+          → VisitJustified e k whole left id c (elim t [ true ↦ Skip next | false ↦ Refuse ])
+      skip-any is free t sound = skip-whole (said-always is) free t sound
 
       module _ (fits : named (line k .identifiers) id ≡ true) where
         -- a value, by its type's rule and its line's
-        on-plain : {i : ℕ} {r : Rule} → Plain k i r false → (t : Bool) → (holds i c && keeps r c) ≡ t
-            → Taken e k whole left id c (elim t [ true ↦ On next | false ↦ Stop ])
-        on-plain {i} {r} x t both-hold =
+        skip-plain : {i : ℕ} {r : Rule} → Plain k i r false → (t : Bool) → (holds i c && keeps r c) ≡ t
+            → VisitJustified e k whole left id c (elim t [ true ↦ Skip next | false ↦ Refuse ])
+        skip-plain {i} {r} x t both-hold =
             let same : id ≡ i = plain-names x id fits in
-            let whole-is : wholeOf id left c ≡ holds i c = rw same (whole-value i left c (x .may) (x .lists)) in
-            subst (λ (b : Bool). Taken e k whole left id c (elim b [ true ↦ On next | false ↦ Stop ])) both-hold
-            (on-kept r (x .judge) (x .free) (holds i c) (keeps r c) whole-is refl)
+            let whole-is : isElement id left c ≡ holds i c = rw same (is-element-value i left c (x .may) (x .lists)) in
+            subst (λ (b : Bool). VisitJustified e k whole left id c (elim b [ true ↦ Skip next | false ↦ Refuse ])) both-hold
+            (skip-kept r (x .judge) (x .free) (holds i c) (keeps r c) whole-is refl)
 
         -- by its type's alone
-        pub on-typed : {i : ℕ} → Plain k i always false → (t : Bool) → holds i c ≡ t
-            → Taken e k whole left id c (elim t [ true ↦ On next | false ↦ Stop ])
+        pub skip-typed : {i : ℕ} → Plain k i always false → (t : Bool) → holds i c ≡ t
+            → VisitJustified e k whole left id c (elim t [ true ↦ Skip next | false ↦ Refuse ])
         unfolding keeps
-        on-typed {i} x t held = on-plain x t (and-true (holds i c) ∙ held)
+        skip-typed {i} x t held = skip-plain x t (and-true (holds i c) ∙ held)
 
         -- by its line's alone
-        on-free : {i : ℕ} {r : Rule} → Plain k i r false → ruled i ≡ false → (t : Bool) → keeps r c ≡ t
-            → Taken e k whole left id c (elim t [ true ↦ On next | false ↦ Stop ])
-        on-free {i} x free t kept = on-plain x t (rw (holds-free i c free) kept)
+        skip-free : {i : ℕ} {r : Rule} → Plain k i r false → ruled i ≡ false → (t : Bool) → keeps r c ≡ t
+            → VisitJustified e k whole left id c (elim t [ true ↦ Skip next | false ↦ Refuse ])
+        skip-free {i} x free t kept = skip-plain x t (rw (holds-free i c free) kept)
 
         -- by one of them, which are the same
-        pub on-asked : {i : ℕ} {r : Rule} → Asked k i r → (t : Bool) → holds i c ≡ t → keeps r c ≡ t
-            → Taken e k whole left id c (elim t [ true ↦ On next | false ↦ Stop ])
-        on-asked (inl x) t held kept = on-typed x t held
-        on-asked (inr (j, x, free)) t held kept = on-free x free t kept
+        pub skip-asked : {i : ℕ} {r : Rule} → Asked k i r → (t : Bool) → holds i c ≡ t → keeps r c ≡ t
+            → VisitJustified e k whole left id c (elim t [ true ↦ Skip next | false ↦ Refuse ])
+        skip-asked (inl x) t held kept = skip-typed x t held
+        skip-asked (inr (j, x, free)) t held kept = skip-free x free t kept
 
         -- a value that is free
-        pub on-untyped : {i : ℕ} → Plain k i always false → ruled i ≡ false → Taken e k whole left id c (On next)
+        pub skip-untyped : {i : ℕ} → Plain k i always false → ruled i ≡ false → VisitJustified e k whole left id c (Skip next)
         unfolding keeps
-        on-untyped x free = on-free x free true refl
+        skip-untyped x free = skip-free x free true refl
 
       -- an element with lines inside
-      pub into-lines : {i : ℕ} → Plain k i always true → Taken e k whole left id c (Into next)
-      into-lines x = into (said-always (x .judge)) (x .free)
+      pub descend-lines : {i : ℕ} → Plain k i always true → VisitJustified e k whole left id c (Descend next)
+      descend-lines x = descend (said-always (x .judge)) (x .free)
 
-      -- the same where the inside may be seen to be fine, with levels enough
-      pub past : (n : Name) (levels least : ℕ) → Opens k n → levels ≤ least + 1 → (r : Bool) → (r ≡ true → Fine (start n) levels c)
-          → Taken e k whole left id c (elim (ltb least left && r) [ true ↦ On next | false ↦ Into next ])
-      past n levels least (i, x, is) enough r fine = go (ltb least left && r) refl
+      -- the same where the inside may have been checked, with levels enough
+      pub skip-small : (n : Name) (levels least : ℕ) → Opens k n → levels ≤ least + 1 → (r : Bool) → (r ≡ true → RowlessFrom (start n) levels c)
+          → VisitJustified e k whole left id c (elim (ltb least left && r) [ true ↦ Skip next | false ↦ Descend next ])
+      skip-small n levels least (i, x, is) enough r checked = go (ltb least left && r) refl
         where
-          go : (t : Bool) → (ltb least left && r) ≡ t → Taken e k whole left id c (elim t [ true ↦ On next | false ↦ Into next ])
-          go false test = into-lines x
+          go : (t : Bool) → (ltb least left && r) ≡ t → VisitJustified e k whole left id c (elim t [ true ↦ Skip next | false ↦ Descend next ])
+          go false test = descend-lines x
           go true test =
               let (deep, seen) = and-eq-true-iff (ltb least left) r .0 test in
               let room : levels ≤ left = omega (arith, ltb-true least left deep, enough) in
-              on-inside (said-always (x .judge)) (x .free)
-              (λ m p some. ap (λ (j : ℕ). countsAt e left j m p c) is ∙ fine seen e left m p room some)
+              skip-inside (said-always (x .judge)) (x .free)
+              (λ m p. ap (λ (j : ℕ). countsAt e left j m p c) is ∙ checked seen e left m p room)
 
 -- A certReqId: its content has 8 octets at most, and is an INTEGER's.
-pub on-id : (e k whole left id : ℕ) (c : List ℕ) (next : ℕ) → next ≡ line k .next → actionOf (line k) ≡ codes.takeCertReqId → Plain k 0x02 always false
+pub skip-id : (e k whole left id : ℕ) (c : List ℕ) (next : ℕ) → next ≡ line k .next → actionOf (line k) ≡ codes.takeCertReqId → Plain k 0x02 always false
     → named (line k .identifiers) id ≡ true → Sized whole c → (s t : Bool) → leb (length c) 8 ≡ s → integer c ≡ t
-    → Taken e k whole left id c (elim (s && t) [ true ↦ On next | false ↦ Stop ])
-on-id e k whole left id c next to is x fits sized true t small value =
+    → VisitJustified e k whole left id c (elim (s && t) [ true ↦ Skip next | false ↦ Refuse ])
+skip-id e k whole left id c next to is x fits sized true t small value =
     let few : ltb 10 whole ≡ false = le-ltb _ _ (sized .small (leb-true _ _ small)) in
     let short : longId (line k .kind) whole ≡ false = rw few (and-false (eqb (line k .kind) kinds.certReqId)) in
-    on-typed e k whole left id c (stands-common e k whole (x .mark) false short) next to fits x t (holds-integer c ∙ value)
-on-id e k whole left id c next to is x fits sized false t large value =
+    skip-typed e k whole left id c (stands-common e k whole (x .mark) false short) next to fits x t (holds-integer c ∙ value)
+skip-id e k whole left id c next to is x fits sized false t large value =
     let many : ltb 10 whole ≡ true = lt-ltb _ _ (sized .large (leb-false _ _ large)) in
     let long : longId (line k .kind) whole ≡ true = rw (id-kind k, is, many) in
-    stop-wrong e k whole left id c (stands-common e k whole (x .mark) true long)
+    refuse-wrong e k whole left id c (stands-common e k whole (x .mark) true long)

@@ -5,11 +5,12 @@ use mathlib.Core.Bool.{Bool, true}
 use mathlib.Core.List.{List, [], _∷_, map}
 use lib.Dec.{eqb}
 use Rattle.der.specs.Each.{Each, _&_}
+use Rattle.der.specs.Identifier.{tagNumber, constructed, allowed}
 use Rattle.der.specs.Length.{valueFrom, shortest, longForm, lengthOf, base256}
 use Rattle.der.specs.Header.{sizedBy, headOf}
 use Rattle.der.specs.Content.{boolean, integer, lastOf, bitString}
-use Rattle.der.specs.Reading.{given, read, treeOf, tree}
-use Rattle.crmf.specs.declared.walk.Seen.{Seen}
+use Rattle.der.specs.Reading.{nothingAt, given, read, treeOf, tree}
+use Rattle.crmf.specs.declared.tally.Tally.{Tally}
 use Rattle.crmf.specs.declared.walk.Walked.{Walked}
 use Rattle.crmf.specs.declared.walk.Walked.the-variants.{Passed, Broken}
 use Rattle.crmf.specs.Value.{same, isEmpty, isUpTo, number, isTrue, pairAt, leap, daysIn, isMoment, century, isUtcTime, isGeneralizedTime, keeps}
@@ -34,14 +35,15 @@ abbrev alike : ℕ → Walked → Example
 alike bs a = each bs a a a
 
 -- what was met: the count of rows, and the first form of edition 1 alone and of edition 2 alone
-abbrev seen : ℕ → ℕ → ℕ → ℕ → ℕ → Seen
-seen n d1 p1 d2 p2 = record { count = n; one = d1; «one_at» = p1; two = d2; «two_at» = p2; long = 0; «long_at» = 0 }
+abbrev seen : ℕ → ℕ → ℕ → ℕ → ℕ → Tally
+seen n d1 p1 d2 p2 =
+    record { count = n; one = record { number = d1; place = p1 }; two = record { number = d2; place = p2 }; long = record { whole = 0; place = 0 } }
 
 -- and with a certReqId of a whole length above 10 at a place
-abbrev longer : ℕ → ℕ → Seen → Seen
-longer w p s = record { count = s .count; one = s .one; «one_at» = s .«one_at»; two = s .two; «two_at» = s .«two_at»; long = w; «long_at» = p }
+abbrev longer : ℕ → ℕ → Tally → Tally
+longer w p s = record { count = s .count; one = s .one; two = s .two; long = record { whole = w; place = p } }
 
-abbrev rows : ℕ → Seen
+abbrev rows : ℕ → Tally
 rows n = seen n 0 0 0 0
 
 -- the three walks answer so
@@ -110,8 +112,8 @@ examples =
 
 -- every example is walked so
 worked : Each Walks examples
-unfolding valueFrom shortest longForm lengthOf base256 sizedBy headOf
-    boolean integer lastOf bitString given read treeOf tree
+unfolding tagNumber constructed allowed valueFrom shortest longForm lengthOf base256 sizedBy headOf
+    boolean integer lastOf bitString nothingAt given read treeOf tree
     same isEmpty isUpTo number isTrue pairAt leap daysIn isMoment century isUtcTime isGeneralizedTime keeps typeNumber selected among named order content
     partSize size startsFrom start insideLine passOf formLines nextLine wayLine partLines containerLines linesFrom lines
     line seekIn seek closedIn closed judged noted lengthy met walk

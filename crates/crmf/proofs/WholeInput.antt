@@ -6,9 +6,9 @@ use mathlib.Core.Path.{_≡_, sym, ap, _∙_}
 use mathlib.Core.List.{List}
 use lib.ListN.{length}
 use borrow.Author.Tests.{le-leb}
-use Rattle.der.specs.Walk.{longest}
+use Rattle.der.specs.Bounds.{longest}
 use Rattle.der.specs.Reading.{tree}
-use Rattle.crmf.specs.declared.walk.Seen.{Seen}
+use Rattle.crmf.specs.declared.tally.Tally.{Tally}
 use Rattle.crmf.specs.declared.walk.Walked.the-variants.{Passed}
 use Rattle.crmf.specs.Notation.{Top}
 use Rattle.crmf.specs.Table.{start}
@@ -29,12 +29,14 @@ module _ (s : List ℕ) (short : length s ≤ longest) where
   unfolding rowsOf
   rows-whole = rw (rowsOf, le-leb _ _ short)
 
-  module _ (r : Seen) (passed : countOf s ≡ Passed r) where
+  module _ (r : Tally) (passed : countOf s ≡ Passed r) where
     -- They are as many as were counted.
     pub whole-count : length (rowsOf s) ≡ r .count
+    unfolding fresh
     whole-count =
         omega (arith, ap (λ (l : List Row). length l) rows-whole, rows-count every (tree 0 s) fresh r (start Top) 0 0 0 0 0 (sym count-whole ∙ passed))
 
     -- The first long certReqId of them is the one that was met.
-    pub whole-long : firstLong (0, 0) (rowsOf s) ≡ (r .long, r .«long_at»)
+    pub whole-long : firstLong (0, 0) (rowsOf s) ≡ (r .long .whole, r .long .place)
+    unfolding fresh
     whole-long = ap (firstLong (0, 0)) rows-whole ∙ rows-long every (tree 0 s) fresh r (start Top) 0 0 0 0 0 (sym count-whole ∙ passed)

@@ -1,6 +1,6 @@
--- Rows written into a table, one run behind another: what is written over a list twice in a row is written at once. Assumes nothing.
+-- Rows written into a table, one run after another: what is written over a list twice in a row is written at once. Assumes nothing.
 use Prim.Native.Nat.{ℕ, zero, suc, _+_, _-_, _*_, _≤_, _<_}
-use mathlib.Core.Path.{_≡_, refl, sym, ap, ap₂, _∙_}
+use mathlib.Core.Path.{_≡_, refl, sym, ap, ap₂, subst, _∙_}
 use mathlib.Core.Bool.{Bool, true, false}
 use mathlib.Core.List.{List, [], _∷_, _++_, append-assoc, append-nil}
 use native.Mathlib.Nat.{add-zero, le-of-lt}
@@ -11,16 +11,24 @@ use lib.ListN.{length, take, drop, set, length-append, length-take, length-drop,
 use lib.Seq.{take-all, take-nil, take-at, drop-at, drop-drop, length-take-le, sets-eq}
 use lib.Dec.{eqb}
 use borrow.Author.Tests.{eq-eqb, ne-eqb}
+use Rattle.crmf.specs.declared.fill.Entry.{Entry}
 use Rattle.crmf.specs.Rows.{Row, rowIf, width, numbers}
 use Rattle.crmf.specs.Walk.{rowsOf as rowsGiven}
-use Rattle.crmf.specs.Fill.{over, written, Wrote}
+use Rattle.crmf.specs.Fill.{over, written, rowOf, Wrote}
+
+-- what is written stands between the numbers before its place and those after its end
+pub over-parts : (old : List ℕ) (a : ℕ) (p : List ℕ) → over old a p ≡ take a old ++ (p ++ drop (a + length p) old)
+unfolding over
+over-parts old a p = refl
 
 -- nothing written changes nothing
 pub over-nothing : (old : List ℕ) (a : ℕ) → over old a [] ≡ old
+unfolding over
 over-nothing old a = rw (add-zero a) (take-append-drop a old)
 
--- two runs, the second behind the first
+-- two runs, the second after the first
 pub over-over : (old : List ℕ) (a : ℕ) (p q : List ℕ) → a + length p ≤ length old → over (over old a p) (a + length p) q ≡ over old a (p ++ q)
+unfolding over
 over-over old a p q fits =
     let start : length (take a old) ≡ a = length-take-le a old (omega arith) in
     let head : length (take a old ++ p) ≡ a + length p = rw (length-append (take a old) p, start) in
@@ -36,6 +44,7 @@ over-over old a p q fits =
 
 -- a table keeps its length
 pub length-over : (old : List ℕ) (a : ℕ) (p : List ℕ) → a + length p ≤ length old → length (over old a p) ≡ length old
+unfolding over
 length-over old a p fits = simp (length-append, length-take, length-drop) (omega arith)
 
 -- the numbers of rows
@@ -57,7 +66,7 @@ take-rows (suc m) (r ∷ rs) ss =
     let one : suc m - suc (length rs) ≡ m - length rs = omega arith in
     rw one (ap (λ (l : List Row). r ∷ l) (take-rows m rs ss))
 
--- two runs of rows, the second behind the first
+-- two runs of rows, the second after the first
 pub written-written : (old : List ℕ) (n limit : ℕ) (rs ss : List Row) → width * limit ≤ length old
     → written (written old n limit rs) (n + length rs) limit ss ≡ written old n limit (rs ++ ss)
 unfolding numbers
@@ -101,41 +110,44 @@ length-written old n limit rs room = by-room (decLe n limit)
         let none : limit - n ≡ 0 = omega arith in
         rw none (ap length (over-nothing old (width * n)))
 
--- a kind of 0 writes nothing, and so does a row past the limit
-pub put-none : (old : List ℕ) (n limit kind first whole parent : ℕ) → kind ≡ 0
-    → (n ≡ n + length (rowIf kind first whole parent)) × (old ≡ written old n limit (rowIf kind first whole parent))
+-- nothing is written
+pub wrote-none : (n limit : ℕ) (old : List ℕ) → Wrote [] n limit old n old
 unfolding numbers
-put-none old n limit kind first whole parent none = (
-  rw (rowIf, eq-eqb kind 0 none) (sym (add-zero n)),
-  rw (rowIf, eq-eqb kind 0 none) (rw (take-nil (limit - n)) (sym (over-nothing old (width * n)))),
-)
+wrote-none n limit old = record { next-row = sym (add-zero n); kept = rw (take-nil (limit - n)) (sym (over-nothing old (width * n))) }
 
-module _ (old : List ℕ) (n limit kind first whole parent : ℕ) (some : kind ≡ 0 → ⊥) where
-  abbrev row : List Row
-  row = record { kind = kind; first = first; whole = whole; parent = parent } ∷ []
+-- an entry of no kind writes nothing, and so does a row past the limit
+module _ (old : List ℕ) (n limit : ℕ) (new : Entry) where
+  pub put-none : new .kind ≡ 0 → Wrote (rowOf new) n limit old n old
+  put-none none =
+      let no-row : [] ≡ rowOf new = rw (rowIf, eq-eqb (new .kind) 0 none) in
+      subst (λ (rs : List Row). Wrote rs n limit old n old) no-row (wrote-none n limit old)
 
-  one-row : rowIf kind first whole parent ≡ row
-  one-row = rw (rowIf, ne-eqb kind 0 some)
+  module _ (some : new .kind ≡ 0 → ⊥) where
+    abbrev row : List Row
+    row = record { kind = new .kind; first = new .first; whole = new .whole; parent = new .parent } ∷ []
 
-  pub put-past : limit ≤ n → (n + 1 ≡ n + length (rowIf kind first whole parent)) × (old ≡ written old n limit (rowIf kind first whole parent))
-  unfolding numbers
-  put-past past =
-      let none : limit - n ≡ 0 = omega arith in
-      (rw one-row, rw (one-row) (rw none (sym (over-nothing old (width * n)))))
+    one-row : rowOf new ≡ row
+    one-row = rw (rowIf, ne-eqb (new .kind) 0 some)
 
-  pub put-row : n < limit → width * limit ≤ length old
-      → (n + 1 ≡ n + length (rowIf kind first whole parent))
-      × (set (set (set (set old (width * n) kind) (width * n + 1) first) (width * n + 2) whole) (width * n + 3) parent
-      ≡ written old n limit (rowIf kind first whole parent))
-  unfolding numbers
-  put-row below room =
-      let b = width * n in
-      let values = kind ∷ first ∷ whole ∷ parent ∷ [] in
-      let all : take (limit - n) row ≡ row = take-all (limit - n) row (omega arith) in (
-        rw one-row,
-        simp (add-one, add-two, add-three) (sets-eq values old b (omega arith) ∙ append-assoc (take b old) values (drop (b + 4) old)) ∙ ap (λ (rs : List Row). over old b (numbers rs)) (sym all)
-            ∙ ap (written old n limit) (sym one-row),
-      )
+    pub put-past : limit ≤ n → Wrote (rowOf new) n limit old (n + 1) old
+    unfolding numbers
+    put-past past =
+        let none : limit - n ≡ 0 = omega arith in
+        record { next-row = rw one-row; kept = rw (one-row) (rw none (sym (over-nothing old (width * n)))) }
+
+    pub put-row : n < limit → width * limit ≤ length old
+        → Wrote (rowOf new) n limit old (n + 1)
+        (set (set (set (set old (width * n) (new .kind)) (width * n + 1) (new .first)) (width * n + 2) (new .whole)) (width * n + 3) (new .parent))
+    unfolding numbers over
+    put-row below room =
+        let b = width * n in
+        let values = new .kind ∷ new .first ∷ new .whole ∷ new .parent ∷ [] in
+        let all : take (limit - n) row ≡ row = take-all (limit - n) row (omega arith) in
+        record {
+          next-row = rw one-row;
+          kept = simp (add-one, add-two, add-three) (sets-eq values old b (omega arith) ∙ append-assoc (take b old) values (drop (b + 4) old)) ∙ ap (λ (rs : List Row). over old b (numbers rs)) (sym all)
+              ∙ ap (written old n limit) (sym one-row);
+        }
 
 -- a kind gives at most one row, as many as are counted for it
 pub one-at-most : (kind first whole parent : ℕ) → length (rowIf kind first whole parent) ≤ 1
@@ -151,11 +163,6 @@ rows-given kind first whole parent = go (eqb kind 0) refl
     go : (b : Bool) → eqb kind 0 ≡ b → length (rowIf kind first whole parent) ≡ rowsGiven kind
     go true e = rw (rowIf, rowsGiven, e)
     go false e = rw (rowIf, rowsGiven, e)
-
--- nothing is written
-pub wrote-none : (n limit : ℕ) (old : List ℕ) → Wrote [] n limit old n old
-unfolding numbers
-wrote-none n limit old = record { next-row = sym (add-zero n); kept = rw (take-nil (limit - n)) (sym (over-nothing old (width * n))) }
 
 -- two runs of rows
 pub wrote-two : (old mid new : List ℕ) (n m k limit : ℕ) (rs ss : List Row) → width * limit ≤ length old → Wrote rs n limit old m mid

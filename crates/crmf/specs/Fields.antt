@@ -26,7 +26,7 @@ fields (element id first whole content inside rest) =
     record { identifier = id; place = first; whole = whole; content = content; inside = inside } ∷ fields rest
 
 -- the elements that some bytes have from a place to another, one by one
-abbrev pub fieldsBetween : List ℕ → ℕ → ℕ → List Field
+unfoldable pub fieldsBetween : List ℕ → ℕ → ℕ → List Field
 fieldsBetween s from to = fields (tree from (slice from to s))
 
 -- the list of elements that some fields make
@@ -62,7 +62,7 @@ abbrev pub StandsAt : List ℕ → ℕ → List ℕ → Type 0
 StandsAt s p part = take (length part) (drop p s) ≡ part
 
 -- no field: of no length, at the place of the field that lacks it
-abbrev pub missing : Field → Field
+unfoldable pub missing : Field → Field
 missing f = record { identifier = 0; place = f .place; whole = 0; content = []; inside = none }
 
 -- the field with the number n, from 0, inside a field
@@ -75,11 +75,11 @@ seek ids [] = absent
 seek ids (f ∷ fs) = elim (among ids (f .identifier)) [ true ↦ some f | false ↦ seek ids fs ]
 
 -- the first field inside a field that has the identifier, if any has
-abbrev pub child : ℕ → Field → Option Field
+unfoldable pub child : ℕ → Field → Option Field
 child id f = seek (id ∷ []) (fields (f .inside))
 
 -- the field, if there is one, as a list
-abbrev pub listed : Option Field → List Field
+unfoldable pub listed : Option Field → List Field
 listed absent = []
 listed (some f) = f ∷ []
 

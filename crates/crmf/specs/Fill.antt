@@ -7,9 +7,13 @@ use lib.Seq.{slice}
 use lib.ListN.{length, take, drop}
 use mathlib.Core.Path.{_≡_}
 use Rattle.der.specs.Tree.{Tree, none, element}
-use Rattle.der.specs.Walk.{longest}
+use Rattle.der.specs.Bounds.{longest}
 use Rattle.der.specs.Reading.{tree}
+use Rattle.crmf.specs.declared.element.Fit.{Fit}
 use Rattle.crmf.specs.declared.fill.Around.{Around}
+use Rattle.crmf.specs.declared.fill.Bounds.{Bounds}
+use Rattle.crmf.specs.declared.fill.Entry.{Entry}
+use Rattle.crmf.specs.declared.fill.Numbers.{Numbers}
 use Rattle.crmf.specs.declared.fill.Spot.{Spot}
 use Rattle.crmf.specs.declared.table.Found.the-variants.{At, Nowhere}
 use Rattle.crmf.specs.Value.{selected}
@@ -19,7 +23,7 @@ use Rattle.crmf.specs.Packed.{packed}
 use Rattle.crmf.specs.Walk.{line, seek, rowsOf as rowsGiven}
 use Rattle.crmf.specs.Rows.{Row, rowIf, parentIf, width, numbers}
 
--- the line to go on with behind an element whose value is known to keep its rule
+-- the line to go on with after an element whose value is known to keep its rule
 unfoldable pub goes : Judge → ℕ → List ℕ → ℕ
 goes (keep r) next c = next
 goes (choose s) next c = line (next + selected s c) .next
@@ -48,22 +52,22 @@ unfoldable pub rowless : ℕ → Bool
 rowless k = among (0 ∷ start Time ∷ start AlgId ∷ start Spki ∷ start OneName ∷ start Extension ∷ []) k
 
 -- a list with others written over it from a place on
-abbrev pub over : List ℕ → ℕ → List ℕ → List ℕ
+unfoldable pub over : List ℕ → ℕ → List ℕ → List ℕ
 over old at new = take at old ++ (new ++ drop (at + length new) old)
 
 -- Rows written into a table of numbers, the first as row n, as far as their numbers are below a limit.
 abbrev pub written : List ℕ → ℕ → ℕ → List Row → List ℕ
 written old n limit rs = over old (width * n) (numbers (take (limit - n) rs))
 
--- whether a table has room for so many rows
-abbrev pub fits : ℕ → List ℕ → Bool
+-- whether a table has room for a count of rows
+unfoldable pub fits : ℕ → List ℕ → Bool
 fits count old = leb (width * count) (length old)
 
 -- the rows of a whole input, which is to be one batch; a longer input has none
 unfoldable pub rowsOf : List ℕ → List Row
 rowsOf s = elim (leb (length s) longest) [ true ↦ rowsFrom (start Top) (tree 0 s) 0 0 0 0 | false ↦ [] ]
 
--- a table with the rows of an input written into it as far as their numbers are below a count; with no room for so many it stays
+-- a table with the rows of an input written into it as far as their numbers are below a count; with no room for that many it stays
 unfoldable pub filled : List ℕ → ℕ → List ℕ → List ℕ
 filled s count old = elim (fits count old) [ true ↦ written old 0 count (rowsOf s) | false ↦ old ]
 
@@ -77,19 +81,24 @@ pub record Room (bytes : List ℕ) (at end row limit : ℕ) (lines out : List �
   pub right : lines ≡ packed
   pub room : width * limit ≤ length out
 
--- the rows of a part of an input, from a line on
-abbrev pub rowsAt : List ℕ → ℕ → ℕ → ℕ → ℕ → Around → List Row
-rowsAt bytes at end state row around = rowsFrom state (tree at (slice at end bytes)) row (around .up) (around .place) (around .whole)
+-- the rows of the elements from a spot to an end
+abbrev pub rowsAt : List ℕ → Spot → ℕ → Around → List Row
+rowsAt bytes spot end around =
+    rowsFrom (spot .state) (tree (spot .at) (slice (spot .at) end bytes)) (spot .row) (around .up) (around .place) (around .whole)
 
--- Rows are written, and the next number is behind theirs.
+-- the row that an entry gives, if it has a kind
+abbrev pub rowOf : Entry → List Row
+rowOf new = rowIf (new .kind) (new .first) (new .whole) (new .parent)
+
+-- Rows are written, and the next number is after theirs.
 pub record Wrote (rs : List Row) (row limit : ℕ) (old : List ℕ) (next : ℕ) (new : List ℕ) : Type 0 where
   pub next-row : next ≡ row + length rs
   pub kept : new ≡ written old row limit rs
 
 -- the rows of a list of elements
-pub record Listed (bytes : List ℕ) (at end state row : ℕ) (around : Around) (limit : ℕ) (old : List ℕ) (next : ℕ) (new : List ℕ) : Type 0 where
-  pub wrote : Wrote (rowsAt bytes at end state row around) row limit old next new
-  pub few : next ≤ 2 * end
+pub record Listed (bytes : List ℕ) (spot : Spot) (bounds : Bounds) (around : Around) (old : List ℕ) (next : ℕ) (new : List ℕ) : Type 0 where
+  pub wrote : Wrote (rowsAt bytes spot (bounds .end) around) (spot .row) (bounds .limit) old next new
+  pub few : next ≤ 2 * bounds .end
 
 -- the rows that an element in a line's form gives by itself, and the number of the row above its inside
 abbrev pub ownRows : Line → ℕ → ℕ → ℕ → Around → List Row
@@ -99,27 +108,29 @@ ownRows x p w row around =
 abbrev pub rowAbove : Line → ℕ → ℕ → ℕ
 rowAbove x row up = parentIf (x .kind) (row + rowsGiven (x .item)) (parentIf (x .item) row up)
 
--- what is around the rows inside an element in a line's form, at a place and up to an end, whose own rows begin with a number
-abbrev pub within : Line → ℕ → ℕ → ℕ → ℕ → Around
-within x row up place end = record { up = rowAbove x row up; place = place; whole = end - place }
+-- what is around the rows inside an element in a line's form
+abbrev pub within : Line → Fit → Numbers → Around
+within x fit n = record { up = rowAbove x (n .row) (n .up); place = fit .first; whole = fit .end - fit .first }
 
 -- the rows inside an element in a line's form
 abbrev pub innerRows : ℕ → List ℕ → ℕ → ℕ → ℕ → Around → List Row
-innerRows k bytes at end row around = elim (eqb (line k .inside) 0) [ true ↦ [] | false ↦ rowsAt bytes at end (line k .inside) row around ]
+innerRows k bytes at end row around =
+    elim (eqb (line k .inside) 0) [ true ↦ [] | false ↦ rowsAt bytes (record { state = line k .inside; at = at; row = row }) end around ]
 
-abbrev pub Inner : ℕ → List ℕ → ℕ → ℕ → ℕ → Around → ℕ → List ℕ → ℕ → List ℕ → Type 0
-Inner k bytes at end row around limit old next new = Wrote (innerRows k bytes at end row around) row limit old next new
+abbrev pub Inner : ℕ → List ℕ → Fit → Numbers → ℕ → List ℕ → ℕ → List ℕ → Type 0
+Inner k bytes fit n limit old next new =
+    Wrote (innerRows k bytes (fit .content) (fit .end) (n .next) (within (line k) fit n)) (n .next) limit old next new
 
--- Some rows of a list of elements are written, and the list goes on behind them.
-pub record Going (bytes : List ℕ) (at end state row : ℕ) (around : Around) (limit : ℕ) (old : List ℕ) (r : Spot) (new : List ℕ) : Type 0 where
+-- Some rows of a list of elements are written, and the list goes on after them.
+pub record Going (bytes : List ℕ) (spot : Spot) (bounds : Bounds) (around : Around) (old : List ℕ) (r : Spot) (new : List ℕ) : Type 0 where
   pub these : List Row
-  pub split : rowsAt bytes at end state row around ≡ these ++ rowsAt bytes (r .at) end (r .state) (r .row) around
-  pub wrote : Wrote these row limit old (r .row) new
-  pub past : at ≤ r .at
-  pub within : r .at ≤ end
+  pub split : rowsAt bytes spot (bounds .end) around ≡ these ++ rowsAt bytes r (bounds .end) around
+  pub wrote : Wrote these (spot .row) (bounds .limit) old (r .row) new
+  pub past : spot .at ≤ r .at
+  pub within : r .at ≤ bounds .end
   pub few : r .row ≤ 2 * r .at
 
 -- the rows of one element
-pub record Shown (bytes : List ℕ) (at end state row : ℕ) (around : Around) (limit : ℕ) (old : List ℕ) (r : Spot) (new : List ℕ) : Type 0 where
-  pub going : Going bytes at end state row around limit old r new
-  pub forward : at < r .at
+pub record Shown (bytes : List ℕ) (spot : Spot) (bounds : Bounds) (around : Around) (old : List ℕ) (r : Spot) (new : List ℕ) : Type 0 where
+  pub going : Going bytes spot bounds around old r new
+  pub forward : spot .at < r .at

@@ -8,6 +8,7 @@ pub mod Language
 pub mod Table
 pub mod Packed
 pub mod Walk
+pub mod Elements
 pub mod Steps
 pub mod Rows
 pub mod Pieces

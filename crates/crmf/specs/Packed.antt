@@ -1,9 +1,8 @@
 -- A line as one number, for the table that code holds: the fields one above the other, and back. Assumes nothing.
 use Prim.Native.Nat.{ℕ, _+_, _*_, _/_, _%_}
-use mathlib.Core.Bool.{true, false, not, _&&_}
+use mathlib.Core.Bool.{Bool, true, false, not, _&&_}
 use mathlib.Core.List.{List, [], _∷_, map}
 use lib.Dec.{eqb}
-use Rattle.der.specs.Identifier.{allowed, constructed}
 use Rattle.crmf.specs.Value.{always, integer, boolean, bitString, empty, zeroOrOne, true-only, utcTime, generalizedTime, some, never}
 use Rattle.crmf.specs.Value.{action, method, controlType, infoType}
 use Rattle.crmf.specs.Notation.{Identifiers, octet, generalName, anything, nothing, Mark, both, alone, AlgId, Spki, OneName, Rdn, Attribute}
@@ -92,7 +91,11 @@ insideAction j =
     j
     codes.takeInside
 
--- What the quick walk does with an element in a line's form: by the line's identifiers, and where they are one octet by its inside or its
+-- bit 6 of an identifier: the content is a list of elements
+abbrev pub constructedBit : ℕ → Bool
+constructedBit i = eqb (i / 32 % 2) 1
+
+-- What the recogniser does with an element in a line's form: by the line's identifiers, and where they are one octet by its inside or its
 -- value. Every line of which no more is known is read as it stands.
 unfoldable pub actionOf : Line → ℕ
 actionOf x =
@@ -105,10 +108,10 @@ actionOf x =
       | generalName ↦ codes.takeByLine
       | anything ↦ elim (common && unjudged && free && not id) [ true ↦ codes.takeNest | false ↦ codes.takeByLine ]
       | octet i ↦
-          elim (common && allowed i) [
+          elim common [
             | false ↦ codes.takeByLine
             | true ↦
-                elim (constructed i) [
+                elim (constructedBit i) [
                   | true ↦ elim (unjudged && not id) [ true ↦ insideAction (x .inside) | false ↦ codes.takeByLine ]
                   | false ↦
                       elim free [

@@ -1,12 +1,15 @@
--- A batch that is accepted without a doubt: nest, this edition's grammar and short certReqIds in one count of its rows. Assumes nothing.
-use Prim.Native.Nat.{ℕ, _+_, _-_}
+-- What the recogniser answers: a batch with a sound nest, in an edition's grammar and with short certReqIds only, by one count of its rows.
+-- Assumes nothing.
+use Prim.Native.Nat.{ℕ, _+_}
 use mathlib.Core.Bool.{Bool, true, false, _&&_, not}
 use mathlib.Core.List.{List}
 use lib.Dec.{eqb}
 use Rattle.der.specs.Tree.{Tree, none, element}
-use Rattle.der.specs.Walk.{depth}
-use Rattle.der.specs.Sound.{soundOf}
+use Rattle.der.specs.Bounds.{depth}
+use Rattle.der.specs.Recognise.{isList}
 use Rattle.der.specs.Reading.{tree}
+use Rattle.crmf.specs.declared.quick.Recognition.{Recognition}
+use Rattle.crmf.specs.declared.quick.Recognition.the-variants.{Rows, Unrecognised}
 use Rattle.crmf.specs.declared.judge.Onward.the-variants.{To, Breaks}
 use Rattle.crmf.specs.declared.table.Found.the-variants.{At, Nowhere}
 use Rattle.crmf.specs.Notation.{Top}
@@ -20,33 +23,34 @@ use Rattle.crmf.specs.Walk.{line, seek, closed, judged, rowsBy}
 abbrev pub stands : ℕ → Line → ℕ → Bool
 stands e x whole = readable (λ y. eqb y e) (x .mark) && not (longId (x .kind) whole)
 
--- The elements of a container from a line on, where n is one more than the rows before them: one more than the rows up to their end, or 0
--- where they are not what the lines say.
-unfoldable pub counts : ℕ → ℕ → ℕ → Tree → ℕ
-counts e k n none = elim (closed k) [ true ↦ n | false ↦ 0 ]
+-- The elements of a container from a line on, after n rows: the rows up to their end, where the elements are what the lines say. A free inside,
+-- where no line starts, has no rows.
+unfoldable pub counts : ℕ → ℕ → ℕ → Tree → Recognition
+counts e k n none = elim (closed k) [ true ↦ Rows n | false ↦ Unrecognised ]
 counts e k n (element id first whole c inside rest) =
     elim (seek k id) [
-      | Nowhere ↦ 0
+      | Nowhere ↦ Unrecognised
       | At j ↦
           let x = line j in
           let own = n + rowsBy x in
-          let within : ℕ = elim (eqb (x .inside) 0) [ true ↦ own | false ↦ counts e (x .inside) own inside ] in
-          elim (stands e x whole && not (eqb within 0)) [
-            | false ↦ 0
-            | true ↦ elim (judged (x .judge) (x .next) c) [ Breaks d ↦ 0 | To next ↦ counts e next within rest ]
+          let within : Recognition = elim (eqb (x .inside) 0) [ true ↦ Rows own | false ↦ counts e (x .inside) own inside ] in
+          elim (stands e x whole) [
+            | false ↦ Unrecognised
+            | true ↦ elim (judged (x .judge) (x .next) c) [
+              | Breaks d ↦ Unrecognised
+              | To next ↦ elim within [ Unrecognised ↦ Unrecognised | Rows m ↦ counts e next m rest ]
+            ]
           ]
     ]
 
--- The same of octets at a place, with so many levels of depth left: 0 where they are no list of elements.
-unfoldable pub countsAt : ℕ → ℕ → ℕ → ℕ → ℕ → List ℕ → ℕ
-countsAt e left k n p bs = elim (soundOf left bs) [ true ↦ counts e k n (tree p bs) | false ↦ 0 ]
+-- The same of octets at a place, where `left` levels of depth are left: octets that are no list of elements are not recognised.
+unfoldable pub countsAt : ℕ → ℕ → ℕ → ℕ → ℕ → List ℕ → Recognition
+countsAt e left k n p bs = elim (isList left bs) [ true ↦ counts e k n (tree p bs) | false ↦ Unrecognised ]
 
--- one more than the rows of an input that is a batch of an edition, with no certReqId too long; 0 of any other
-unfoldable pub quickCount : ℕ → List ℕ → ℕ
-quickCount e s = countsAt e depth (start Top) 1 0 s
+-- the rows of an input that is a batch of an edition, with no certReqId too long; any other input is not recognised
+unfoldable pub quickCount : ℕ → List ℕ → Recognition
+quickCount e s = countsAt e depth (start Top) 0 0 s
 
 -- a table with the rows of such a batch written into it where it has room for them; it stays where it has none, and for any other input
 unfoldable pub quickTable : ℕ → List ℕ → List ℕ → List ℕ
-quickTable e s old =
-    let n = quickCount e s in
-    elim (eqb n 0) [ true ↦ old | false ↦ filled s (n - 1) old ]
+quickTable e s old = elim (quickCount e s) [ Rows n ↦ filled s n old | Unrecognised ↦ old ]

@@ -1,69 +1,96 @@
--- What the inner functions of the quick count are lent and answer. Assumes nothing.
+-- What the inner functions of the recogniser require and answer. Assumes nothing.
 use Prim.Native.Nat.{ℕ, suc, _+_, _-_, _≤_, _<_}
 use mathlib.Core.Path.{_≡_}
 use mathlib.Core.Bool.{true, false}
 use mathlib.Core.List.{List}
 use lib.Dec.{eqb}
-use lib.ListN.{length, drop}
-use Rattle.der.specs.Walk.{longest}
-use Rattle.der.specs.Sound.{wholeOf}
+use lib.ListN.{length, drop, getD}
+use Rattle.der.specs.declared.span.Span.{Span}
+use Rattle.der.specs.Bounds.{longest}
+use Rattle.der.specs.Span.{spanOf}
+use Rattle.der.specs.Recognise.{isElement}
 use Rattle.crmf.specs.declared.judge.Onward.the-variants.{To, Breaks}
-use Rattle.crmf.specs.declared.quick.Spot.{Spot}
-use Rattle.crmf.specs.declared.step.Step.{Step}
-use Rattle.crmf.specs.declared.step.Step.the-variants.{Stop, On, Into}
+use Rattle.crmf.specs.declared.quick.Advance.{Advance}
+use Rattle.crmf.specs.declared.quick.Advance.the-variants.{Past, Stop}
+use Rattle.crmf.specs.declared.quick.Recognition.{Recognition}
+use Rattle.crmf.specs.declared.quick.Recognition.the-variants.{Rows, Unrecognised}
+use Rattle.crmf.specs.declared.step.Visit.{Visit}
+use Rattle.crmf.specs.declared.step.Visit.the-variants.{Refuse, Skip, Descend}
 use Rattle.crmf.specs.Packed.{packed}
 use Rattle.crmf.specs.Walk.{line, judged}
 use Rattle.crmf.specs.Quick.{stands, countsAt}
 
--- What an element of a whole length in the form of line k comes to, by its identifier and its content at a place: one more than the rows up
--- to its end, where n is one more than those before its inside, or 0.
-unfoldable pub inner : (e k whole left n p id : ℕ) → List ℕ → ℕ
-inner e k whole left n p id c =
+-- The count over an element's content, after n rows: for an element of a whole length in the form of line k, by its identifier and its content
+-- at a place.
+unfoldable pub contentCount : (e k whole left n p id : ℕ) → List ℕ → Recognition
+contentCount e k whole left n p id c =
     elim (stands e (line k) whole) [
-      | false ↦ 0
+      | false ↦ Unrecognised
       | true ↦ elim (eqb (line k .inside) 0) [
-        | true ↦ elim (wholeOf id left c) [ true ↦ n | false ↦ 0 ]
+        | true ↦ elim (isElement id left c) [ true ↦ Rows n | false ↦ Unrecognised ]
         | false ↦ countsAt e left (line k .inside) n p c
       ]
     ]
 
--- the same, and 0 where its value breaks its rule
-unfoldable pub outcome : (e k whole left n p id : ℕ) → List ℕ → ℕ
-outcome e k whole left n p id c = elim (judged (line k .judge) (line k .next) c) [ Breaks d ↦ 0 | To next ↦ inner e k whole left n p id c ]
+-- the same, if the value keeps its rule
+unfoldable pub ruledCount : (e k whole left n p id : ℕ) → List ℕ → Recognition
+ruledCount e k whole left n p id c =
+    elim (judged (line k .judge) (line k .next) c) [ Breaks d ↦ Unrecognised | To next ↦ contentCount e k whole left n p id c ]
 
 -- an element's whole length, as far as a certReqId's is asked for: two octets stand before a content of 8 at most
 pub record Sized (whole : ℕ) (c : List ℕ) : Type 0 where
   pub small : length c ≤ 8 → whole ≤ 10
   pub large : 8 < length c → 10 < whole
 
--- What a step says of an element in the form of line k: it comes to nothing; it is fine; or it is what is inside it.
-abbrev pub Taken : (e k whole left id : ℕ) → List ℕ → Step → Type 0
-Taken e k whole left id c Stop = (n p : ℕ) → outcome e k whole left n p id c ≡ 0
-Taken e k whole left id c (On next) = (judged (line k .judge) (line k .next) c ≡ To next) × ((n p : ℕ) → 1 ≤ n → inner e k whole left n p id c ≡ n)
-Taken e k whole left id c (Into next) =
+-- Why the recogniser may visit an element in the form of line k so: it isn't recognised, whatever was counted before it; its content is
+-- recognised and has no rows; or its content is what the lines inside say.
+abbrev pub VisitJustified : (e k whole left id : ℕ) → List ℕ → Visit → Type 0
+VisitJustified e k whole left id c Refuse = (n p : ℕ) → ruledCount e k whole left n p id c ≡ Unrecognised
+VisitJustified e k whole left id c (Skip next) =
+    (judged (line k .judge) (line k .next) c ≡ To next) × ((n p : ℕ) → contentCount e k whole left n p id c ≡ Rows n)
+VisitJustified e k whole left id c (Descend next) =
     (judged (line k .judge) (line k .next) c ≡ To next)
-    × ((n p : ℕ) → 1 ≤ n → inner e k whole left n p id c ≡ countsAt e left (line k .inside) n p c)
+    × ((n p : ℕ) → contentCount e k whole left n p id c ≡ countsAt e left (line k .inside) n p c)
 
--- The octets are what the lines from k on say, in every edition, without a row, and with so many levels of depth at most.
-abbrev pub Fine : ℕ → ℕ → List ℕ → Type 0
-Fine k levels c = (e left n p : ℕ) → levels ≤ left → 1 ≤ n → countsAt e left k n p c ≡ n
+-- the octets are recognised from line k on in every edition, wherever at least `levels` levels of depth are left, and have no rows
+abbrev pub RowlessFrom : ℕ → ℕ → List ℕ → Type 0
+RowlessFrom k levels c = (e left n p : ℕ) → levels ≤ left → countsAt e left k n p c ≡ Rows n
 
--- What the count over some octets is lent: one more than the rows before them, a number for each octet behind it, and the lines.
-pub record Counting (bytes : List ℕ) (before : ℕ) (table : List ℕ) : Type 0 where
-  pub some : 1 ≤ before
-  pub room : before + length bytes ≤ suc longest
+-- the octets start with an element of an identifier, which has a span
+pub record Leading (bytes : List ℕ) (id : ℕ) (x : Span) : Type 0 where
+  pub measured : x ≡ spanOf bytes
+  pub identified : getD bytes 0 0 ≡ id
+  pub fits : (2 ≤ x .octets) × (x .octets + x .length ≤ length bytes)
+
+-- the octets are exactly one element of an identifier, with its content from a place on
+pub record Sole (bytes : List ℕ) (id from : ℕ) : Type 0 where
+  pub span : Span
+  pub leads : Leading bytes id span
+  pub starts : from ≡ span .octets
+  pub ends : span .octets + span .length ≡ length bytes
+
+-- what a count over octets requires: a number for each octet after the rows before them, and the table of lines
+pub record Countable (bytes : List ℕ) (before : ℕ) (table : List ℕ) : Type 0 where
+  pub room : before + length bytes ≤ longest
   pub right : table ≡ packed
 
--- the count over some octets
-pub record Counted (e left k before : ℕ) (bytes : List ℕ) (r : ℕ) : Type 0 where
-  pub same : (p : ℕ) → r ≡ countsAt e left k before p bytes
-  pub few : r ≤ before + length bytes
+-- an answer that is held in a number: one more than the rows, or 0
+abbrev pub decode : ℕ → Recognition
+decode r = elim (eqb r 0) [ true ↦ Unrecognised | false ↦ Rows (r - 1) ]
 
--- the count behind an element: that from its spot on, or 0
-abbrev pub onward : (e left p : ℕ) → List ℕ → Spot → ℕ
-onward e left p bytes r = elim (eqb (r .count) 0) [ true ↦ 0 | false ↦ countsAt e left (r .line) (r .count) (p + r .at) (drop (r .at) bytes) ]
+-- the number that holds the answer for the elements that octets are, from line k on
+pub record ListCounted (e left k before : ℕ) (bytes : List ℕ) (r : ℕ) : Type 0 where
+  pub same : (p : ℕ) → decode r ≡ countsAt e left k before p bytes
+  pub few : r ≤ suc (before + length bytes)
 
--- the count over the element at a place of some octets
-pub record Went (e left k before at : ℕ) (bytes : List ℕ) (r : Spot) : Type 0 where
-  pub same : (p : ℕ) → countsAt e left k before (p + at) (drop at bytes) ≡ onward e left p bytes r
-  pub forward : (r .count ≡ 0 → ⊥) → (at < r .at) × (r .at ≤ length bytes) × (r .count + (length bytes - r .at) ≤ before + (length bytes - at))
+-- the count from an advance on
+abbrev pub countAfter : (e left p : ℕ) → List ℕ → Advance → Recognition
+countAfter e left p bytes (Past line at count) = countsAt e left line count (p + at) (drop at bytes)
+countAfter e left p bytes Stop = Unrecognised
+
+-- The advance over the element at a place, from line k on: the count goes on with the same answer, further on, and with a number left for each
+-- octet.
+pub record ElementCounted (e left k before at : ℕ) (bytes : List ℕ) (r : Advance) : Type 0 where
+  pub same : (p : ℕ) → countsAt e left k before (p + at) (drop at bytes) ≡ countAfter e left p bytes r
+  pub forward : (next end count : ℕ) → r ≡ Past next end count
+      → (at < end) × (end ≤ length bytes) × (count + (length bytes - end) ≤ before + (length bytes - at))

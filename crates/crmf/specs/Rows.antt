@@ -56,7 +56,7 @@ unfoldable mutual
   rowsIn (parts m) n up place whole = rows m n up place whole
 
 -- "the batch is row 0, its own parent"
-abbrev pub batchRows : {R : ℕ → Bool} {t : Tree} → Matches R (content Top) t → List Row
+unfoldable pub batchRows : {R : ℕ → Bool} {t : Tree} → Matches R (content Top) t → List Row
 batchRows m = rows m 0 0 0 0
 
 -- the numbers of rows, one after the other

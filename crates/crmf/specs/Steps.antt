@@ -7,11 +7,12 @@ use lib.Dec.{eqb}
 use lib.ListN.{length}
 use lib.Seq.{slice}
 use Rattle.der.specs.Tree.{Tree}
-use Rattle.der.specs.Walk.{longest}
+use Rattle.der.specs.Bounds.{longest}
 use Rattle.der.specs.Reading.{tree}
 use Rattle.crmf.specs.declared.judge.Onward.{Onward}
 use Rattle.crmf.specs.declared.judge.Onward.the-variants.{To, Breaks}
-use Rattle.crmf.specs.declared.walk.Seen.{Seen}
+use Rattle.crmf.specs.declared.tally.Tally.{Tally}
+use Rattle.crmf.specs.declared.walk.Cursor.{Cursor}
 use Rattle.crmf.specs.declared.walk.Step.{Step}
 use Rattle.crmf.specs.declared.walk.Step.the-variants.{On, Stop}
 use Rattle.crmf.specs.declared.walk.Walked.{Walked}
@@ -28,7 +29,7 @@ pub record Lent (bytes : List ℕ) (at end count : ℕ) (table : List ℕ) : Typ
   pub right : table ≡ packed
 
 -- the inside of an element in a line's form
-abbrev pub within : ℕ → Seen → ℕ → Tree → Walked
+abbrev pub within : ℕ → Tally → ℕ → Tree → Walked
 within k s around t = elim (eqb (line k .inside) 0) [ true ↦ Passed s | false ↦ walk every s (line k .inside) around t ]
 
 -- no more rows than two for each place up to an end
@@ -36,22 +37,26 @@ abbrev pub Passing : ℕ → Walked → Type 0
 Passing end (Passed s) = s .count ≤ 2 * end
 Passing end (Broken p d s) = Unit {0}
 
+-- the walk over the elements from a cursor to an end, in a container at a place
+abbrev pub walkFrom : List ℕ → Cursor → ℕ → ℕ → Walked
+walkFrom bytes c end around = walk every (c .tally) (c .state) around (tree (c .at) (slice (c .at) end bytes))
+
 -- the step that a value's answer makes, at an element from a place to its end
-abbrev pub stepped : ℕ → ℕ → Seen → Onward → Step
-stepped at to s (To state) = On state to s
+abbrev pub stepped : ℕ → ℕ → Tally → Onward → Step
+stepped at to s (To state) = On (record { state = state; at = to; tally = s })
 stepped at to s (Breaks d) = Stop at d s
 
--- the walk behind a step
+-- the walk after a step
 abbrev pub continued : List ℕ → ℕ → ℕ → Step → Walked
-continued bytes end around (On state at s) = walk every s state around (tree at (slice at end bytes))
+continued bytes end around (On c) = walkFrom bytes c end around
 continued bytes end around (Stop p d s) = Broken p d s
 
 -- a step goes forward and stays within the end, with no more rows than two for each place
 abbrev pub Forward : ℕ → ℕ → Step → Type 0
-Forward at end (On state next s) = (at < next) × (next ≤ end) × (s .count ≤ 2 * next)
+Forward at end (On c) = (at < c .at) × (c .at ≤ end) × (c .tally .count ≤ 2 * c .at)
 Forward at end (Stop p d s) = Unit {0}
 
--- the step over the element at a place
-pub record Stepped (bytes : List ℕ) (at end state : ℕ) (seen : Seen) (r : Step) : Type 0 where
-  pub same : (around : ℕ) → continued bytes end around r ≡ walk every seen state around (tree at (slice at end bytes))
-  pub forward : Forward at end r
+-- the step over the element at a cursor
+pub record Stepped (bytes : List ℕ) (c : Cursor) (end : ℕ) (r : Step) : Type 0 where
+  pub same : (around : ℕ) → continued bytes end around r ≡ walkFrom bytes c end around
+  pub forward : Forward (c .at) end r

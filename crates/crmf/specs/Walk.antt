@@ -5,9 +5,9 @@ use mathlib.Core.List.{List, [], _∷_, _++_}
 use lib.Dec.{leb, ltb, eqb}
 use lib.ListN.{length, getD, drop}
 use Rattle.der.specs.Tree.{Tree, none, element}
-use Rattle.der.specs.Walk.{longest}
+use Rattle.der.specs.Bounds.{longest}
 use Rattle.der.specs.Reading.{tree}
-use Rattle.crmf.specs.declared.walk.Seen.{Seen}
+use Rattle.crmf.specs.declared.tally.Tally.{Tally}
 use Rattle.crmf.specs.declared.walk.Walked.{Walked}
 use Rattle.crmf.specs.declared.walk.Walked.the-variants.{Passed, Broken}
 use Rattle.crmf.specs.declared.judge.Onward.{Onward}
@@ -91,46 +91,37 @@ rowsOf k = elim (eqb k kinds.none) [ true ↦ 0 | false ↦ 1 ]
 abbrev pub rowsBy : Line → ℕ
 rowsBy x = rowsOf (x .item) + rowsOf (x .kind)
 
--- what was met, with an element at a place in a form of a mark: the first of each edition stays
-unfoldable pub noted : Mark → ℕ → Seen → Seen
+-- the tally with an element at a place in a form of a mark: the first of each edition stays
+unfoldable pub noted : Mark → ℕ → Tally → Tally
 noted both p s = s
 noted (alone e d) p s =
-    elim (eqb e 1 && eqb (s .one) 0) [
-      | true ↦ record { count = s .count; one = d; «one_at» = p; two = s .two; «two_at» = s .«two_at»; long = s .long; «long_at» = s .«long_at» }
-      | false ↦ elim (eqb e 2 && eqb (s .two) 0) [
-        | true ↦ record { count = s .count; one = s .one; «one_at» = s .«one_at»; two = d; «two_at» = p; long = s .long; «long_at» = s .«long_at» }
+    elim (eqb e 1 && eqb (s .one .number) 0) [
+      | true ↦ record { count = s .count; one = record { number = d; place = p }; two = s .two; long = s .long }
+      | false ↦ elim (eqb e 2 && eqb (s .two .number) 0) [
+        | true ↦ record { count = s .count; one = s .one; two = record { number = d; place = p }; long = s .long }
         | false ↦ s
       ]
     ]
 
--- what was met, with an element of a kind at a place that has a whole length: the first long certReqId stays
-unfoldable pub lengthy : ℕ → ℕ → ℕ → Seen → Seen
+-- the tally with an element of a kind at a place that has a whole length: the first long certReqId stays
+unfoldable pub lengthy : ℕ → ℕ → ℕ → Tally → Tally
 lengthy kind p whole s =
-    elim (longId kind whole && eqb (s .long) 0) [
-      | true ↦ record { count = s .count; one = s .one; «one_at» = s .«one_at»; two = s .two; «two_at» = s .«two_at»; long = whole; «long_at» = p }
+    elim (longId kind whole && eqb (s .long .whole) 0) [
+      | true ↦ record { count = s .count; one = s .one; two = s .two; long = record { whole = whole; place = p } }
       | false ↦ s
     ]
 
--- what was met, with so many rows more
-abbrev pub counted : ℕ → Seen → Seen
-counted n s =
-    record {
-      count = s .count + n;
-      one = s .one;
-      «one_at» = s .«one_at»;
-      two = s .two;
-      «two_at» = s .«two_at»;
-      long = s .long;
-      «long_at» = s .«long_at»;
-    }
+-- the tally with some rows more
+abbrev pub counted : ℕ → Tally → Tally
+counted n s = record { count = s .count + n; one = s .one; two = s .two; long = s .long }
 
--- what was met, with an element at a place and of a whole length that a line is chosen for
-unfoldable pub met : Line → ℕ → ℕ → Seen → Seen
+-- the tally with an element at a place and of a whole length that a line is chosen for
+unfoldable pub met : Line → ℕ → ℕ → Tally → Tally
 met x p whole s = counted (rowsBy x) (lengthy (x .kind) p whole (noted (x .mark) p s))
 
 -- The walk over the elements of a container from a line on, where the container's own place is `around`, and R says which editions' own
 -- forms may be read: an element's line is chosen by its identifier alone, its inside is walked first, then its value is judged.
-unfoldable pub walk : (ℕ → Bool) → Seen → ℕ → ℕ → Tree → Walked
+unfoldable pub walk : (ℕ → Bool) → Tally → ℕ → ℕ → Tree → Walked
 walk R s k around none = elim (closed k) [ true ↦ Passed s | false ↦ Broken around 2 s ]
 walk R s k around (element id first whole c inside rest) =
     elim (seek k id) [
@@ -179,9 +170,10 @@ trail k (element id first whole c inside rest) =
 abbrev pub every : ℕ → Bool
 every e = true
 
--- nothing met yet
-abbrev pub fresh : Seen
-fresh = record { count = 0; one = 0; «one_at» = 0; two = 0; «two_at» = 0; long = 0; «long_at» = 0 }
+-- the tally before the first element
+unfoldable pub fresh : Tally
+fresh =
+    record { count = 0; one = record { number = 0; place = 0 }; two = record { number = 0; place = 0 }; long = record { whole = 0; place = 0 } }
 
 -- The walk over a whole input, which is to be one batch, where every form is read; in a longer input no element stands.
 unfoldable pub countOf : List ℕ → Walked

@@ -1,24 +1,25 @@
 // The rows of a batch, written into a lent table of numbers. What was counted before is not judged again.
 use crate::codes;
+use crate::element::Fit;
+use crate::element::Fitting;
+use crate::element::line_for;
 use crate::kinds;
 use crate::lines;
 use crate::lines::LINES;
 use crate::lines::TOP;
 use crate::table;
-use crate::table::Found;
+use crate::tally::row_of;
 use crate::value;
-use crate::walk::row_of;
 use der::reading::read_at;
-ghost use Prim.Native.Nat.{ℕ, _+_, _*_, _≤_, _<_};
+ghost use Prim.Native.Nat.{ℕ, _+_, _-_, _*_, _≤_, _<_};
 ghost use mathlib.Core.Path.{_≡_};
 ghost use lib.ListN.{length, getD};
 ghost use lib.Seq.{slice};
-ghost use Rattle.der.specs.Reading.{tree};
 ghost use Rattle.crmf.specs.Packed.{packed};
 ghost use Rattle.crmf.specs.Walk.{line};
-ghost use Rattle.crmf.specs.Rows.{rowIf, parentIf, width};
+ghost use Rattle.crmf.specs.Rows.{parentIf, width};
 ghost use Rattle.crmf.specs.Fill as spec;
-ghost use Rattle.crmf.specs.Fill.{goes, written, fits, filled, ownRows, rowAbove, within, Room, Wrote, Shown, Listed, Inner};
+ghost use Rattle.crmf.specs.Fill.{goes, rowOf, fits, filled, ownRows, rowAbove, Room, Wrote, Shown, Listed, Inner};
 
 // The numbers of a row.
 pub const WIDTH: usize = 4;
@@ -37,8 +38,29 @@ struct Spot {
     row: usize,
 }
 
-// Writes the rows of the bytes as far as their numbers are below the count, and answers whether the table has room for so many; where it
-// has none, it stays as it is. For an accepted batch and its own count these are the batch's rows. The table of lines is lent.
+// The place where the elements end, and the number of rows that may be written.
+struct Bounds {
+    end: usize,
+    limit: usize,
+}
+
+// The row numbers at an element: of the row above it, of the first that it gives and of the next after its own.
+struct Numbers {
+    up: usize,
+    row: usize,
+    next: usize,
+}
+
+// What a row holds: its kind (0: there is no row), its element's first byte and whole length, and its parent's row.
+struct Entry {
+    kind: usize,
+    first: usize,
+    whole: usize,
+    parent: usize,
+}
+
+// Writes the rows of the bytes as far as their numbers are below the count, and answers whether the table has room for that many; where it
+// has not, it stays as it is. For an accepted batch and its own count these are the batch's rows. The table of lines is lent.
 pub(crate) fn fill(bytes: &[u8], count: usize, table: &[usize; LINES], out: &mut [usize]) -> bool
     requires { ⌜ now table ≡ packed ⌝ }
     ensures { λ r. ⌜ (r ≡ fits count (now (out .entry))) × (now (out .exit) ≡ filled (now (bytes .entry)) count (now (out .entry))) ⌝ }
@@ -46,119 +68,101 @@ pub(crate) fn fill(bytes: &[u8], count: usize, table: &[usize; LINES], out: &mut
     if out.len() / WIDTH < count {
         return false;
     }
-    if der::input::LONGEST < bytes.len() {
+    if der::bounds::LONGEST < bytes.len() {
         return true;
     }
+    let start = Spot {
+        state: TOP,
+        at: 0,
+        row: 0,
+    };
+    let bounds = Bounds {
+        end: bytes.len(),
+        limit: count,
+    };
     let around = Around {
         up: 0,
         place: 0,
         whole: 0,
     };
-    list(bytes, 0, bytes.len(), TOP, 0, around, count, table, out);
+    list(bytes, start, bounds, around, table, out);
     true
 }
 
-// The rows of the elements from `at` to `end`, from a line on, the first of them the row `row`; answers the number of the next row.
+// The rows of the elements from a spot to the end; answers the number of the next row.
 fn list(
     bytes: &[u8],
-    at: usize,
-    end: usize,
-    state: usize,
-    row: usize,
+    start: Spot,
+    bounds: Bounds,
     around: Around,
-    limit: usize,
     table: &[usize; LINES],
     out: &mut [usize],
 ) -> usize
-    requires { ⌜ Room (now bytes) at end row limit (now table) (now out) ⌝ }
-    ensures { λ r. ⌜ Listed (now (bytes .entry)) at end state row around limit (now (out .entry)) r (now (out .exit)) ⌝ }
+    requires { ⌜ Room (now bytes) (start .at) (bounds .end) (start .row) (bounds .limit) (now table) (now out) ⌝ }
+    ensures { λ r. ⌜ Listed (now (bytes .entry)) start bounds around (now (out .entry)) r (now (out .exit)) ⌝ }
 {
-    let mut place = at;
-    let mut line = state;
-    let mut next = row;
-    while place < end {
-        let spot = element(bytes, place, end, line, next, around, limit, table, out);
-        line = spot.state;
-        place = spot.at;
-        next = spot.row;
+    let mut spot = start;
+    while spot.at < bounds.end {
+        spot = element(bytes, spot, bounds, around, table, out);
     }
-    next
+    spot.row
 }
 
-// The rows of the element at `at` before `end` and of those inside it.
+// The rows of the element at a spot and of those inside it; answers where the rows go on.
 fn element(
     bytes: &[u8],
-    at: usize,
-    end: usize,
-    state: usize,
-    row: usize,
+    spot: Spot,
+    bounds: Bounds,
     around: Around,
-    limit: usize,
     table: &[usize; LINES],
     out: &mut [usize],
 ) -> Spot
-    requires { ⌜ Room (now bytes) at end row limit (now table) (now out) × (at < end) ⌝ }
-    ensures { λ r. ⌜ Shown (now (bytes .entry)) at end state row around limit (now (out .entry)) r (now (out .exit)) ⌝ }
+    requires { ⌜ Room (now bytes) (spot .at) (bounds .end) (spot .row) (bounds .limit) (now table) (now out) × (spot .at < bounds .end) ⌝ }
+    ensures { λ r. ⌜ Shown (now (bytes .entry)) spot bounds around (now (out .entry)) r (now (out .exit)) ⌝ }
 {
-    let x = read_at(bytes, at, end);
-    let id = x.identifier;
-    let from = x.content;
-    let to = x.end;
-    let found = table::seek(table, state, id);
-    let Found::At(k) = found else {
+    let element = read_at(bytes, spot.at, bounds.end);
+    let fitting = line_for(element, spot.at, spot.state, table);
+    let Fitting::Fits(fit) = fitting else {
         return Spot {
-            state,
-            at: end,
-            row,
+            state: spot.state,
+            at: bounds.end,
+            row: spot.row,
         };
     };
-    let word = table::word(table, k);
-    let whole = to - at;
-    let own = own_rows(word, at, whole, row, around, limit, out);
-    let behind = inside(
-        bytes,
-        from,
-        to,
-        word,
-        at,
-        row,
-        around.up,
-        own,
-        limit,
-        table,
-        out,
-    );
+    let numbers = Numbers {
+        up: around.up,
+        row: spot.row,
+        next: own_rows(fit, spot.row, around, bounds.limit, out),
+    };
+    let row = inside(bytes, fit, numbers, bounds.limit, table, out);
     Spot {
-        state: onward(table, word, bytes, from, to),
-        at: to,
-        row: behind,
+        state: onward(bytes, fit, table),
+        at: fit.end,
+        row,
     }
 }
 
-// The rows that an element gives in a line's form: the one of the element around it, if the line says its kind, and its own.
-fn own_rows(
-    word: usize,
-    at: usize,
-    whole: usize,
-    row: usize,
-    around: Around,
-    limit: usize,
-    out: &mut [usize],
-) -> usize
-    requires { ⌜ (row ≤ 131070) × (width * limit ≤ length (now out)) ⌝ }
-    ensures { λ r. ⌜ ((k : ℕ) → word ≡ getD packed k 0 → Wrote (ownRows (line k) at whole row around) row limit (now (out .entry)) r (now (out .exit))) × (r ≤ row + 2) ⌝ }
+// The rows that an element gives by itself, from the number `row` on: the one of the element around it, if the line says its kind, and its
+// own. Answers the number of the next row.
+fn own_rows(fit: Fit, row: usize, around: Around, limit: usize, out: &mut [usize]) -> usize
+    requires { ⌜ (fit .first ≤ fit .end) × (row ≤ 131070) × (width * limit ≤ length (now out)) ⌝ }
+    ensures { λ r. ⌜ ((k : ℕ) → fit .word ≡ getD packed k 0 → Wrote (ownRows (line k) (fit .first) (fit .end - fit .first) row around) row limit (now (out .entry)) r (now (out .exit))) × (r ≤ row + 2) ⌝ }
 {
-    let item = table::item_of(word);
-    let next = put(item, around.place, around.whole, around.up, row, limit, out);
-    put(
-        table::kind_of(word),
-        at,
-        whole,
-        parent_if(item, row, around.up),
-        next,
-        limit,
-        out,
-    )
+    let item = table::item_of(fit.word);
+    let outer = Entry {
+        kind: item,
+        first: around.place,
+        whole: around.whole,
+        parent: around.up,
+    };
+    let next = put(outer, row, limit, out);
+    let own = Entry {
+        kind: table::kind_of(fit.word),
+        first: fit.first,
+        whole: fit.end - fit.first,
+        parent: parent_if(item, row, around.up),
+    };
+    put(own, next, limit, out)
 }
 
 // The row above what is inside an element in a line's form.
@@ -183,73 +187,71 @@ fn rowless(start: usize) -> bool
         | (start == lines::EXTENSION)
 }
 
-// The rows inside an element at `place`, from its content's first byte to its end, if its line has an inside that has some: `row` is the
-// number that its own rows began with, `next` the first behind them. Answers the number of the next row.
+// The rows inside an element, if its line has an inside that has some; answers the number of the next row.
 fn inside(
     bytes: &[u8],
-    at: usize,
-    end: usize,
-    word: usize,
-    place: usize,
-    row: usize,
-    up: usize,
-    next: usize,
+    fit: Fit,
+    numbers: Numbers,
     limit: usize,
     table: &[usize; LINES],
     out: &mut [usize],
 ) -> usize
-    requires { ⌜ Room (now bytes) at end next limit (now table) (now out) × (place ≤ end) × (row ≤ 131070) ⌝ }
-    ensures { λ r. ⌜ ((k : ℕ) → word ≡ getD packed k 0 → Inner k (now (bytes .entry)) at end next (within (line k) row up place end) limit (now (out .entry)) r (now (out .exit))) × (r ≤ 2 * end) ⌝ }
+    requires { ⌜ Room (now bytes) (fit .content) (fit .end) (numbers .next) limit (now table) (now out) × (fit .first ≤ fit .end) × (numbers .row ≤ 131070) ⌝ }
+    ensures { λ r. ⌜ ((k : ℕ) → fit .word ≡ getD packed k 0 → Inner k (now (bytes .entry)) fit numbers limit (now (out .entry)) r (now (out .exit))) × (r ≤ 2 * fit .end) ⌝ }
 {
-    let start = table::inside_of(word);
-    if rowless(start) {
-        return next;
+    let state = table::inside_of(fit.word);
+    if rowless(state) {
+        return numbers.next;
     }
-    let around = Around {
-        up: row_above(word, row, up),
-        place,
-        whole: end - place,
+    let start = Spot {
+        state,
+        at: fit.content,
+        row: numbers.next,
     };
-    list(bytes, at, end, start, next, around, limit, table, out)
+    let bounds = Bounds {
+        end: fit.end,
+        limit,
+    };
+    let whole = fit.end - fit.first;
+    let around = Around {
+        up: row_above(fit.word, numbers.row, numbers.up),
+        place: fit.first,
+        whole,
+    };
+    list(bytes, start, bounds, around, table, out)
 }
 
-// The line to go on with behind an element whose value, its content from `from` to `to`, keeps its rule.
-fn onward(table: &[usize; LINES], word: usize, bytes: &[u8], from: usize, to: usize) -> usize
-    requires { ⌜ (now table ≡ packed) × (from ≤ to) × (to ≤ length (now bytes)) ⌝ }
-    ensures { λ r. ⌜ ((k : ℕ) → word ≡ getD packed k 0 → r ≡ goes (line k .judge) (line k .next) (slice from to (now (bytes .entry)))) ⌝ }
+// The line to go on with after an element whose value keeps its rule.
+fn onward(bytes: &[u8], fit: Fit, table: &[usize; LINES]) -> usize
+    requires { ⌜ (now table ≡ packed) × (fit .content ≤ fit .end) × (fit .end ≤ length (now bytes)) ⌝ }
+    ensures { λ r. ⌜ ((k : ℕ) → fit .word ≡ getD packed k 0 → r ≡ goes (line k .judge) (line k .next) (slice (fit .content) (fit .end) (now (bytes .entry)))) ⌝ }
 {
-    let code = table::judge_of(word);
-    let next = table::next_of(word);
+    let code = table::judge_of(fit.word);
+    let next = table::next_of(fit.word);
     if code < codes::SELECTORS {
         return next;
     }
+    let from = fit.content;
+    let to = fit.end;
     table::next_of(table::word(table, next + value::selected(code, &bytes[from..to])))
 }
 
 // Writes a row where it has a kind and its number is below the limit; answers the number of the next row.
-fn put(
-    kind: usize,
-    first: usize,
-    whole: usize,
-    parent: usize,
-    row: usize,
-    limit: usize,
-    out: &mut [usize],
-) -> usize
+fn put(new: Entry, row: usize, limit: usize, out: &mut [usize]) -> usize
     requires { ⌜ (row ≤ 131072) × (width * limit ≤ length (now out)) ⌝ }
-    ensures { λ r. ⌜ (r ≡ row + length (rowIf kind first whole parent)) × (now (out .exit) ≡ written (now (out .entry)) row limit (rowIf kind first whole parent)) ⌝ }
+    ensures { λ r. ⌜ Wrote (rowOf new) row limit (now (out .entry)) r (now (out .exit)) ⌝ }
 {
-    if kind == kinds::NONE {
+    if new.kind == kinds::NONE {
         return row;
     }
     if limit <= row {
         return row + 1;
     }
     let at = WIDTH * row;
-    out[at] = kind;
-    out[at + 1] = first;
-    out[at + 2] = whole;
-    out[at + 3] = parent;
+    out[at] = new.kind;
+    out[at + 1] = new.first;
+    out[at + 2] = new.whole;
+    out[at + 3] = new.parent;
     row + 1
 }
 

@@ -1,73 +1,84 @@
-// One quick count over a batch that is to be accepted: nest, grammar and rows together. It gives up at the first thing that isn't fine.
+// The recogniser: nest, grammar and rows of a batch in one pass, which stops at the first thing that the edition doesn't accept.
 use crate::fill;
 use crate::lines::LINES;
 use crate::lines::TOP;
 use crate::step;
-use crate::step::Step;
+use crate::step::Visit;
 use crate::table;
 use crate::table::Found;
+use der::bounds::DEPTH;
 use der::span::measure;
-ghost use Prim.Native.Nat.{ℕ, _≤_, _<_, _-_};
+ghost use Prim.Native.Nat.{ℕ, _≤_, _<_};
 ghost use mathlib.Core.Path.{_≡_};
 ghost use lib.ListN.{length, drop, getD};
-ghost use Rattle.der.specs.Walk.{longest};
+ghost use Rattle.der.specs.Bounds.{longest};
 ghost use Rattle.crmf.specs.Packed.{packed};
 ghost use Rattle.crmf.specs.Quick.{quickCount, quickTable};
-ghost use Rattle.crmf.specs.QuickSteps.{Counting, Counted, Went};
+ghost use Rattle.crmf.specs.QuickSteps.{Countable, decode, ListCounted, ElementCounted};
 
-// The deepest level of a batch.
-const DEPTH: usize = 20;
+// What the recogniser answers.
+pub enum Recognition {
+    // A batch of the edition with this many rows, and no certReqId of more than 8 octets.
+    Rows(usize),
+    // Anything else: the exact passes say what is wrong.
+    Unrecognised,
+}
 
-// One more than the rows of a batch in an edition; 0 where the bytes are no such batch, or one with a certReqId of more than 8 octets.
-pub fn count(edition: usize, bytes: &[u8]) -> usize
+// Recognises a batch of an edition and counts its rows.
+pub fn count(edition: usize, bytes: &[u8]) -> Recognition
     ensures { λ r. ⌜ r ≡ quickCount edition (now (bytes .entry)) ⌝ }
 {
     let table = table::words();
     count_by(edition, bytes, &table)
 }
 
-// The same, with the rows in a lent table where it has room for them.
-pub fn read(edition: usize, bytes: &[u8], out: &mut [usize]) -> usize
+// The same, and writes the rows into the lent table if it has room for them.
+pub fn read(edition: usize, bytes: &[u8], out: &mut [usize]) -> Recognition
     ensures { λ r. ⌜ (r ≡ quickCount edition (now (bytes .entry))) × (now (out .exit) ≡ quickTable edition (now (bytes .entry)) (now (out .entry))) ⌝ }
 {
     let table = table::words();
-    let rows = count_by(edition, bytes, &table);
-    if rows != 0 {
-        fill::fill(bytes, rows - 1, &table, out);
+    let recognition = count_by(edition, bytes, &table);
+    if let Recognition::Rows(rows) = recognition {
+        fill::fill(bytes, rows, &table, out);
     }
-    rows
+    recognition
 }
 
 // The count by a table of lines that is lent.
-fn count_by(edition: usize, bytes: &[u8], table: &[usize; LINES]) -> usize
+fn count_by(edition: usize, bytes: &[u8], table: &[usize; LINES]) -> Recognition
     requires { ⌜ now table ≡ packed ⌝ }
     ensures { λ r. ⌜ r ≡ quickCount edition (now (bytes .entry)) ⌝ }
 {
-    if der::input::LONGEST < bytes.len() {
-        return 0;
+    if der::bounds::LONGEST < bytes.len() {
+        return Recognition::Unrecognised;
     }
-    list(bytes, TOP, DEPTH, 1, edition, table)
+    decoded(list(bytes, TOP, DEPTH, 0, edition, table))
 }
 
-// How the count goes on behind an element: the line, the place and one more than the rows; 0 where it gives up.
-struct Spot {
-    line: usize,
-    at: usize,
-    count: usize,
-}
-
-// The count gives up.
-fn lost() -> Spot
-    ensures { λ r. ⌜ r .count ≡ 0 ⌝ }
+// What the number means that `list` answers.
+fn decoded(number: usize) -> Recognition
+    ensures { λ r. ⌜ r ≡ decode number ⌝ }
 {
-    Spot {
-        line: 0,
-        at: 0,
-        count: 0,
+    if number == 0 {
+        return Recognition::Unrecognised;
     }
+    Recognition::Rows(number - 1)
 }
 
-// The elements that the bytes are, from a line on: one more than the rows before and of them, or 0.
+// Where the count goes on after an element.
+enum Advance {
+    // With a line of the table, at a place of the bytes, with this many rows so far.
+    Past {
+        line: usize,
+        at: usize,
+        count: usize,
+    },
+    // Nowhere: the element isn't recognised.
+    Stop,
+}
+
+// Recognises the elements that the bytes are, from a line on, after `before` rows. Answers one more than the rows up to their end, or 0 where
+// they aren't recognised: this number stays in a register, where `Recognition` would go through memory at each level.
 fn list(
     bytes: &[u8],
     state: usize,
@@ -76,28 +87,33 @@ fn list(
     edition: usize,
     table: &[usize; LINES],
 ) -> usize
-    requires { ⌜ Counting (now bytes) before (now table) ⌝ }
-    ensures { λ r. ⌜ Counted edition left state before (now (bytes .entry)) r ⌝ }
+    requires { ⌜ Countable (now bytes) before (now table) ⌝ }
+    ensures { λ r. ⌜ ListCounted edition left state before (now (bytes .entry)) r ⌝ }
 {
     let mut at = 0;
     let mut line = state;
     let mut count = before;
     while at < bytes.len() {
-        let spot = element(bytes, at, line, left, count, edition, table);
-        if spot.count == 0 {
+        let advance = element(bytes, at, line, left, count, edition, table);
+        let Advance::Past {
+            line: next,
+            at: end,
+            count: total,
+        } = advance
+        else {
             return 0;
-        }
-        line = spot.line;
-        at = spot.at;
-        count = spot.count;
+        };
+        line = next;
+        at = end;
+        count = total;
     }
     if table::closed(table, line) {
-        return count;
+        return count + 1;
     }
     0
 }
 
-// The element at a place of the bytes, from a line on.
+// Recognises the element at a place of the bytes, from a line on, after `before` rows; `left` levels of depth are left.
 fn element(
     bytes: &[u8],
     at: usize,
@@ -106,43 +122,49 @@ fn element(
     before: usize,
     edition: usize,
     table: &[usize; LINES],
-) -> Spot
-    requires { ⌜ Counting (drop at (now bytes)) before (now table) × (at < length (now bytes)) × (length (now bytes) ≤ longest) ⌝ }
-    ensures { λ r. ⌜ Went edition left line before at (now (bytes .entry)) r ⌝ }
+) -> Advance
+    requires { ⌜ Countable (drop at (now bytes)) before (now table) × (at < length (now bytes)) × (length (now bytes) ≤ longest) ⌝ }
+    ensures { λ r. ⌜ ElementCounted edition left line before at (now (bytes .entry)) r ⌝ }
 {
     let x = measure(&bytes[at..]);
     if x.octets == 0 {
-        return lost();
+        return Advance::Stop;
     }
     if left == 0 {
-        return lost();
+        return Advance::Stop;
     }
     let from = at + x.octets;
     let to = from + x.length;
     let found = table::seek(table, line, bytes[at]);
     let Found::At(k) = found else {
-        return lost();
+        return Advance::Stop;
     };
     let word = table::word(table, k);
     let count = before + table::rows_of(word);
     match step::take(word, bytes[at], &bytes[from..to], left - 1, edition, table) {
-        Step::Stop => lost(),
-        Step::On(next) => Spot {
+        Visit::Refuse => Advance::Stop,
+        Visit::Skip(next) => Advance::Past {
             line: next,
             at: to,
             count,
         },
-        Step::Into(next) => Spot {
-            line: next,
-            at: to,
-            count: list(
+        Visit::Descend(next) => {
+            let inside = decoded(list(
                 &bytes[from..to],
                 table::inside_of(word),
                 left - 1,
                 count,
                 edition,
                 table,
-            ),
-        },
+            ));
+            let Recognition::Rows(total) = inside else {
+                return Advance::Stop;
+            };
+            Advance::Past {
+                line: next,
+                at: to,
+                count: total,
+            }
+        }
     }
 }

@@ -77,7 +77,7 @@ pub(crate) fn next_of(word: usize) -> usize
     word / codes::NEXT % codes::LINE_NUMBERS
 }
 
-// What the quick walk does with an element of the line.
+// What the recogniser does with an element of the line.
 pub(crate) fn action_of(word: usize) -> usize
     ensures { λ r. ⌜ ((k : ℕ) → word ≡ getD packed k 0 → r ≡ actionOf (line k)) ⌝ }
 {

@@ -1,57 +1,51 @@
-// The walk over the elements of a batch, by the grammar's lines: a loop over siblings, and a call for each inside.
+// The exact walk over the elements of a batch, by the grammar's lines: a loop over siblings, and a call for each inside.
 use crate::codes;
+use crate::element::Fit;
+use crate::element::Fitting;
+use crate::element::line_for;
 use crate::judge;
 use crate::judge::Onward;
-use crate::kinds;
 use crate::lines::LINES;
 use crate::lines::TOP;
 use crate::table;
-use crate::table::Found;
+use crate::tally;
+use crate::tally::Tally;
 use der::reading::read_at;
-ghost use Prim.Native.Nat.{ℕ, _+_, _≤_, _<_};
+ghost use Prim.Native.Nat.{ℕ, _≤_, _<_};
 ghost use mathlib.Core.Path.{_≡_};
 ghost use lib.ListN.{length, getD};
 ghost use lib.Seq.{slice};
 ghost use Rattle.der.specs.Reading.{tree};
-ghost use Rattle.crmf.specs.Packed.{packed, markCode};
-ghost use Rattle.crmf.specs.Walk.{line, judged, rowsOf, noted, lengthy, met, walk, every, countOf};
-ghost use Rattle.crmf.specs.Steps.{Lent, within, Passing, stepped, Stepped};
-
-// What the walk has met: the count of rows, the first form of each edition alone, with its difference's number (0: none) and its place, and
-// the first certReqId of more than 8 content octets, with its whole length (0: none) and its place.
-pub struct Seen {
-    pub count: usize,
-    pub one: usize,
-    pub one_at: usize,
-    pub two: usize,
-    pub two_at: usize,
-    pub long: usize,
-    pub long_at: usize,
-}
+ghost use Rattle.crmf.specs.Packed.{packed};
+ghost use Rattle.crmf.specs.Walk.{line, judged, countOf};
+ghost use Rattle.crmf.specs.Steps.{Lent, within, Passing, walkFrom, stepped, Stepped};
 
 // What the walk over a container answers.
 pub enum Walked {
     // All of it is in the grammar.
-    Passed(Seen),
-    // The place of the first break, request A9's detail, and what was met before it.
+    Passed(Tally),
+    // The place of the first break, request A9's detail, and the tally before it.
     Broken {
         place: usize,
         detail: usize,
-        seen: Seen,
+        tally: Tally,
     },
 }
 
-// What the walk over one element answers: the line, the place and what was met to go on with, or the break.
+// Where the walk stands: the line and the place to go on with, and the tally before them.
+struct Cursor {
+    state: usize,
+    at: usize,
+    tally: Tally,
+}
+
+// What the walk over one element answers: where to go on, or the break.
 enum Step {
-    On {
-        state: usize,
-        at: usize,
-        seen: Seen,
-    },
+    On(Cursor),
     Stop {
         place: usize,
         detail: usize,
-        seen: Seen,
+        tally: Tally,
     },
 }
 
@@ -59,241 +53,121 @@ enum Step {
 pub fn count(bytes: &[u8]) -> Walked
     ensures { λ r. ⌜ r ≡ countOf (now (bytes .entry)) ⌝ }
 {
-    let seen = Seen {
-        count: 0,
-        one: 0,
-        one_at: 0,
-        two: 0,
-        two_at: 0,
-        long: 0,
-        long_at: 0,
-    };
-    if der::input::LONGEST < bytes.len() {
+    let tally = tally::empty();
+    if der::bounds::LONGEST < bytes.len() {
         return Walked::Broken {
             place: 0,
             detail: 1,
-            seen,
+            tally,
         };
     }
     let table = table::words();
-    list(bytes, 0, bytes.len(), TOP, 0, seen, &table)
+    let start = Cursor {
+        state: TOP,
+        at: 0,
+        tally,
+    };
+    list(bytes, start, bytes.len(), 0, &table)
 }
 
-// The elements from `at` to `end`, from a line on, in a container at the place `around`.
-fn list(
-    bytes: &[u8],
-    at: usize,
-    end: usize,
-    state: usize,
-    around: usize,
-    seen: Seen,
-    table: &[usize; LINES],
-) -> Walked
-    requires { ⌜ Lent (now bytes) at end (seen .count) (now table) ⌝ }
-    ensures { λ r. ⌜ (r ≡ walk every seen state around (tree at (slice at end (now (bytes .entry))))) × Passing end r ⌝ }
+// The elements from the cursor to `end`, in a container at the place `around`.
+fn list(bytes: &[u8], start: Cursor, end: usize, around: usize, table: &[usize; LINES]) -> Walked
+    requires { ⌜ Lent (now bytes) (start .at) end (start .tally .count) (now table) ⌝ }
+    ensures { λ r. ⌜ (r ≡ walkFrom (now (bytes .entry)) start end around) × Passing end r ⌝ }
 {
-    let mut place = at;
-    let mut line = state;
-    let mut met = seen;
-    while place < end {
-        match element(bytes, place, end, line, met, table) {
-            Step::On {
-                state: next,
-                at: behind,
-                seen: more,
-            } => {
-                line = next;
-                place = behind;
-                met = more;
+    let mut cursor = start;
+    while cursor.at < end {
+        match element(bytes, cursor, end, table) {
+            Step::On(next) => {
+                cursor = next;
             }
             Step::Stop {
                 place: broken,
                 detail,
-                seen: before,
+                tally,
             } => {
                 return Walked::Broken {
                     place: broken,
                     detail,
-                    seen: before,
+                    tally,
                 };
             }
         }
     }
-    if table::closed(table, line) {
-        return Walked::Passed(met);
+    let tally = cursor.tally;
+    if table::closed(table, cursor.state) {
+        return Walked::Passed(tally);
     }
     Walked::Broken {
         place: around,
         detail: 2,
-        seen: met,
+        tally,
     }
 }
 
-// The element at `at` before `end`, by a line: the line is found by the identifier alone, the inside goes first, then the value.
-fn element(
-    bytes: &[u8],
-    at: usize,
-    end: usize,
-    state: usize,
-    seen: Seen,
-    table: &[usize; LINES],
-) -> Step
-    requires { ⌜ Lent (now bytes) at end (seen .count) (now table) × (at < end) ⌝ }
-    ensures { λ r. ⌜ Stepped (now (bytes .entry)) at end state seen r ⌝ }
+// The element at the cursor before `end`: the line is found by the identifier alone, the inside goes first, then the value.
+fn element(bytes: &[u8], cursor: Cursor, end: usize, table: &[usize; LINES]) -> Step
+    requires { ⌜ Lent (now bytes) (cursor .at) end (cursor .tally .count) (now table) × (cursor .at < end) ⌝ }
+    ensures { λ r. ⌜ Stepped (now (bytes .entry)) cursor end r ⌝ }
 {
-    let x = read_at(bytes, at, end);
-    let id = x.identifier;
-    let from = x.content;
-    let to = x.end;
-    let found = table::seek(table, state, id);
-    let Found::At(k) = found else {
+    let tally = cursor.tally;
+    let element = read_at(bytes, cursor.at, end);
+    let fitting = line_for(element, cursor.at, cursor.state, table);
+    let Fitting::Fits(fit) = fitting else {
         return Step::Stop {
-            place: at,
+            place: cursor.at,
             detail: 1,
-            seen,
+            tally,
         };
     };
-    let word = table::word(table, k);
-    match inside(
-        bytes,
-        from,
-        to,
-        word,
-        at,
-        meet(word, at, to - at, seen),
-        table,
-    ) {
+    match inside(bytes, fit, tally::with_element(fit, tally), table) {
         Walked::Broken {
             place,
             detail,
-            seen: before,
+            tally: before,
         } => Step::Stop {
             place,
             detail,
-            seen: before,
+            tally: before,
         },
-        Walked::Passed(more) => behind(bytes, at, from, to, word, more, table),
+        Walked::Passed(more) => after_inside(bytes, fit, more, table),
     }
 }
 
-// Behind an element's inside: what its value says.
-fn behind(
-    bytes: &[u8],
-    at: usize,
-    from: usize,
-    to: usize,
-    word: usize,
-    seen: Seen,
-    table: &[usize; LINES],
-) -> Step
-    requires { ⌜ (from ≤ to) × (to ≤ length (now bytes)) × (now table ≡ packed) ⌝ }
-    ensures { λ r. ⌜ ((k : ℕ) → word ≡ getD packed k 0 → r ≡ stepped at to seen (judged (line k .judge) (line k .next) (slice from to (now (bytes .entry))))) ⌝ }
+// The inside of an element, if its line has any.
+fn inside(bytes: &[u8], fit: Fit, tally: Tally, table: &[usize; LINES]) -> Walked
+    requires { ⌜ Lent (now bytes) (fit .content) (fit .end) (tally .count) (now table) ⌝ }
+    ensures { λ r. ⌜ ((k : ℕ) → fit .word ≡ getD packed k 0 → r ≡ within k tally (fit .first) (tree (fit .content) (slice (fit .content) (fit .end) (now (bytes .entry))))) × Passing (fit .end) r ⌝ }
 {
-    match judge::value_says(table, word, &bytes[from..to]) {
-        Onward::To(state) => Step::On {
+    let state = table::inside_of(fit.word);
+    if state == codes::FREE {
+        return Walked::Passed(tally);
+    }
+    let start = Cursor {
+        state,
+        at: fit.content,
+        tally,
+    };
+    list(bytes, start, fit.end, fit.first, table)
+}
+
+// The step that an element's value makes, after its inside.
+fn after_inside(bytes: &[u8], fit: Fit, tally: Tally, table: &[usize; LINES]) -> Step
+    requires { ⌜ (fit .content ≤ fit .end) × (fit .end ≤ length (now bytes)) × (now table ≡ packed) ⌝ }
+    ensures { λ r. ⌜ ((k : ℕ) → fit .word ≡ getD packed k 0 → r ≡ stepped (fit .first) (fit .end) tally (judged (line k .judge) (line k .next) (slice (fit .content) (fit .end) (now (bytes .entry))))) ⌝ }
+{
+    let from = fit.content;
+    let to = fit.end;
+    match judge::value_says(table, fit.word, &bytes[from..to]) {
+        Onward::To(state) => Step::On(Cursor {
             state,
             at: to,
-            seen,
-        },
+            tally,
+        }),
         Onward::Breaks(detail) => Step::Stop {
-            place: at,
+            place: fit.first,
             detail,
-            seen,
+            tally,
         },
     }
-}
-
-// The inside of an element at the place `around`, from `at` to `end`, if its line has any.
-fn inside(
-    bytes: &[u8],
-    at: usize,
-    end: usize,
-    word: usize,
-    around: usize,
-    seen: Seen,
-    table: &[usize; LINES],
-) -> Walked
-    requires { ⌜ Lent (now bytes) at end (seen .count) (now table) ⌝ }
-    ensures { λ r. ⌜ ((k : ℕ) → word ≡ getD packed k 0 → r ≡ within k seen around (tree at (slice at end (now (bytes .entry))))) × Passing end r ⌝ }
-{
-    let start = table::inside_of(word);
-    if start == codes::FREE {
-        return Walked::Passed(seen);
-    }
-    list(bytes, at, end, start, around, seen, table)
-}
-
-// What was met, with an element at a place and of a whole length in a line's form.
-fn meet(word: usize, place: usize, whole: usize, seen: Seen) -> Seen
-    requires { ⌜ seen .count ≤ 131070 ⌝ }
-    ensures { λ r. ⌜ ((k : ℕ) → word ≡ getD packed k 0 → r ≡ met (line k) place whole seen) × (r .count ≤ seen .count + 2) ⌝ }
-{
-    let item = row_of(table::item_of(word));
-    let kind = table::kind_of(word);
-    let mut after = lengthen(kind, place, whole, note(table::mark_of(word), place, seen));
-    after.count = total(after.count, item, row_of(kind));
-    after
-}
-
-// What was met, with a certReqId of more than 8 content octets, if none was met before.
-fn lengthen(kind: usize, place: usize, whole: usize, seen: Seen) -> Seen
-    ensures { λ r. ⌜ (r ≡ lengthy kind place whole seen) × (r .count ≡ seen .count) ⌝ }
-{
-    if (kind == kinds::CERT_REQ_ID) & (10 < whole) & (seen.long == 0) {
-        return Seen {
-            count: seen.count,
-            one: seen.one,
-            one_at: seen.one_at,
-            two: seen.two,
-            two_at: seen.two_at,
-            long: whole,
-            long_at: place,
-        };
-    }
-    seen
-}
-
-// What was met, with a form of one edition alone by the code of its mark, if none of that edition was met before.
-fn note(mark: usize, place: usize, seen: Seen) -> Seen
-    ensures { λ r. ⌜ ((k : ℕ) → markCode (line k .mark) ≡ mark → r ≡ noted (line k .mark) place seen) × (r .count ≡ seen .count) ⌝ }
-{
-    let difference = mark % codes::EDITION;
-    if (mark / codes::EDITION == 1) & (seen.one == 0) {
-        return Seen {
-            count: seen.count,
-            one: difference,
-            one_at: place,
-            two: seen.two,
-            two_at: seen.two_at,
-            long: seen.long,
-            long_at: seen.long_at,
-        };
-    }
-    if (mark / codes::EDITION == 2) & (seen.two == 0) {
-        return Seen {
-            count: seen.count,
-            one: seen.one,
-            one_at: seen.one_at,
-            two: difference,
-            two_at: place,
-            long: seen.long,
-            long_at: seen.long_at,
-        };
-    }
-    seen
-}
-
-// The rows so far and those of an element.
-fn total(before: usize, item: usize, own: usize) -> usize
-    requires { ⌜ (before ≤ 131070) × (item ≤ 1) × (own ≤ 1) ⌝ }
-    ensures { λ r. ⌜ r ≡ before + item + own ⌝ }
-{
-    before + item + own
-}
-
-// The rows that a kind gives: none for 0.
-pub(crate) fn row_of(kind: usize) -> usize
-    ensures { λ r. ⌜ (r ≡ rowsOf kind) × (r ≤ 1) ⌝ }
-{
-    if kind == kinds::NONE { 0 } else { 1 }
 }

@@ -1,25 +1,27 @@
-// Reads the rows of each batch, in edition 1 or else in edition 2, and prints them. The crate `cases` says what a case is; its first two
-// octets are the room, how many numbers of the table are lent, and the batch stands behind them. The first 65,536 characters are read. The
-// answer is one of
+// Reads the rows of each batch, in edition 1 or else in edition 2, and prints them. A line has octets alone, as `cases::case` says: the
+// first two are how many numbers of the table are lent, and the batch follows. The answer is one of
 //
 //     the rows, one row a line: kind, first byte, whole length, parent's row
 //     too short, the table unchanged
 //     -                                 in neither edition's grammar
 //
-// and an empty line. Each number of the table is 7777777 before; a line more tells where one has changed that shouldn't.
-use cases::Case;
-use cases::ROOM;
+// and an empty line. One more line tells where a number of the table has changed that shouldn't.
+use cases::case::Case;
+use cases::case::ROOM;
+use cases::case::octets;
+use cases::input::TEXT;
+use cases::line::OCTETS;
+use cases::print::text;
+use cases::table::NUMBERS;
+use cases::table::is_untouched;
+use cases::table::prepare;
+use cases::table::print_rows;
 use crmf::fill::WIDTH;
-use libc::STDOUT_FILENO;
+use crmf::quick::Recognition;
 ghost use Prim.Native.Nat.{_≤_};
 
-// The numbers of the table, and as many rows.
-const NUMBERS: usize = 40000;
-
-const ROWS: usize = 10000;
-
-// Each number of the table before it is filled.
-const BEFORE: usize = 7777777;
+// The rows that the table holds.
+const ROWS: usize = NUMBERS / WIDTH;
 
 // The lesser of two numbers.
 fn lesser(a: usize, b: usize) -> usize
@@ -28,60 +30,25 @@ fn lesser(a: usize, b: usize) -> usize
     if a < b { a } else { b }
 }
 
-// Prints a number of the table, and what follows it.
-fn print_one(table: &[usize; NUMBERS], at: usize, behind: &[u8]) {
-    if at < NUMBERS {
-        cases::print_number(table[at]);
-    }
-    io::write_all(STDOUT_FILENO, behind);
-}
-
-// Prints a row of the table, one line.
-fn print_row(table: &[usize; NUMBERS], row: usize) {
-    if row < ROWS {
-        let at = WIDTH * row;
-        print_one(table, at, b" ");
-        print_one(table, at + 1, b" ");
-        print_one(table, at + 2, b" ");
-        print_one(table, at + 3, b"\n");
-    }
-}
-
-// Prints the first rows of the table.
-fn print_rows(table: &[usize; NUMBERS], count: usize) {
-    for row in 0..count {
-        print_row(table, row);
-    }
-}
-
-// Whether every number from a place on is as it was before.
-fn is_untouched(table: &[usize; NUMBERS], from: usize) -> bool {
-    for i in from..NUMBERS {
-        if table[i] != BEFORE {
-            return false;
-        }
-    }
-    true
-}
-
 // Prints a table that was filled.
 fn print_filled(table: &[usize; NUMBERS], count: usize) {
-    print_rows(table, count);
-    if !is_untouched(table, WIDTH * lesser(count, ROWS)) {
-        io::write_all(STDOUT_FILENO, b"other numbers changed\n");
+    let numbers = WIDTH * lesser(count, ROWS);
+    print_rows(table, WIDTH, numbers);
+    if !is_untouched(table, numbers) {
+        text(b"other numbers changed\n");
     }
 }
 
 // Prints that a table was too short.
 fn print_short(table: &[usize; NUMBERS]) {
     if is_untouched(table, 0) {
-        io::write_all(STDOUT_FILENO, b"too short, the table unchanged\n");
+        text(b"too short, the table unchanged\n");
     } else {
-        io::write_all(STDOUT_FILENO, b"too short, the table changed\n");
+        text(b"too short, the table changed\n");
     }
 }
 
-// Prints a table of which so many numbers were lent for so many rows.
+// Prints a table of which `lent` numbers were lent for `count` rows.
 fn print_lent(table: &[usize; NUMBERS], lent: usize, count: usize) {
     if lent / WIDTH < count {
         print_short(table);
@@ -90,26 +57,34 @@ fn print_lent(table: &[usize; NUMBERS], lent: usize, count: usize) {
     }
 }
 
-// Reads a batch in an edition into the first numbers of a table, and prints it; answers whether it is a batch of the edition.
-fn fill(edition: usize, batch: &[u8], room: usize) -> bool {
-    let mut table = [BEFORE; NUMBERS];
-    let lent = lesser(room, NUMBERS);
-    let rows = crmf::quick::read(edition, batch, &mut table[..lent]);
-    if rows == 0 {
-        return false;
+// Reads a batch with the first numbers of the table lent.
+fn read(edition: usize, batch: &[u8], table: &mut [usize], numbers: usize) -> Recognition {
+    if numbers < table.len() {
+        return crmf::quick::read(edition, batch, &mut table[..numbers]);
     }
-    print_lent(&table, lent, rows - 1);
+    crmf::quick::read(edition, batch, table)
+}
+
+// Reads a batch in an edition into the first numbers of the table, and prints it; answers whether it is a batch of the edition.
+fn fill(edition: usize, batch: &[u8], table: &mut [usize; NUMBERS], numbers: usize) -> bool {
+    prepare(table);
+    let recognition = read(edition, batch, table, numbers);
+    let Recognition::Rows(rows) = recognition else {
+        return false;
+    };
+    print_lent(table, lesser(numbers, NUMBERS), rows);
     true
 }
 
-// Reads a batch in the first edition whose batch it is, with a table of such a room.
-fn answer(batch: &[u8], room: usize) {
-    if !fill(1, batch, room) {
-        if !fill(2, batch, room) {
-            io::write_all(STDOUT_FILENO, b"-\n");
+// Reads a batch in the first edition whose batch it is, with `numbers` numbers of a table lent.
+fn answer(batch: &[u8], numbers: usize) {
+    let mut table = [0usize; NUMBERS];
+    if !fill(1, batch, &mut table, numbers) {
+        if !fill(2, batch, &mut table, numbers) {
+            text(b"-\n");
         }
     }
-    io::write_all(STDOUT_FILENO, b"\n");
+    text(b"\n");
 }
 
 // The number of two octets.
@@ -117,37 +92,24 @@ fn number(high: u8, low: u8) -> usize {
     high as usize * 256 + low as usize
 }
 
-// Judges the first octets of a case.
-fn judge(room: &[u8], octets: usize) {
-    if octets < 2 {
+// Judges a case: the first octets of the room.
+fn judge(room: &[u8; ROOM], case: Case) {
+    let bytes = octets(room, case.octets);
+    if bytes.len() < 2 {
         return;
     }
-    if octets <= room.len() {
-        answer(&room[2..octets], number(room[0], room[1]));
-    }
-}
-
-// Reads one character more; at a line's end the case is judged.
-fn step(case: Case, c: u8, room: &mut [u8; ROOM]) -> Case {
-    let next = cases::read(case, c, room);
-    if next.whole {
-        judge(room, next.octets);
-        return cases::start();
-    }
-    next
-}
-
-// Reads the text, character by character.
-fn run(text: &[u8]) {
-    let mut room = [0u8; ROOM];
-    let mut case = cases::start();
-    for i in 0..text.len() {
-        case = step(case, text[i], &mut room);
-    }
+    answer(&bytes[2..], number(bytes[0], bytes[1]));
 }
 
 fn main() {
-    let mut text = io::large_buffer();
-    let n = io::read_full(0, &mut text);
-    run(&text[..n]);
+    let mut text = [0u8; TEXT];
+    let mut room = [0u8; ROOM];
+    let mut input = cases::input::open(OCTETS);
+    for turn in 0..usize::MAX {
+        input = cases::input::next(input, &mut text, &mut room);
+        if input.ended {
+            return;
+        }
+        judge(&room, input.line.case);
+    }
 }

@@ -45,18 +45,18 @@ content-exact id c = (
 )
 
 -- without an octet 80 no part starts with one
-unpadded-plain : (before : ℕ) (bs : List ℕ) → ((i : ℕ) → i < length bs → getD bs i 0 ≡ 0x80 → ⊥) → unpadded before bs ≡ true
+unpadded-without-80 : (before : ℕ) (bs : List ℕ) → ((i : ℕ) → i < length bs → getD bs i 0 ≡ 0x80 → ⊥) → unpadded before bs ≡ true
 unfolding unpadded
-unpadded-plain before [] other = refl
-unpadded-plain before (b ∷ bs) other =
-    rw (ne-eqb b 0x80 (other 0 (omega arith)), and-false (ltb before 0x80), unpadded-plain b bs (λ i h. other (suc i) (omega arith)))
+unpadded-without-80 before [] other = refl
+unpadded-without-80 before (b ∷ bs) other =
+    rw (ne-eqb b 0x80 (other 0 (omega arith)), and-false (ltb before 0x80), unpadded-without-80 b bs (λ i h. other (suc i) (omega arith)))
 
 -- an OBJECT IDENTIFIER without an octet 80 is one by its last octet
-pub identifier-plain : (bs : List ℕ) → 0 < length bs → ((i : ℕ) → i < length bs → getD bs i 0 ≡ 0x80 → ⊥)
+pub identifier-without-80 : (bs : List ℕ) → 0 < length bs → ((i : ℕ) → i < length bs → getD bs i 0 ≡ 0x80 → ⊥)
     → ltb (getD bs (length bs - 1) 0) 0x80 ≡ objectIdentifier bs
 unfolding objectIdentifier lastOf
-identifier-plain [] some other = absurd (omega arith)
-identifier-plain (b ∷ bs) some other = rw (unpadded-plain 0 (b ∷ bs) other, ← last 0 (b ∷ bs) some) refl
+identifier-without-80 [] some other = absurd (omega arith)
+identifier-without-80 (b ∷ bs) some other = rw (unpadded-without-80 0 (b ∷ bs) other, ← last 0 (b ∷ bs) some) refl
 
 -- an INTEGER has an octet at least
 pub integer-some : (content : List ℕ) → T (integer content) → 1 ≤ length content

@@ -11,12 +11,13 @@ use lib.Dec.{T}
 use lib.ListN.{length, take, drop, length-append, length-drop, take-append-drop}
 use lib.Seq.{take-at, drop-at, length-take-le}
 use Rattle.der.specs.declared.header.Head.the-variants.{Stands}
-use Rattle.der.specs.declared.walk.Nest.the-variants.{End}
+use Rattle.der.specs.declared.explain.Nest.the-variants.{End}
 use Rattle.der.specs.Octets.{Octets}
 use Rattle.der.specs.Identifier.{allowed, constructed}
 use Rattle.der.specs.Header.{headOf}
 use Rattle.der.specs.Content.{Content, holds}
-use Rattle.der.specs.Walk.{listOf, elementOf, depth, walkAt}
+use Rattle.der.specs.Bounds.{depth, longest}
+use Rattle.der.specs.Explain.{listOf, elementOf, walkAt}
 use Rattle.der.specs.Reading.{tree}
 use Rattle.der.specs.Tree.{Tree, none, element, header, encode, Formed, WellFormed, Single}
 use Rattle.der.proofs.ContentRules.{content-exact}
@@ -27,12 +28,12 @@ use Rattle.der.proofs.Readings.{tree-encode}
 use Rattle.der.proofs.Steps.{element-inside, element-value, value-kept, list-empty, end-fault, walk-whole}
 use Rattle.der.proofs.Trees.{encode-length}
 
--- the trees of two lists of elements, one behind the other
+-- the trees of two lists of elements, one after the other
 pub joined : Tree → Tree → Tree
 joined none u = u
 joined (element id first whole content inside rest) u = element id first whole content inside (joined rest u)
 
--- their encodings stand one behind the other
+-- their encodings stand one after the other
 pub joined-encode : (t u : Tree) → encode (joined t u) ≡ encode t ++ encode u
 unfolding joined encode
 joined-encode none u = refl
@@ -41,7 +42,7 @@ joined-encode (element id first whole content inside rest) u =
 
 -- both well-formed, they are well-formed together
 pub joined-formed : (left p : ℕ) (t u : Tree) → WellFormed left p t → WellFormed left (p + length (encode t)) u → WellFormed left p (joined t u)
-unfolding joined encode
+unfolding joined encode WellFormed
 joined-formed left p none u ft fu = rw add-zero at fu
 joined-formed zero p (element id first whole content inside rest) u ft fu = absurd ft
 joined-formed (suc left) p (element id first whole content inside rest) u ft fu =
@@ -65,7 +66,7 @@ pub record ListSound (left p q : ℕ) (bs : List ℕ) : Type 0 where
   pub whole : bs ≡ encode tree
   pub ends : q ≡ p + length bs
 
--- an element that ends and the list behind it
+-- an element that ends and the list after it
 sound-next : (left p q e : ℕ) (bs : List ℕ) → Sound left p e bs → ListSound left e q (drop (e - p) bs) → ListSound left p q bs
 sound-next left p q e bs first rest =
     let t = first .tree in
@@ -79,23 +80,23 @@ sound-next left p q e bs first rest =
       ends = omega (arith, first .ends, rest .ends, length-drop (e - p) bs);
     }
 
--- Where what an element's end gives is known, with so many levels of depth left, so is what a list's end gives, and an element's with
+-- Where what an element's end gives is known, with the levels of depth that are left, so is what a list's end gives, and an element's with
 -- one more level.
 module _ (left : ℕ)
-    (each : (p q : ℕ) (bs : List ℕ) → Octets bs → length bs ≤ 65535 → elementOf left p bs ≡ End q → Sound left p q bs) where
+    (each : (p q : ℕ) (bs : List ℕ) → Octets bs → length bs ≤ longest → elementOf left p bs ≡ End q → Sound left p q bs) where
   -- a list that ends
-  sound-list : (n p : ℕ) (bs : List ℕ) → length bs ≤ n → Octets bs → length bs ≤ 65535 → (q : ℕ) → listOf (elementOf left) n p bs ≡ End q
+  sound-list : (n p : ℕ) (bs : List ℕ) → length bs ≤ n → Octets bs → length bs ≤ longest → (q : ℕ) → listOf (elementOf left) n p bs ≡ End q
       → ListSound left p q bs
-  unfolding encode
+  unfolding encode WellFormed
   sound-list =
       list-along (elementOf left) (element-progress left)
-      (λ p bs r. Octets bs → length bs ≤ 65535 → (q : ℕ) → r ≡ End q → ListSound left p q bs)
+      (λ p bs r. Octets bs → length bs ≤ longest → (q : ℕ) → r ≡ End q → ListSound left p q bs)
       (λ p octets short q e. record { tree = none; formed = tt; whole = refl; ends = (let z : p ≡ q = cc in omega arith) })
       (λ p bs m x k some faulty octets short q e. end-fault e refl)
       (λ p bs x r some first further octets short q e.
       sound-next left p q x bs (each p x bs octets short first) (further (octets-drop (x - p) bs octets) (simp length-drop (omega arith)) q e))
 
-  module _ (p q : ℕ) (bs : List ℕ) (octets : Octets bs) (short : length bs ≤ 65535) (d : Ended left p q bs) where
+  module _ (p q : ℕ) (bs : List ℕ) (octets : Octets bs) (short : length bs ≤ longest) (d : Ended left p q bs) where
     -- the content of an element that ends
     abbrev content : List ℕ
     content = take (d .size) (drop (d .before) bs)
@@ -103,7 +104,7 @@ module _ (left : ℕ)
     -- an element that ends, with what is inside it
     sound-with : (inside : Tree) → (constructed (d .identifier) ≡ true → (content ≡ encode inside) × WellFormed left (p + d .before) inside)
         → (constructed (d .identifier) ≡ false → (inside ≡ none) × Content (d .identifier) content) → Sound (suc left) p q bs
-    unfolding encode
+    unfolding encode WellFormed Single
     sound-with inside filled valued =
         let id = d .identifier in
         let c = content in
@@ -137,15 +138,15 @@ module _ (left : ℕ)
         let inner = sound-list (d .size) (p + d .before) content (omega arith) (octets-part (d .before) (d .size) bs octets) (omega arith) q (d .listed made) in
         sound-with (inner .tree) (λ m. (inner .whole, inner .formed)) (λ plain. absurd (false≢true (sym plain ∙ made)))
 
--- Soundness: an element that ends is the encoding of a well-formed tree of a single element, with further octets behind it.
-pub element-sound : (left p q : ℕ) (bs : List ℕ) → Octets bs → length bs ≤ 65535 → elementOf left p bs ≡ End q → Sound left p q bs
+-- Soundness: an element that ends is the encoding of a well-formed tree of a single element, with further octets after it.
+pub element-sound : (left p q : ℕ) (bs : List ℕ) → Octets bs → length bs ≤ longest → elementOf left p bs ≡ End q → Sound left p q bs
 element-sound zero p q bs octets short ends = element-deep p q bs ends
 element-sound (suc left) p q bs octets short ends =
     let d = element-end left p q bs ends in
     sound-kind left (element-sound left) p q bs octets short d (constructed (d .identifier)) refl
 
 -- Soundness of a list: one that ends is the encoding of a well-formed tree.
-pub list-sound : (left p q : ℕ) (bs : List ℕ) → Octets bs → length bs ≤ 65535 → listOf (elementOf left) (length bs) p bs ≡ End q
+pub list-sound : (left p q : ℕ) (bs : List ℕ) → Octets bs → length bs ≤ longest → listOf (elementOf left) (length bs) p bs ≡ End q
     → ListSound left p q bs
 list-sound left p q bs octets short = sound-list left (element-sound left) (length bs) p bs (omega arith) octets short q
 
@@ -154,21 +155,21 @@ some-octets : (id : ℕ) (c : List ℕ) → 0 < length (header id c ++ c)
 unfolding header
 some-octets id c = omega arith
 
--- along a well-formed tree's encoding the walk over a list goes on behind it, with a count that is enough
+-- along a well-formed tree's encoding the walk over a list goes on after it, with a count that is enough
 abbrev Over : ℕ → Tree → List ℕ → Type 0
 Over left t more =
-    (n p : ℕ) → WellFormed left p t → length (encode t ++ more) ≤ 65535 → length (encode t ++ more) ≤ n
+    (n p : ℕ) → WellFormed left p t → length (encode t ++ more) ≤ longest → length (encode t ++ more) ≤ n
     → listOf (elementOf left) n p (encode t ++ more) ≡ listOf (elementOf left) n (p + length (encode t)) more
 
 -- so a list of just that ends with it
-over-end : (left n p : ℕ) (t : Tree) → Over left t [] → WellFormed left p t → length (encode t) ≤ 65535 → length (encode t) ≤ n
+over-end : (left n p : ℕ) (t : Tree) → Over left t [] → WellFormed left p t → length (encode t) ≤ longest → length (encode t) ≤ n
     → listOf (elementOf left) n p (encode t) ≡ End (p + length (encode t))
 over-end left n p t over formed short enough =
     (rw append-nil at over) n p formed short enough ∙ list-empty (elementOf left) n (p + length (encode t))
 
 -- a well-formed element ends where its encoding does, if the walk goes along the elements inside it
 complete-element : (left p id first whole : ℕ) (c more : List ℕ) (inside : Tree)
-    → Formed p id first whole c inside (WellFormed left (p + length (header id c)) inside) → length c ≤ 65535 → Over left inside []
+    → Formed p id first whole c inside (WellFormed left (p + length (header id c)) inside) → length c ≤ longest → Over left inside []
     → elementOf (suc left) p ((header id c ++ c) ++ more) ≡ End (p + length (header id c ++ c))
 complete-element left p id first whole c more inside formed short inner = go (constructed id) refl
   where
@@ -195,9 +196,9 @@ complete-element left p id first whole c more inside formed short inner = go (co
         element-value left p bs stands plain
         ∙ cc (take-middle (header id c) c more, value-kept p (p + h + length c) id c kept, place)
 
--- the walk over a list goes on behind the encoding of a well-formed tree
+-- the walk over a list goes on after the encoding of a well-formed tree
 pub list-over : (left : ℕ) (t : Tree) (more : List ℕ) → Over left t more
-unfolding encode
+unfolding encode WellFormed
 list-over left none more n p formed short enough = rw add-zero
 list-over zero (element id first whole c inside rest) more n p formed short enough = absurd formed
 list-over (suc left) (element id first whole c inside rest) more n p formed short enough =
@@ -214,10 +215,10 @@ list-over (suc left) (element id first whole c inside rest) more n p formed shor
     (elements-next (suc left) n p (a ++ behind) (omega arith) (p + length a) (omega (arith, some-octets id c)) ends
     ∙ rw past (list-over (suc left) rest more n (p + length a) (rw (formed .0 .sized) at (formed .1)) (omega arith) (omega arith)))
 
--- Completeness: the encoding of a well-formed tree of a single element, with any octets behind it, is an element that ends with the encoding.
-pub element-complete : (left p : ℕ) (t : Tree) (more : List ℕ) → WellFormed left p t → Single t → length (encode t ++ more) ≤ 65535
+-- Completeness: the encoding of a well-formed tree of a single element, with any octets after it, is an element that ends with the encoding.
+pub element-complete : (left p : ℕ) (t : Tree) (more : List ℕ) → WellFormed left p t → Single t → length (encode t ++ more) ≤ longest
     → elementOf left p (encode t ++ more) ≡ End (p + length (encode t))
-unfolding encode
+unfolding encode WellFormed Single
 element-complete left p none more formed single short = absurd single
 element-complete zero p (element id first whole c inside rest) more formed single short = absurd formed
 element-complete (suc left) p (element id first whole c inside rest) more formed single short =
@@ -228,7 +229,7 @@ element-complete (suc left) p (element id first whole c inside rest) more formed
     rw (single, append-nil) (complete-element left p id first whole c more inside (formed .0) (omega arith) (list-over left inside []))
 
 -- Completeness of a list: the encoding of a well-formed tree ends with its octets.
-pub list-complete : (left p : ℕ) (t : Tree) → WellFormed left p t → length (encode t) ≤ 65535
+pub list-complete : (left p : ℕ) (t : Tree) → WellFormed left p t → length (encode t) ≤ longest
     → listOf (elementOf left) (length (encode t)) p (encode t) ≡ End (p + length (encode t))
 list-complete left p t formed short = over-end left (length (encode t)) p t (list-over left t []) formed short (omega arith)
 
@@ -238,7 +239,7 @@ Encoded s e = (e ≤ length s) × ((t : Tree) × WellFormed depth 0 t × Single 
 
 -- Exactness: a whole input's first element ends at a place if and only if the octets up to that place are the encoding of a well-formed tree
 -- of a single element.
-pub exact : (s : List ℕ) (e : ℕ) → Octets s → length s ≤ 65535 → walkAt s 0 (length s) ≡ End e ↔ Encoded s e
+pub exact : (s : List ℕ) (e : ℕ) → Octets s → length s ≤ longest → walkAt s 0 (length s) ≡ End e ↔ Encoded s e
 exact s e octets short = (accepted, encoded)
   where
     accepted : walkAt s 0 (length s) ≡ End e → Encoded s e
@@ -266,7 +267,7 @@ pub record Checked (s : List ℕ) (e : ℕ) : Type 0 where
   pub encoded : encode (tree 0 (take e s)) ≡ take e s
 
 -- Exactness, of the tree that is read: `take e s` is an encoding, and an encoding is read back.
-pub walk-tree : (s : List ℕ) (e : ℕ) → Octets s → length s ≤ 65535 → walkAt s 0 (length s) ≡ End e ↔ Checked s e
+pub walk-tree : (s : List ℕ) (e : ℕ) → Octets s → length s ≤ longest → walkAt s 0 (length s) ≡ End e ↔ Checked s e
 walk-tree s e octets short = (
   λ ends.
       let (within, (t, formed, single, same)) = exact s e octets short .0 ends in
@@ -276,8 +277,8 @@ walk-tree s e octets short = (
   λ c. exact s e octets short .1 (c .within, (tree 0 (take e s), c .formed, c .single, c .encoded)),
 )
 
--- equal octets start with equal elements, with equal octets behind them
-unique-octets : (id id′ : ℕ) (c c′ x x′ : List ℕ) → T (allowed id) → T (allowed id′) → length c ≤ 65535 → length c′ ≤ 65535
+-- equal octets start with equal elements, with equal octets after them
+unique-octets : (id id′ : ℕ) (c c′ x x′ : List ℕ) → T (allowed id) → T (allowed id′) → length c ≤ longest → length c′ ≤ longest
     → (header id c ++ c) ++ x ≡ (header id′ c′ ++ c′) ++ x′ → (id ≡ id′) × (c ≡ c′) × (x ≡ x′)
 unique-octets id id′ c c′ x x′ ok ok′ short short′ same =
     let heads = sym (head-encoded id c x ok short) ∙ ap headOf same ∙ head-encoded id′ c′ x′ ok′ short′ in
@@ -302,8 +303,8 @@ unique-inside left p id first whole first′ whole′ c inside inside′ f f′ 
     go false plain = f .valued plain .0 ∙ sym (f′ .valued plain .0)
 
 -- Uniqueness: two well-formed trees with one encoding are equal.
-pub unique : (left p : ℕ) (t u : Tree) → WellFormed left p t → WellFormed left p u → length (encode t) ≤ 65535 → encode t ≡ encode u → t ≡ u
-unfolding encode
+pub unique : (left p : ℕ) (t u : Tree) → WellFormed left p t → WellFormed left p u → length (encode t) ≤ longest → encode t ≡ encode u → t ≡ u
+unfolding encode WellFormed
 unique left p none none ft fu short same = refl
 unique left p none (element id first whole c inside rest) ft fu short same =
     absurd (omega (arith, ap length same, encode-length id first whole c inside rest, some-octets id c))

@@ -13,26 +13,27 @@ use lib.Seq.{drop-at, getD-append-add, getD-take, getD-drop}
 use borrow.Author.Tests.{leb-true, leb-false}
 use Rattle.der.specs.declared.header.Head.{Head}
 use Rattle.der.specs.declared.header.Head.the-variants.{Stands, Broken}
-use Rattle.der.specs.declared.walk.Nest.{Nest}
-use Rattle.der.specs.declared.walk.Nest.the-variants.{End, Fault}
+use Rattle.der.specs.declared.explain.Nest.{Nest}
+use Rattle.der.specs.declared.explain.Nest.the-variants.{End, Fault}
 use Rattle.der.specs.Octets.{Octets}
 use Rattle.der.specs.Identifier.{constructed}
 use Rattle.der.specs.Header.{sizedBy, headOf}
 use Rattle.der.specs.Content.{Content, holds}
-use Rattle.der.specs.Tree.{none, encode}
-use Rattle.der.specs.Walk.{numberOf, placeOf, listOf, elementOf, depth, longest, walkAt}
-use Rattle.der.specs.Fault.{Breaks, Faults, FaultOf, FirstIn, First, Named}
+use Rattle.der.specs.Tree.{none, encode, WellFormed}
+use Rattle.der.specs.Bounds.{depth, longest}
+use Rattle.der.specs.Explain.{numberOf, placeOf, listOf, elementOf, walkAt}
+use Rattle.der.specs.Fault.{Headed, Breaks, Faults, FaultOf, FirstIn, First, Named}
 use Rattle.der.proofs.ContentRules.{content-exact}
 use Rattle.der.proofs.Exact.{joined, joined-encode, joined-formed, Sound, element-sound, list-over, Encoded, exact}
-use Rattle.der.proofs.Headers.{head-parts, head-breaks, head-fits}
+use Rattle.der.proofs.Headers.{head-parts, headed-stands, head-breaks, head-fits}
 use Rattle.der.proofs.Parts.{octets-drop, octets-part, part-short, filled}
 use Rattle.der.proofs.Progress.{list-along, element-progress}
 use Rattle.der.proofs.Steps.{head-wrong, head-sized, head-past, element-broken, element-inside, element-value, value-kept, value-unkept}
 use Rattle.der.proofs.Steps.{list-stop, walk-whole, walk-long}
 
 -- a header that stands has the first octet for its identifier
-head-first : (bs : List ℕ) (id h n : ℕ) → headOf bs ≡ Stands id h n → id ≡ getD bs 0 0
-head-first bs id h n e = sym (ap (λ l. getD l 0 0) (head-parts bs e .split))
+head-first : (bs : List ℕ) (id h n : ℕ) → Headed bs id h n → id ≡ getD bs 0 0
+head-first bs id h n x = sym (ap (λ l. getD l 0 0) (x .split))
 
 -- A content that fails the test breaks its rule, and the other way round.
 unkept : (id : ℕ) (c : List ℕ) → holds id c ≡ false ↔ (Content id c → ⊥)
@@ -52,7 +53,7 @@ own-found left p (Breaks.length {id} {bs} u v) = element-broken left p (id ∷ b
 own-found left p (Breaks.pastEnd {id} {bs} k n u v w) = element-broken left p (id ∷ bs) (head-past id bs u v w)
 own-found left p (Breaks.content {bs} id h n e u v) =
     let c = take n (drop h bs) in
-    element-value left p bs e u ∙ value-unkept p (p + h + n) id c (unkept id c .1 v)
+    element-value left p bs (headed-stands e) u ∙ value-unkept p (p + h + n) id c (unkept id c .1 v)
 
 -- So what relates the answers that are faults to them, and the answers for an element's inside to the faults inside, relates the element's
 -- answer to its faults.
@@ -61,7 +62,7 @@ pub related : (left p : ℕ) (Inside : Faults) (R : Nest → ℕ → ℕ → ℕ
     → ((h n : ℕ) → Inside (p + h) (take n (drop h bs)) number at detail → R (listOf (elementOf left) n (p + h) (take n (drop h bs))) number at detail)
     → FaultOf Inside p bs number at detail → R (elementOf (suc left) p bs) number at detail
 related left p Inside R bs same list (FaultOf.own {number} {detail} b) = rw (own-found left p b) (same number p detail)
-related left p Inside R bs same list (FaultOf.inside id h n e u f) = rw (element-inside left p bs e u) (list h n f)
+related left p Inside R bs same list (FaultOf.inside id h n e u f) = rw (element-inside left p bs (headed-stands e) u) (list h n f)
 
 -- What is claimed of the fault that an answer has; an end has none.
 abbrev pub Claim : (ℕ → ℕ → ℕ → Type 0) → Nest → Type 0
@@ -84,22 +85,22 @@ element-claim left p bs Inside list = by-head (headOf bs) refl
     by-kind id h n f true kept g k =
         let c = take n (drop h bs) in
         rw (element-inside left p bs f g)
-        (claim (Inside (p + h) c) (FaultOf Inside p bs) (λ number at detail. FaultOf.inside id h n f g) (listOf (elementOf left) n (p + h) c) (list h n))
+        (claim (Inside (p + h) c) (FaultOf Inside p bs) (λ number at detail. FaultOf.inside id h n (head-parts bs f) g) (listOf (elementOf left) n (p + h) c) (list h n))
     by-kind id h n f false true g k = rw (element-value left p bs f g, value-kept p (p + h + n) id (take n (drop h bs)) k) tt
     by-kind id h n f false false g k =
         let c = take n (drop h bs) in
-        rw (element-value left p bs f g, value-unkept p (p + h + n) id c k) (FaultOf.own (Breaks.content id h n f g (unkept id c .0 k)))
+        rw (element-value left p bs f g, value-unkept p (p + h + n) id c k) (FaultOf.own (Breaks.content id h n (head-parts bs f) g (unkept id c .0 k)))
 
     by-head : (r : Head) → headOf bs ≡ r → Claim (FaultOf Inside p bs) (elementOf (suc left) p bs)
-    by-head (Broken n k) f = rw (element-broken left p bs f) (FaultOf.own (head-breaks bs f))
+    by-head (Broken c) f = rw (element-broken left p bs f) (FaultOf.own (head-breaks bs f))
     by-head (Stands id h n) f = by-kind id h n f (constructed id) (holds id (take n (drop h bs))) refl refl
 
 -- a list whose first element has a fault
 stops : (left : ℕ) (F : Faults) (p : ℕ) (bs : List ℕ) (number at detail : ℕ) → 0 < length bs → F p bs number at detail
     → FirstIn left F p bs number at detail
-unfolding encode
+unfolding encode WellFormed
 stops left F p bs number at detail some f =
-    record { before = none; behind = bs; split = refl; holds = tt; one = λ e. omega (arith, ap length e); faulty = rw add-zero f }
+    record { before = none; after = bs; split = refl; holds = tt; one = λ e. omega (arith, ap length e); faulty = rw add-zero f }
 
 -- a list whose first element is sound, and whose others have a first fault
 goes-on : (left p q : ℕ) (F : Faults) (bs : List ℕ) → Sound left p q bs → (number at detail : ℕ) → FirstIn left F q (drop (q - p) bs) number at detail
@@ -109,11 +110,11 @@ goes-on left p q F bs k number at detail f =
     let u = f .before in
     let past = drop-at (encode t) (k .more) (q - p) (omega (arith, k .ends)) in
     let both = joined-encode t u in
-    let more : k .more ≡ encode u ++ f .behind = sym past ∙ ap (drop (q - p)) (sym (k .split)) ∙ f .split in
+    let more : k .more ≡ encode u ++ f .after = sym past ∙ ap (drop (q - p)) (sym (k .split)) ∙ f .split in
     let place : q + length (encode u) ≡ p + length (encode (joined t u)) = omega (arith, k .ends, ap length both, length-append (encode t) (encode u)) in
     record {
       before = joined t u;
-      behind = f .behind;
+      after = f .after;
       split = k .split ∙ ap (λ l. encode t ++ l) more ∙ rw (both, append-assoc);
       holds = joined-formed left p t u (k .formed) (rw (k .ends) at (f .holds));
       one = f .one;
@@ -156,12 +157,12 @@ list-found : (left : ℕ)
     → listOf (elementOf left) n p bs ≡ Fault number at detail
 list-found left known n p bs number at detail enough short f =
     let x = encode (f .before) in
-    let size = ap length (f .split) ∙ length-append x (f .behind) in
-    let total = length-append x (f .behind) in
-    let answer = known (p + length x) (f .behind) number at detail (omega arith) (f .faulty) in
+    let size = ap length (f .split) ∙ length-append x (f .after) in
+    let total = length-append x (f .after) in
+    let answer = known (p + length x) (f .after) number at detail (omega arith) (f .faulty) in
     rw (f .split)
-    (list-over left (f .before) (f .behind) n p (f .holds) (omega arith) (omega arith)
-    ∙ list-stop (elementOf left) n (p + length x) (f .behind) (filled (f .behind) (f .one)) (omega arith) answer)
+    (list-over left (f .before) (f .after) n p (f .holds) (omega arith) (omega arith)
+    ∙ list-stop (elementOf left) n (p + length x) (f .after) (filled (f .after) (f .one)) (omega arith) answer)
 
 -- A fault that is true and the first in the order of judging is answered.
 pub fault-found : (left p : ℕ) (bs : List ℕ) (number at detail : ℕ) → length bs ≤ longest → First left p bs number at detail
@@ -201,7 +202,7 @@ breaks-named (Breaks.content {bs} id h n e u v) = rw (head-first bs id h n e) Na
 pub record Placed (p : ℕ) (bs : List ℕ) (number at detail : ℕ) : Type 0 where
   pub from : p ≤ at
   pub upto : at < p + max 1 (length bs)
-  pub within : (id h n : ℕ) → headOf bs ≡ Stands id h n → at < p + (h + n)
+  pub within : (id h n : ℕ) → Headed bs id h n → at < p + (h + n)
   pub named : Named (getD bs (at - p) 0) number detail
 
 -- a fault of the element itself stands at its first byte
@@ -210,7 +211,7 @@ placed-here p bs number detail k =
     record {
       from = omega arith;
       upto = omega arith;
-      within = λ id h n e. omega (arith, head-fits bs id h n e);
+      within = λ id h n e. omega (arith, head-fits bs id h n (headed-stands e));
       named = rw sub-self k;
     }
 
@@ -218,7 +219,7 @@ placed-here p bs number detail k =
 abbrev Inner : Faults
 Inner p bs number at detail = (p ≤ at) × (at < p + length bs) × Named (getD bs (at - p) 0) number detail
 
--- a fault of the element behind x stands in the list
+-- a fault of the element after x stands in the list
 placed-behind : (p : ℕ) (x bs : List ℕ) (number at detail : ℕ) → (bs ≡ [] → ⊥) → Placed (p + length x) bs number at detail
     → Inner p (x ++ bs) number at detail
 placed-behind p x bs number at detail o k =
@@ -229,19 +230,20 @@ placed-behind p x bs number at detail o k =
     (omega arith, rw length-append (omega arith), rw (place, getD-append-add) (k .named))
 
 -- a fault of the list inside an element stands in the element
-placed-inside : (p : ℕ) (bs : List ℕ) (number at detail id h n : ℕ) → headOf bs ≡ Stands id h n
+placed-inside : (p : ℕ) (bs : List ℕ) (number at detail id h n : ℕ) → Headed bs id h n
     → Inner (p + h) (take n (drop h bs)) number at detail → Placed p bs number at detail
 placed-inside p bs number at detail id h n e k =
     let i = at - (p + h) in
     let from = k .0 in
-    let fits = head-fits bs id h n e in
+    let stands = headed-stands e in
+    let fits = head-fits bs id h n stands in
     let before : at < p + (h + n) = omega (arith, simp (length-take, length-drop) at (k .1)) in
     let place : at - p ≡ h + i = omega arith in
     let octet : getD (take n (drop h bs)) i 0 ≡ getD bs (at - p) 0 = getD-take n (drop h bs) i 0 (omega arith) ∙ getD-drop h bs i 0 ∙ rw place in
     record {
       from = omega arith;
       upto = omega arith;
-      within = λ id′ h′ n′ e′. (let a : h′ ≡ h = cc in let b : n′ ≡ n = cc in omega arith);
+      within = λ id′ h′ n′ e′. (let other = headed-stands e′ in let a : h′ ≡ h = cc in let b : n′ ≡ n = cc in omega arith);
       named = rw octet at (k .2);
     }
 
@@ -252,7 +254,7 @@ placed-of : (left p : ℕ) (bs : List ℕ) {number at detail : ℕ}
 placed-of left p bs known (FaultOf.own {number} {detail} b) = placed-here p bs number detail (breaks-named b)
 placed-of left p bs known (FaultOf.inside {number} {at} {detail} id h n e u f) =
     let x = encode (f .before) in
-    let k = placed-behind (p + h) x (f .behind) number at detail (f .one) (known (p + h + length x) (f .behind) number at detail (f .faulty)) in
+    let k = placed-behind (p + h) x (f .after) number at detail (f .one) (known (p + h + length x) (f .after) number at detail (f .faulty)) in
     placed-inside p bs number at detail id h n e (rw (f .split) k)
 
 -- so it is with every number of levels
@@ -260,7 +262,7 @@ pub placed : (left p : ℕ) (bs : List ℕ) (number at detail : ℕ) → First l
 placed zero p bs number at detail f = rw (f .0, f .1, f .2) (placed-here p bs 6 0 Named.depth)
 placed (suc left) p bs number at detail f = placed-of left p bs (placed left) f
 
--- The first fault stands at the element's first byte or behind it, and before the end unless there is no octet.
+-- The first fault stands at the element's first byte or after it, and before the end unless there is no octet.
 pub least-place : (left p : ℕ) (bs : List ℕ) (number at detail : ℕ) → First left p bs number at detail
     → (p ≤ at) × (at ≤ p + length bs) × (0 < length bs → at < p + length bs)
 least-place left p bs number at detail f = omega (arith, placed left p bs number at detail f)

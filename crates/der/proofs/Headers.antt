@@ -1,23 +1,27 @@
 -- The laws of an element's header: it fits, the header of an encoding is read back, and octets that are read are an encoding. Assumes nothing.
-use Prim.Native.Nat.{ℕ, suc, _+_, _/_, _%_, _≤_}
+use Prim.Native.Nat.{ℕ, suc, _+_, _≤_}
 use mathlib.Core.Path.{_≡_, refl, sym, ap, ap₂}
 use mathlib.Core.Bool.{Bool, true, false}
+use mathlib.Core.Logic.{_↔_}
 use mathlib.Core.List.{List, [], _∷_, _++_, append-assoc}
 use native.Mathlib.Omega.{arith}
 use lib.Dec.{T, leb}
 use lib.ListN.{length, take, drop, length-append, take-append-drop}
 use lib.Seq.{drop-drop}
 use borrow.Author.Tests.{leb-true, leb-false, eq-eqb}
+use Rattle.der.specs.declared.cause.Cause.{Cause}
 use Rattle.der.specs.declared.header.Head.{Head}
 use Rattle.der.specs.declared.header.Head.the-variants.{Stands, Broken}
 use Rattle.der.specs.Octets.{Octets}
+use Rattle.der.specs.Bounds.{longest}
+use Rattle.der.specs.Cause.{causeNumber, causeDetail}
 use Rattle.der.specs.Identifier.{constructed, allowed}
 use Rattle.der.specs.Length.{Length, missing, wrong, octets, lengthOf, lengthOctets}
 use Rattle.der.specs.Header.{sizedBy, headOf}
 use Rattle.der.specs.Tree.{header}
-use Rattle.der.specs.Fault.{Breaks}
+use Rattle.der.specs.Fault.{Headed, Breaks}
 use Rattle.der.proofs.Length.{Shortest, length-encoded, length-octets, length-counted}
-use Rattle.der.proofs.Parts.{length-part}
+use Rattle.der.proofs.Parts.{octets-rest, length-part}
 use Rattle.der.proofs.Steps.{head-wrong, head-sized, head-stands, head-past}
 
 -- a test that holds is true
@@ -25,24 +29,11 @@ pub passed : (t : Bool) → T t → t ≡ true
 passed true h = refl
 passed false h = absurd h
 
--- bit 6 of the identifier says that the content is a list of elements
-pub constructed-bit : (id : ℕ) → id / 32 % 2 ≡ 1 → constructed id ≡ true
-constructed-bit id bit = eq-eqb (id / 32 % 2) 1 bit
-
--- What a header that stands says of the octets: the identifier comes first, the length is read behind it, and the content fits.
-pub record Standing (bs : List ℕ) (id h n : ℕ) : Type 0 where
-  pub count : ℕ
-  pub behind : List ℕ
-  pub split : bs ≡ id ∷ behind
-  pub known : allowed id ≡ true
-  pub measured : lengthOf behind ≡ octets count n
-  pub sized : h ≡ suc count
-  pub fits : count + n ≤ length behind
 
 -- What a header's answer says: its parts where it stands, and which rule the element breaks where it does not.
 abbrev Told : List ℕ → Head → Type 0
-Told bs (Stands id h n) = Standing bs id h n
-Told bs (Broken n k) = Breaks bs n k
+Told bs (Stands id h n) = Headed bs id h n
+Told bs (Broken c) = Breaks bs (causeNumber c) (causeDetail c)
 
 -- every answer says so
 told : (bs : List ℕ) → Told bs (headOf bs)
@@ -53,7 +44,7 @@ told (id ∷ bs) = go (allowed id) refl (lengthOf bs) refl
     room : (k n : ℕ) → allowed id ≡ true → lengthOf bs ≡ octets k n → (t : Bool) → leb (k + n) (length bs) ≡ t → Told (id ∷ bs) (headOf (id ∷ bs))
     room k n u v true w =
         let fits = leb-true (k + n) (length bs) w in
-        rw (head-stands id bs u v fits) (record { count = k; behind = bs; split = refl; known = u; measured = v; sized = refl; fits = fits })
+        rw (head-stands id bs u v fits) (record { count = k; after = bs; split = refl; known = u; measured = v; sized = refl; fits = fits })
     room k n u v false w = let far = leb-false (k + n) (length bs) w in rw (head-past id bs u v far) (Breaks.pastEnd k n u v far)
 
     go : (a : Bool) → allowed id ≡ a → (l : Length) → lengthOf bs ≡ l → Told (id ∷ bs) (headOf (id ∷ bs))
@@ -63,29 +54,37 @@ told (id ∷ bs) = go (allowed id) refl (lengthOf bs) refl
     go true u (octets k n) v = room k n u v (leb (k + n) (length bs)) refl
 
 -- a header that stands has these parts
-pub head-parts : (bs : List ℕ) {id h n : ℕ} → headOf bs ≡ Stands id h n → Standing bs id h n
+pub head-parts : (bs : List ℕ) {id h n : ℕ} → headOf bs ≡ Stands id h n → Headed bs id h n
 head-parts bs e = rw e at (told bs)
 
+-- octets with these parts have a header that stands
+pub headed-stands : {bs : List ℕ} {id h n : ℕ} → Headed bs id h n → headOf bs ≡ Stands id h n
+headed-stands {bs} {id} {h} {n} x = rw (x .split, x .sized) (head-stands id (x .after) (x .known) (x .measured) (x .fits))
+
+-- The code's header stands exactly where the octets begin with one.
+pub head-exact : (bs : List ℕ) (id h n : ℕ) → headOf bs ≡ Stands id h n ↔ Headed bs id h n
+head-exact bs id h n = (head-parts bs, headed-stands)
+
 -- an element with a broken header breaks that rule
-pub head-breaks : (bs : List ℕ) {n k : ℕ} → headOf bs ≡ Broken n k → Breaks bs n k
+pub head-breaks : (bs : List ℕ) {c : Cause} → headOf bs ≡ Broken c → Breaks bs (causeNumber c) (causeDetail c)
 head-breaks bs e = rw e at (told bs)
 
 -- a header has two octets at least, and it and the content that it gives fit
 pub head-fits : (bs : List ℕ) (id h n : ℕ) → headOf bs ≡ Stands id h n → (2 ≤ h) × (h + n ≤ length bs)
 head-fits bs id h n e =
     let x = head-parts bs e in
-    omega (arith, length-counted (x .behind) (x .count) n (x .measured), x .sized, x .fits, ap length (x .split))
+    omega (arith, length-counted (x .after) (x .count) n (x .measured), x .sized, x .fits, ap length (x .split))
 
--- the header of an encoding is read back, whatever stands behind the element
-pub head-encoded : (id : ℕ) (c more : List ℕ) → T (allowed id) → length c ≤ 65535 → headOf ((header id c ++ c) ++ more) ≡ Stands id (length (header id c)) (length c)
+-- the header of an encoding is read back, whatever stands after the element
+pub head-encoded : (id : ℕ) (c more : List ℕ) → T (allowed id) → length c ≤ longest → headOf ((header id c ++ c) ++ more) ≡ Stands id (length (header id c)) (length c)
 unfolding header
 head-encoded id c more known high =
     let ls : List ℕ = lengthOctets (length c) in
     head-stands id ((ls ++ c) ++ more) (passed (allowed id) known) (rw append-assoc (length-encoded (length c) (c ++ more) high))
     (simp length-append (omega arith))
 
--- what is read as a header and its content is their encoding, and the octets behind it follow
-pub head-octets : (bs : List ℕ) (id h n : ℕ) → Octets bs → length bs ≤ 65535 → headOf bs ≡ Stands id h n
+-- what is read as a header and its content is their encoding, and the octets after it follow
+pub head-octets : (bs : List ℕ) (id h n : ℕ) → Octets bs → length bs ≤ longest → headOf bs ≡ Stands id h n
     → T (allowed id) × (h ≡ length (header id (take n (drop h bs)))) × (bs ≡ (header id (take n (drop h bs)) ++ take n (drop h bs)) ++ drop (h + n) bs)
 unfolding header
 head-octets [] id h n o high e = absurd (omega (arith, head-fits [] id h n e))
@@ -93,9 +92,9 @@ head-octets (b ∷ bs) id h n o high e =
     let x = head-parts (b ∷ bs) e in
     let k : ℕ = x .count in
     let first : id ≡ b = cc (x .split) in
-    let rest : x .behind ≡ bs = cc (x .split) in
+    let rest : x .after ≡ bs = cc (x .split) in
     let f : k + n ≤ length bs = rw rest at (x .fits) in
-    let s : Shortest bs k n = length-octets bs k n (λ m. o (suc m)) (omega arith) (rw rest at (x .measured)) in
+    let s : Shortest bs k n = length-octets bs k n (octets-rest b bs o) (omega arith) (rw rest at (x .measured)) in
     let c : List ℕ = take n (drop k bs) in
     let long : length c ≡ n = length-part bs k n f in
     let more : List ℕ = drop (suc k + n) (b ∷ bs) in

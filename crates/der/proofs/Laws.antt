@@ -1,35 +1,39 @@
 -- The laws of the crate that the layer above cites, gathered. Assumes nothing.
 --     passed              a test that holds is true
---     constructed-bit     bit 6 of the identifier says that the content is a list of elements
+--     constructed-octet, constructed-bit    bit 6 of the identifier says that the content is a list of elements
+--     known-allowed       a test of an identifier's octet (`known`), for tables: what it takes is allowed
 --     shortest-small, shortest-one, shortest-two    the length octets of a number below 128, 256 and 65,536
---     value-none, value-more, value-last    the number that no octets give, an octet and those behind it, and the last octet
+--     value-none, value-more, value-last    the number that no octets give, an octet and those after it, and the last octet
 --     value-below         octets are digits to the base 256
 --     value-large         three length octets or more, the first not 00, give 65,536 or more
 --     integer-some        an INTEGER has an octet at least
 --     head-fits           a header has two octets at least, and it and its content fit
---     head-encoded        the header of an encoding is read back, whatever stands behind the element
+--     head-encoded        the header of an encoding is read back, whatever stands after the element
 --     head-octets         what is read as a header and its content is their encoding
 --     InOrder             an element's places lie in order: its first byte, its content, its end, its parent's end
 --     read-in-order       an element is read in order wherever an octet stands
 --     read-at             in an input that is not too long, an element is read from the octets up to its parent's end
 --     read-at-in-order    by places: an element is read in order
---     read-at-end         behind its parent's end none is read
+--     read-at-end         after its parent's end none is read, which has the identifier 0 (`nothing-identifier`)
 --     read-at-within      by places, whether one is read or none: content and end lie in order between them
 --     read-moved          octets further on are read as the same element, further on (`further`)
 --     tree-end            no octets are read as no elements
 --     tree-enough         with at least as many levels and siblings as octets, `treeOf` is the tree
---     tree-step           where an octet stands, the tree is the element that is read there (`elementAt`) and the tree behind it
---     tree-parts          the same where the element, its content and the octets behind it are known
+--     tree-step           where an octet stands, the tree is the element that is read there (`elementAt`) and the tree after it
+--     tree-parts          the same where the element, its content and the octets after it are known
 --     tree-at             by places: the tree from p to e is the element that is read at p and the tree from its end to e
---     tree-encoded        the encoding of an element, and octets behind it, are read as that element and those octets
+--     tree-encoded        the encoding of an element, and octets after it, are read as that element and those octets
 --     tree-encode         the encoding of well-formed elements is read as them
 --     tree-moved          octets further on are read as the same elements, further on (`moved`)
 --     encode-moved        elements further on have the same encoding
 --     well-formed-moved   well-formed elements are well-formed further on
 --     header-some         a header has an octet at least, and in fact two (`header-two`): the identifier and the shortest length (`header-octets`,
 --                         `length-some`)
---     encode-none, encode-element, encode-length    the encoding of no elements, and of an element and those behind it, with its length
---     moved-none, moved-element      no elements further on, and an element and those behind it
+--     encode-none, encode-element, encode-length    the encoding of no elements, and of an element and those after it, with its length
+--     moved-none, moved-element      no elements further on, and an element and those after it
+--     well-formed-none, well-formed-deep    no elements are well-formed; an element is not without a level of depth left
+--     well-formed-element    with one left, well-formed elements are a first one and those after it
+--     single-none, single-element    a single element has none after it
 --     sequence-constructed, sequence-allowed    the identifier 30; `integer-primitive` the identifier 02
 --     exact               a whole input's first element ends at e exactly where the octets up to e are an encoding (`Encoded`)
 --     walk-tree           the same of the tree that is read from those octets (`Checked`)
@@ -38,28 +42,34 @@
 --     number-place        its number, if not 0, and its place are those of the first fault
 --     span-fits           a span has two octets at least, and it and its content fit
 --     span-small          a content of fewer than 128 octets has two octets before it
---     span-stands, span-broken    behind an identifier that is allowed a span is the header; without a span the header is broken
---     span-tree           the tree of octets that begin with a span, behind an identifier that is allowed
---     sound-none, sound-deep, sound-lost    no octets are sound; none are without a level of depth left, nor where they begin with no span
---     sound-short         sound octets are not too many
---     sound-step          octets are sound where the first element has no fault and the octets behind it are sound
---     sound-single        the walk over a sound input that is a single element ends where the input does
---     single-sound        an input whose first element ends where the input does is sound
---     whole-wrong, whole-inside, whole-value    an element has no fault where its identifier is allowed, and the list inside it or its content has none
+--     span-stands, span-broken    after an identifier that is allowed a span is the header; without a span the header is broken
+--     span-tree           the tree of octets that begin with a span, after an identifier that is allowed
+--     is-list-none, is-list-deep, is-list-lost    no octets are a list; others are none without a level of depth left or a span at the start
+--     is-list-short       a list is not too long
+--     is-list-step        octets are a list where the first element has no fault and the octets after it are a list
+--     is-list-single      the walk over an input that is a list of one element ends where the input does
+--     single-is-list      an input whose first element ends where the input does is a list
+--     is-element-refused, is-element-inside, is-element-value    an element has no fault where its identifier is allowed, and the list inside it or its content has none
 --     holds-integer, holds-bit-string, holds-object-identifier, holds-utf8    the rule that an identifier asks of its content
 --     holds-free          an identifier that asks none (`ruled`) leaves the content free
---     octets-take, octets-drop    a part of octets is octets
+--     octets-each, octets-at    octets are numbers below 256
+--     octets-none, octets-more, octets-append    no octets, one before others, and octets after octets
+--     octets-rest, octets-take, octets-drop    a part of octets is octets
 --     take-drop, slice-slice, drop-slice, slice-middle    a part of a part of a list, by the places in the whole
---     slice-none          a part that starts at its end or behind it is empty
-pub use Rattle.der.proofs.Parts.{octets-take, octets-drop, take-drop, slice-slice, drop-slice, slice-middle, slice-none}
+--     slice-none          a part that starts at its end or after it is empty
+--     append-parts        lists whose first parts have one length are equal only part by part
+--     take-from, take-slice    the part from a place on, and from a place to another, as a lent slice gives them
+pub use Rattle.der.proofs.Parts.{octets-each, octets-at, octets-none, octets-more, octets-append, octets-rest, octets-take, octets-drop, take-drop, slice-slice, drop-slice, slice-middle, slice-none, take-from, take-slice, append-parts}
 pub use Rattle.der.proofs.Length.{value-none, value-more, value-last, value-below, shortest-small, shortest-one, shortest-two, value-large}
 pub use Rattle.der.proofs.ContentRules.{integer-some}
-pub use Rattle.der.proofs.Headers.{passed, constructed-bit, head-fits, head-encoded, head-octets}
-pub use Rattle.der.proofs.Readings.{InOrder, read-in-order, read-at, read-at-end, read-at-in-order, read-at-within, further, read-moved, tree-end, tree-enough}
+pub use Rattle.der.proofs.Identifiers.{constructed-octet, constructed-bit, sequence-constructed, integer-primitive, known, known-allowed, sequence-allowed}
+pub use Rattle.der.proofs.Headers.{passed, head-fits, head-encoded, head-octets}
+pub use Rattle.der.proofs.Readings.{InOrder, read-in-order, read-at, read-at-end, nothing-identifier, read-at-in-order, read-at-within, further, read-moved, tree-end, tree-enough}
 pub use Rattle.der.proofs.Readings.{elementAt, tree-step, tree-parts, tree-at, tree-encoded, tree-encode, tree-moved, encode-moved, well-formed-moved}
-pub use Rattle.der.proofs.Trees.{header-some, header-two, header-octets, length-some, encode-none, encode-element, encode-length, moved-none, moved-element, sequence-constructed, sequence-allowed, integer-primitive}
+pub use Rattle.der.proofs.Trees.{header-some, header-two, header-octets, length-some, encode-none, encode-element, encode-length, moved-none, moved-element}
+pub use Rattle.der.proofs.Trees.{well-formed-none, well-formed-deep, well-formed-element, single-none, single-element}
 pub use Rattle.der.proofs.Exact.{Encoded, exact, Checked, walk-tree}
 pub use Rattle.der.proofs.FirstFault.{number-zero, fault-number, number-place}
 pub use Rattle.der.proofs.Spans.{span-fits, span-small, span-stands, span-broken, span-tree}
-pub use Rattle.der.proofs.SoundLists.{sound-none, sound-short, sound-deep, sound-lost, sound-step, sound-single, single-sound, whole-wrong, whole-inside, whole-value}
-pub use Rattle.der.proofs.SoundLists.{holds-integer, holds-bit-string, holds-object-identifier, holds-utf8, ruled, holds-free}
+pub use Rattle.der.proofs.Recognising.{is-list-none, is-list-short, is-list-deep, is-list-lost, is-list-step, is-list-single, single-is-list, is-element-refused, is-element-inside, is-element-value}
+pub use Rattle.der.proofs.Recognising.{holds-integer, holds-bit-string, holds-object-identifier, holds-utf8, ruled, holds-free}

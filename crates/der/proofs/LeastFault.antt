@@ -7,24 +7,25 @@ use mathlib.Core.List.{List}
 use native.Mathlib.Omega.{arith}
 use lib.ListN.{length, take, drop, length-drop}
 use Rattle.der.specs.declared.header.Head.the-variants.{Stands}
-use Rattle.der.specs.declared.walk.Nest.{Nest}
-use Rattle.der.specs.declared.walk.Nest.the-variants.{End, Fault}
+use Rattle.der.specs.declared.explain.Nest.{Nest}
+use Rattle.der.specs.declared.explain.Nest.the-variants.{End, Fault}
 use Rattle.der.specs.Octets.{Octets}
 use Rattle.der.specs.Header.{headOf}
-use Rattle.der.specs.Walk.{listOf, elementOf, depth, longest, walkAt}
+use Rattle.der.specs.Bounds.{depth, longest}
+use Rattle.der.specs.Explain.{listOf, elementOf, walkAt}
 use Rattle.der.specs.Fault.{Faults, FaultOf, AnyIn, Any, Least}
 use Rattle.der.proofs.FirstFault.{related, Claim, claim, element-claim, fault-true, placed}
-use Rattle.der.proofs.Headers.{head-fits}
+use Rattle.der.proofs.Headers.{head-parts, headed-stands, head-fits}
 use Rattle.der.proofs.Parts.{octets-drop, octets-part, part-short, filled}
 use Rattle.der.proofs.Progress.{list-along, element-progress, element-head}
 use Rattle.der.proofs.Steps.{walk-whole}
 
--- an element's header leads behind it
+-- an element's header leads after it
 later-any : (F : Faults) (p q : ℕ) (bs : List ℕ) (id h n : ℕ) → headOf bs ≡ Stands id h n → q ≡ p + (h + n) → (m a d : ℕ)
     → AnyIn F q (drop (q - p) bs) m a d → AnyIn F p bs m a d
 later-any F p q bs id h n stands ends m a d f =
     let gap : q - p ≡ h + n = omega arith in
-    AnyIn.later id h n stands (rw (gap, ends) at f)
+    AnyIn.later id h n (head-parts bs stands) (rw (gap, ends) at f)
 
 -- a list's fault is one of its faults, if those of its elements are: the headers of the elements before lead to it
 in-any : (left : ℕ) → ((p : ℕ) (bs : List ℕ) → Claim (Any left p bs) (elementOf left p bs))
@@ -71,7 +72,7 @@ Before (Fault number at detail) n a d = (at ≤ a) × (at ≡ a → (number ≡ 
 -- a list with a fault has an octet
 in-filled : {F : Faults} {p : ℕ} {bs : List ℕ} {n a d : ℕ} → AnyIn F p bs n a d → 0 < length bs
 in-filled (AnyIn.here {bs} o f) = filled bs o
-in-filled (AnyIn.later {bs} id h n e f) = omega (arith, head-fits bs id h n e)
+in-filled (AnyIn.later {bs} id h n e f) = omega (arith, head-fits bs id h n (headed-stands e))
 
 -- With one more level of depth, where the answers for the elements inside are known to come before their faults.
 module _ (left : ℕ)
@@ -85,14 +86,14 @@ module _ (left : ℕ)
       let from = in-from left (any-from left) (p + (h + x)) (drop (h + x) bs) n a d f in
       (omega arith, λ u. absurd (omega arith))
 
-  -- a list whose first element ends: there is no fault in that, and the headers lead behind it
+  -- a list whose first element ends: there is no fault in that, and the headers lead after it
   next-before : (p : ℕ) (bs : List ℕ) (q : ℕ) (r : Nest) → 0 < length bs → elementOf left p bs ≡ End q
       → (Octets (drop (q - p) bs) → length (drop (q - p) bs) ≤ longest → (n a d : ℕ) → AnyIn (Any left) q (drop (q - p) bs) n a d → Before r n a d)
       → Octets bs → length bs ≤ longest → (n a d : ℕ) → AnyIn (Any left) p bs n a d → Before r n a d
   next-before p bs q r some e further o l n a d (AnyIn.here u f) = absurd (rw e at (known p bs n a d o l f))
   next-before p bs q r some e further o l n a d (AnyIn.later id h x head f) =
       let (id′, h′, x′, stands, ends) = element-head left p q bs e in
-      let same : Stands id′ h′ x′ ≡ Stands id h x = sym stands ∙ head in
+      let same : Stands id′ h′ x′ ≡ Stands id h x = sym stands ∙ headed-stands head in
       let place : q ≡ p + (h + x) = ends ∙ cc in
       let gap : q - p ≡ h + x = omega arith in
       further (octets-drop (q - p) bs o) (simp length-drop (omega arith)) n a d (rw (gap, place) f)

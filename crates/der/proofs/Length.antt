@@ -11,7 +11,7 @@ use lib.Seq.{length-take-le}
 use borrow.Author.Tests.{ltb-true, ltb-false, leb-true, lt-ltb, le-ltb, le-leb, ne-eqb}
 use Rattle.der.specs.Octets.{Octets}
 use Rattle.der.specs.Length.{missing, wrong, octets, valueFrom, shortest, longForm, lengthOf, base256, lengthOctets}
-use Rattle.der.proofs.Parts.{octets-take}
+use Rattle.der.proofs.Parts.{octets-rest, octets-take}
 
 -- no octet gives 0
 base-zero : (k : ℕ) → base256 k 0 ≡ []
@@ -45,12 +45,12 @@ long-octets : (n : ℕ) (bs : List ℕ) → 128 ≤ n → base256 n n ≡ bs →
 unfolding lengthOctets
 long-octets n bs h e = rw (lengthOctets, le-ltb n 128 h, e)
 
--- one octet behind the first from 128 to 255
+-- one octet after the first from 128 to 255
 pub shortest-one : (n : ℕ) → 128 ≤ n → n < 256 → lengthOctets n ≡ 0x81 ∷ n ∷ []
 shortest-one zero low high = absurd (omega arith)
 shortest-one (suc k) low high = long-octets (suc k) _ low (base-one k (suc k) (omega arith) high)
 
--- two octets behind the first from 256 to 65,535
+-- two octets after the first from 256 to 65,535
 pub shortest-two : (n : ℕ) → 256 ≤ n → n ≤ 65535 → lengthOctets n ≡ 0x82 ∷ n / 256 ∷ n % 256 ∷ []
 shortest-two zero low high = absurd (omega arith)
 shortest-two (suc zero) low high = absurd (omega arith)
@@ -61,7 +61,7 @@ pub value-none : (n : ℕ) → valueFrom n [] ≡ n
 unfolding valueFrom
 value-none n = refl
 
--- an octet gives the number that those behind it follow
+-- an octet gives the number that those after it follow
 pub value-more : (n b : ℕ) (bs : List ℕ) → valueFrom n (b ∷ bs) ≡ valueFrom (n * 256 + b) bs
 unfolding valueFrom
 value-more n b bs = refl
@@ -74,7 +74,7 @@ value-last n (c ∷ bs) b = value-last (n * 256 + c) bs b
 
 -- octets are digits to the base 256
 pub value-below : (n : ℕ) (bs : List ℕ) → Octets bs → valueFrom n bs < suc n * 256 ^ length bs
-unfolding valueFrom
+unfolding valueFrom Octets
 value-below n [] o = omega arith
 value-below n (b ∷ bs) o =
     let more : suc (n * 256 + b) * 256 ^ length bs ≤ suc n * 256 * 256 ^ length bs = mul-le-mul-right (256 ^ length bs) (omega (arith, o 0)) in
@@ -124,7 +124,7 @@ form-read more (two {n} low high) =
     let v : (0 * 256 + n / 256) * 256 + n % 256 ≡ n = omega arith in
     rw (longForm, le-leb 2 (suc (suc (length more))) (omega arith), lt-ltb 0 (n / 256) (omega arith), v)
 
--- the shortest length octets are read back, whatever stands behind them
+-- the shortest length octets are read back, whatever stands after them
 pub length-encoded : (n : ℕ) (more : List ℕ) → n ≤ 65535 → lengthOf (lengthOctets n ++ more) ≡ octets (length (lengthOctets n)) n
 length-encoded n more high = form-read more (form n high)
 
@@ -136,7 +136,7 @@ never-missing e = let z : _≡_ {A = ℕ} 0 1 = cc in absurd (omega arith)
 never-wrong : {A : Type 0} {m n : ℕ} → wrong ≡ octets m n → A
 never-wrong e = let z : _≡_ {A = ℕ} 0 1 = cc in absurd (omega arith)
 
--- What a long form of k octets behind the first says where it is read as m octets in all that give n.
+-- What a long form of k octets after the first says where it is read as m octets in all that give n.
 pub record Long (k : ℕ) (bs : List ℕ) (m n : ℕ) : Type 0 where
   pub fits : k ≤ length bs
   pub brief : shortest (take k bs) ≡ true
@@ -156,9 +156,9 @@ long-read k bs m n e = tests (leb 1 k && leb k 126) (leb k (length bs)) (shortes
         let h : octets (suc k) (valueFrom 0 (take k bs)) ≡ octets m n = rw (longForm, p, q, r) at e in
         record { fits = leb-true k (length bs) q; brief = r; counted = cc; valued = cc }
 
--- octets in the shortest form are the octets behind the first of the shortest length octets
+-- octets in the shortest form are the octets after the first of the shortest length octets
 shortest-octets : (bs : List ℕ) → Octets bs → shortest bs ≡ true → valueFrom 0 bs ≤ 65535 → lengthOctets (valueFrom 0 bs) ≡ (0x80 + length bs) ∷ bs
-unfolding shortest valueFrom
+unfolding shortest valueFrom Octets
 shortest-octets [] o s high =
     let f : _≡_ {A = Bool} false true = s in
     let z : _≡_ {A = ℕ} 0 1 = cc in
@@ -206,7 +206,7 @@ length-octets (b ∷ bs) k n o high e = test (ltb b 0x80) refl
         rw (ks, ns) (record { taken = sym own; counted = ap length own })
     test false p =
         let h : longForm (b - 0x80) bs ≡ octets k n = rw (lengthOf, p) at e in
-        long-shortest b (b - 0x80) bs k n (λ i. o (suc i)) (omega (arith, ltb-false b 0x80 p)) high (long-read (b - 0x80) bs k n h)
+        long-shortest b (b - 0x80) bs k n (octets-rest b bs o) (omega (arith, ltb-false b 0x80 p)) high (long-read (b - 0x80) bs k n h)
 
 -- there is at least one length octet
 pub length-counted : (bs : List ℕ) (k n : ℕ) → lengthOf bs ≡ octets k n → 1 ≤ k

@@ -2,9 +2,11 @@
 pub mod ContentRules
 pub mod Ends
 pub mod Exact
+pub mod ExplainWays
 pub mod FirstFault
 pub mod HeaderWays
 pub mod Headers
+pub mod Identifiers
 pub mod Laws
 pub mod LeastFault
 pub mod Length
@@ -13,13 +15,12 @@ pub mod Productions
 pub mod Progress
 pub mod Range
 pub mod Readings
-pub mod SoundWays
+pub mod RecogniseWays
+pub mod Recognising
 pub mod SpanWays
-pub mod SoundLists
 pub mod Spans
 pub mod Steps
 pub mod TrailingZeros
 pub mod Trees
 pub mod Utf8Steps
 pub mod Vectors
-pub mod WalkWays

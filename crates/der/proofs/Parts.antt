@@ -5,19 +5,51 @@ use mathlib.Core.List.{List, [], _∷_, _++_}
 use native.Mathlib.Nat.{zero-add, suc-add, le-of-eq, add-sub-cancel-left}
 use native.Mathlib.Omega.{arith}
 use lib.Dec.{lit<}
-use lib.ListN.{length, take, drop, length-append, length-take, length-drop, drop-of-length-le}
+use lib.ListN.{length, getD, take, drop, length-append, length-take, length-drop, drop-of-length-le}
 use lib.Seq.{slice, take-all, take-nil, take-take, drop-drop, getD-drop, take-at, drop-at, take-append-seam, drop-append-seam}
 use Rattle.der.specs.Octets.{Octets}
 
+-- numbers below 256 are octets
+pub octets-each : (bs : List ℕ) → ((i : ℕ) → getD bs i 0 < 256) → Octets bs
+unfolding Octets
+octets-each bs each = each
+
+-- an octet is below 256
+pub octets-at : (bs : List ℕ) → Octets bs → (i : ℕ) → getD bs i 0 < 256
+unfolding Octets
+octets-at bs octets = octets
+
+-- no octets are octets, and so are an octet and octets after it
+pub octets-none : Octets []
+unfolding Octets
+octets-none i = lit< tt
+
+pub octets-more : (b : ℕ) (bs : List ℕ) → b < 256 → Octets bs → Octets (b ∷ bs)
+unfolding Octets
+octets-more b bs small rest zero = small
+octets-more b bs small rest (suc i) = rest i
+
+-- those after the first are octets
+pub octets-rest : (b : ℕ) (bs : List ℕ) → Octets (b ∷ bs) → Octets bs
+unfolding Octets
+octets-rest b bs octets i = octets (suc i)
+
+-- octets after octets are octets
+pub octets-append : (us vs : List ℕ) → Octets us → Octets vs → Octets (us ++ vs)
+octets-append [] vs first rest = rest
+octets-append (u ∷ us) vs first rest = octets-more u (us ++ vs) (octets-at (u ∷ us) first 0) (octets-append us vs (octets-rest u us first) rest)
+
 -- the first octets are octets
 pub octets-take : (n : ℕ) (bs : List ℕ) → Octets bs → Octets (take n bs)
+unfolding Octets
 octets-take zero bs o i = lit< tt
 octets-take (suc n) [] o i = lit< tt
 octets-take (suc n) (b ∷ bs) o zero = o 0
 octets-take (suc n) (b ∷ bs) o (suc i) = octets-take n bs (λ j. o (suc j)) i
 
--- what stands behind the first octets are octets
+-- what stands after the first octets are octets
 pub octets-drop : (n : ℕ) (bs : List ℕ) → Octets bs → Octets (drop n bs)
+unfolding Octets
 octets-drop n bs o i = rw (getD-drop n bs i 0) (o (n + i))
 
 -- n octets from h on are octets
@@ -30,7 +62,7 @@ module _ {A : Type 0} where
   filled [] some = absurd (some refl)
   filled (x ∷ l) some = omega arith
 
-  -- the first k behind the first p
+  -- the first k after the first p
   pub take-drop : (k p : ℕ) (l : List A) → take k (drop p l) ≡ slice p (p + k) l
   take-drop k zero l = rw zero-add
   take-drop k (suc p) [] = rw (suc-add, take-nil)
@@ -65,8 +97,14 @@ module _ {A : Type 0} where
   )
 
   -- the part from n to the end, as a lent slice gives it
-  pub rest : (l : List A) (n : ℕ) → take (length l - n) (drop n l) ≡ drop n l
-  rest l n = take-all (length l - n) (drop n l) (le-of-eq (length-drop n l))
+  pub take-from : (n : ℕ) (l : List A) → take (length l - n) (drop n l) ≡ drop n l
+  take-from n l = take-all (length l - n) (drop n l) (le-of-eq (length-drop n l))
+
+  -- the part from a place to another, as a lent slice gives it
+  pub take-slice : (from to : ℕ) (l : List A) → from ≤ to → take (to - from) (drop from l) ≡ slice from to l
+  take-slice from to l order =
+      let high : from + (to - from) ≡ to = omega arith in
+      rw (take-drop, high)
 
   -- the part of n elements from h, as a lent slice gives it
   pub middle : (l : List A) (h n : ℕ) → take (h + n - h) (drop h l) ≡ take n (drop h l)
@@ -94,7 +132,7 @@ module _ {A : Type 0} where
       let high : p + (min e (length l) - p) ≡ min e (length l) = omega arith in
       rw (take-drop, high) (ap (drop p) (take-least e l))
 
-  -- a part that starts at its end or behind it is empty
+  -- a part that starts at its end or after it is empty
   pub slice-none : (p e : ℕ) (l : List A) → min e (length l) ≤ p → slice p e l ≡ []
   slice-none p e l order =
       let short : length (take e l) ≤ p = rw length-take order in

@@ -71,7 +71,7 @@ either : (a b : Bool) → a || b ≡ true → (a ≡ true) ⊎ (b ≡ true)
 either true b e = inl refl
 either false b e = inr e
 
--- so many tails, the first of a class from low to high, and then characters
+-- a number of tails, the first of a class from low to high, and then characters
 data Rest : ℕ → ℕ → ℕ → List ℕ → Type 0 where
   end : {low high : ℕ} {bs : List ℕ} → Utf8 bs → Rest 0 low high bs
   tail : {left low high b : ℕ} {bs : List ℕ} → Within low high (classOf b) → Rest left 1 3 bs → Rest (suc left) low high (b ∷ bs)
@@ -102,12 +102,12 @@ lead (lead-F1 e) l (tail b (tail c (tail d (end u)))) = char (utf8-4-F1 (inside 
 lead {a} (lead-F4 e) l (tail b (tail c (tail d (end u)))) = rw (eqb-true a 0xF4 e) (char (utf8-4-F4 (octet b refl) (octet c refl) (octet d refl)) u)
 lead other l r = absurd (false≢true l)
 
--- a test and what is asked behind it pass
+-- a test and what is asked after it pass
 guard : {t x : Bool} → elim t [ true ↦ x | false ↦ false ] ≡ true → (t ≡ true) × (x ≡ true)
 guard {t = true} e = (refl, e)
 guard {t = false} e = absurd (false≢true e)
 
--- what the check accepts is so many tails and then characters
+-- what the check accepts is the tails that are wanted and then characters
 sound : (left low high : ℕ) (bs : List ℕ) → utf8From left low high bs ≡ true → Rest left low high bs
 unfolding utf8From
 sound left low high [] e = rw (eqb-true left 0 e) (end none)

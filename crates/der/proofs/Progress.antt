@@ -10,12 +10,12 @@ use lib.Dec.{T}
 use lib.ListN.{length, take, drop, length-drop}
 use Rattle.der.specs.declared.header.Head.{Head}
 use Rattle.der.specs.declared.header.Head.the-variants.{Stands, Broken}
-use Rattle.der.specs.declared.walk.Nest.{Nest}
-use Rattle.der.specs.declared.walk.Nest.the-variants.{End, Fault}
+use Rattle.der.specs.declared.explain.Nest.{Nest}
+use Rattle.der.specs.declared.explain.Nest.the-variants.{End, Fault}
 use Rattle.der.specs.Identifier.{constructed}
 use Rattle.der.specs.Header.{headOf}
 use Rattle.der.specs.Content.{holds}
-use Rattle.der.specs.Walk.{listOf, primitiveOf, elementOf}
+use Rattle.der.specs.Explain.{listOf, primitiveOf, elementOf}
 use Rattle.der.proofs.Headers.{head-fits}
 use Rattle.der.proofs.Parts.{length-part}
 use Rattle.der.proofs.Steps.{element-broken, element-inside, element-value, value-kept, value-unkept, list-empty, list-next, list-stop, end-fault}
@@ -25,7 +25,7 @@ abbrev pub Forward : (ℕ → List ℕ → Nest) → Type 0
 Forward judge = (p q : ℕ) (bs : List ℕ) → judge p bs ≡ End q → (p + 2 ≤ q) × (q ≤ p + length bs)
 
 -- Induction along a list, over the place, the octets from there on and the answer: what holds of no octets and of a first element with a
--- fault, and holds before an element that ends if it does behind it, holds of the list.
+-- fault, and holds before an element that ends if it does after it, holds of the list.
 module _ (judge : ℕ → List ℕ → Nest) (on : Forward judge) (Holds : ℕ → List ℕ → Nest → Type 0) (empty : (p : ℕ) → Holds p [] (End p))
     (stop : (p : ℕ) (bs : List ℕ) (m q k : ℕ) → 0 < length bs → judge p bs ≡ Fault m q k → Holds p bs (Fault m q k))
     (next : (p : ℕ) (bs : List ℕ) (q : ℕ) (r : Nest) → 0 < length bs → judge p bs ≡ End q → Holds q (drop (q - p) bs) r → Holds p bs r) where
@@ -101,7 +101,7 @@ module _ (left : ℕ) (on : Forward (elementOf left)) (p q : ℕ) (bs : List ℕ
 
   -- its header stands
   ended : (r : Head) → headOf bs ≡ r → Ended left p q bs
-  ended (Broken m k) broken = end-fault e (element-broken left p bs broken)
+  ended (Broken c) broken = end-fault e (element-broken left p bs broken)
   ended (Stands id h n) stands =
       record {
         identifier = id;
@@ -135,7 +135,7 @@ pub element-head : (left p q : ℕ) (bs : List ℕ) → elementOf left p bs ≡ 
 element-head zero p q bs e = element-deep p q bs e
 element-head (suc left) p q bs e = let d = element-end left p q bs e in (d .identifier, d .before, d .size, d .stands, d .ends)
 
--- A list whose first element ends goes on behind it, with the same count.
+-- A list whose first element ends goes on after it, with the same count.
 pub elements-next : (left n p : ℕ) (bs : List ℕ) → length bs ≤ n → (q : ℕ) → 0 < length bs → elementOf left p bs ≡ End q
     → listOf (elementOf left) n p bs ≡ listOf (elementOf left) n q (drop (q - p) bs)
 elements-next left n p bs enough q some ends =

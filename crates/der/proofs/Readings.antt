@@ -11,18 +11,19 @@ use lib.Dec.{T, leb}
 use lib.ListN.{length, drop, length-append, length-take, length-drop}
 use lib.Seq.{slice, length-slice, drop-at}
 use borrow.Author.Tests.{le-leb, lt-leb}
+use Rattle.der.specs.declared.cause.Cause.{Cause}
 use Rattle.der.specs.declared.header.Head.{Head}
 use Rattle.der.specs.declared.header.Head.the-variants.{Stands, Broken}
 use Rattle.der.specs.declared.reading.Element.{Element}
 use Rattle.der.specs.Identifier.{allowed, constructed}
 use Rattle.der.specs.Header.{headOf}
 use Rattle.der.specs.Tree.{Tree, none, element, header, encode, Formed, WellFormed, moved}
-use Rattle.der.specs.Walk.{longest}
+use Rattle.der.specs.Bounds.{longest}
 use Rattle.der.specs.Reading.{nothingAt, given, read, readAt, treeOf, tree}
 use Rattle.der.proofs.Parts.{slice-slice, drop-slice, slice-middle, slice-none}
 use Rattle.der.proofs.Headers.{head-fits, head-encoded}
 
--- An element's places lie in order from its first byte to its parent's end: its content starts behind its first byte, so the element is not empty.
+-- An element's places lie in order from its first byte to its parent's end: its content starts after its first byte, so the element is not empty.
 pub record InOrder (from to : ℕ) (x : Element) : Type 0 where
   pub headed : from < x .content
   pub ordered : x .content ≤ x .end
@@ -30,16 +31,16 @@ pub record InOrder (from to : ℕ) (x : Element) : Type 0 where
 
 -- an element is read in order wherever an octet stands
 pub read-in-order : (p : ℕ) (bs : List ℕ) → 0 < length bs → InOrder p (p + length bs) (read p bs)
-unfolding read given
+unfolding read given nothingAt
 read-in-order p bs some = by-head (headOf bs) refl
   where
     by-head : (x : Head) → headOf bs ≡ x → InOrder p (p + length bs) (given p bs x)
     by-head (Stands id h n) e =
         let f : (2 ≤ h) × (h + n ≤ length bs) = head-fits bs id h n e in
         record { headed = omega arith; ordered = omega arith; within = omega arith }
-    by-head (Broken n k) e = record { headed = omega arith; ordered = omega arith; within = omega arith }
+    by-head (Broken c) e = record { headed = omega arith; ordered = omega arith; within = omega arith }
 
--- the content of an element, and what stands behind it, are shorter than the octets that it is read from
+-- the content of an element, and what stands after it, are shorter than the octets that it is read from
 read-shorter : (p b : ℕ) (bs : List ℕ) → let x = read p (b ∷ bs) in
     (length (slice (x .content - p) (x .end - p) (b ∷ bs)) ≤ length bs) × (length (drop (x .end - p) (b ∷ bs)) ≤ length bs)
 read-shorter p b bs =
@@ -51,7 +52,7 @@ pub tree-end : (p : ℕ) → tree p [] ≡ none
 unfolding tree treeOf
 tree-end p = refl
 
--- the tree of the element x at the place p with this content: what is inside it, if it is constructed, and what is behind it
+-- the tree of the element x at the place p with this content: what is inside it, if it is constructed, and what is after it
 abbrev pub elementAt : ℕ → Element → List ℕ → Tree → Tree → Tree
 elementAt p x content inside rest =
     element (x .identifier) p (x .end - p) content (elim (constructed (x .identifier)) [ true ↦ inside | false ↦ none ]) rest
@@ -79,7 +80,7 @@ pub tree-enough : (n p : ℕ) (bs : List ℕ) → length bs ≤ n → treeOf n p
 unfolding tree
 tree-enough n p bs h = same-tree n (length bs) p bs h (omega arith)
 
--- where an octet stands, the tree is the element that is read there and the tree behind it
+-- where an octet stands, the tree is the element that is read there and the tree after it
 pub tree-step : (p b : ℕ) (bs : List ℕ) → let x = read p (b ∷ bs) in
     let content = slice (x .content - p) (x .end - p) (b ∷ bs) in
     tree p (b ∷ bs) ≡ elementAt p x content (tree (x .content) content) (tree (x .end) (drop (x .end - p) (b ∷ bs)))
@@ -92,7 +93,7 @@ tree-step p b bs =
     (tree-enough (length bs) (x .content) content (short .0))
     (tree-enough (length bs) (x .end) (drop (x .end - p) (b ∷ bs)) (short .1))
 
--- the same where the element, its content and the octets behind it are known
+-- the same where the element, its content and the octets after it are known
 pub tree-parts : (p : ℕ) (bs content behind : List ℕ) (x : Element) → 0 < length bs → read p bs ≡ x
     → slice (x .content - p) (x .end - p) bs ≡ content → drop (x .end - p) bs ≡ behind
     → tree p bs ≡ elementAt p x content (tree (x .content) content) (tree (x .end) behind)
@@ -104,16 +105,16 @@ tree-parts p (b ∷ bs) content behind x some e c d =
     ∙ ap₂ (step x) c d
 
 -- in an input that is not too long, an element is read from the octets up to its parent's end
-pub read-at : (s : List ℕ) (p e : ℕ) → length s ≤ 65535 → readAt s p e ≡ read p (slice p e s)
+pub read-at : (s : List ℕ) (p e : ℕ) → length s ≤ longest → readAt s p e ≡ read p (slice p e s)
 unfolding readAt
-read-at s p e h = rw (readAt, le-leb (length s) 65535 h)
+read-at s p e h = rw (readAt, le-leb (length s) longest h)
 
 -- where no octet stands, no element does
 read-none : (p : ℕ) → read p [] ≡ nothingAt p
 unfolding read given headOf
 read-none p = ap nothingAt (omega arith)
 
--- behind its parent's end no element stands
+-- after its parent's end no element stands
 pub read-at-end : (s : List ℕ) (p e : ℕ) → e ≤ p → readAt s p e ≡ nothingAt p
 unfolding readAt
 read-at-end s p e past = by-length (leb (length s) longest)
@@ -122,6 +123,11 @@ read-at-end s p e past = by-length (leb (length s) longest)
     by-length true = ap (read p) (slice-none p e s (omega arith)) ∙ read-none p
     by-length false = refl
 
+-- where no element stands, its identifier is 0
+pub nothing-identifier : (p : ℕ) → nothingAt p .identifier ≡ 0
+unfolding nothingAt
+nothing-identifier p = refl
+
 -- a header that stands gives its element
 pub read-stands : (p : ℕ) (bs : List ℕ) (id h n : ℕ) → headOf bs ≡ Stands id h n
     → read p bs ≡ record { identifier = id; content = p + h; end = p + h + n }
@@ -129,16 +135,16 @@ unfolding read given
 read-stands p bs id h n stands = rw stands
 
 -- a broken header gives none, up to the end
-pub read-broken : (p : ℕ) (bs : List ℕ) (m k : ℕ) → headOf bs ≡ Broken m k → read p bs ≡ nothingAt (p + length bs)
+pub read-broken : (p : ℕ) (bs : List ℕ) {c : Cause} → headOf bs ≡ Broken c → read p bs ≡ nothingAt (p + length bs)
 unfolding read given
-read-broken p bs m k broken = rw broken
+read-broken p bs broken = rw broken
 
 -- in an input that is too long no element is read
 pub read-at-long : (s : List ℕ) (p e : ℕ) → longest < length s → readAt s p e ≡ nothingAt p
 unfolding readAt
 read-at-long s p e long = rw (readAt, lt-leb _ _ long)
 
-module _ (s : List ℕ) (p e : ℕ) (some : p < e) (fits : e ≤ length s) (high : length s ≤ 65535) where
+module _ (s : List ℕ) (p e : ℕ) (some : p < e) (fits : e ≤ length s) (high : length s ≤ longest) where
   -- the part has an octet
   part-some : 0 < length (slice p e s)
   part-some = rw (length-slice p e s fits) (omega arith)
@@ -161,16 +167,17 @@ module _ (s : List ℕ) (p e : ℕ) (some : p < e) (fits : e ≤ length s) (high
       (drop-slice p e (x .end) s (omega arith))
 
 -- by places, whether an element is read or none: its content and its end lie in order between them
-pub read-at-within : (s : List ℕ) (p e : ℕ) → p ≤ e → e ≤ length s → length s ≤ 65535 → let x = readAt s p e in
+pub read-at-within : (s : List ℕ) (p e : ℕ) → p ≤ e → e ≤ length s → length s ≤ longest → let x = readAt s p e in
     (p ≤ x .content) × (x .content ≤ x .end) × (x .end ≤ e)
+unfolding nothingAt
 read-at-within s p e order fits high = by-room (eq-or-lt-of-le order)
   where
     by-room : (p ≡ e) ⊎ (p < e) → let x = readAt s p e in (p ≤ x .content) × (x .content ≤ x .end) × (x .end ≤ e)
     by-room (inl same) = rw (read-at-end s p e (omega arith)) (omega arith)
     by-room (inr some) = let o = read-at-in-order s p e some fits high in omega arith
 
--- the encoding of an element, and octets behind it, are read as that element and those octets
-pub tree-encoded : (p id : ℕ) (c more : List ℕ) → T (allowed id) → length c ≤ 65535 → tree p ((header id c ++ c) ++ more)
+-- the encoding of an element, and octets after it, are read as that element and those octets
+pub tree-encoded : (p id : ℕ) (c more : List ℕ) → T (allowed id) → length c ≤ longest → tree p ((header id c ++ c) ++ more)
     ≡ element id p (length (header id c ++ c)) c (elim (constructed id) [ true ↦ tree (p + length (header id c)) c | false ↦ none ])
     (tree (p + length (header id c ++ c)) more)
 unfolding read given header
@@ -199,8 +206,8 @@ inside-read {id = id} {content = content} {inside = inside} q f known = test (co
     test false e = sym (f .valued e .0)
 
 -- the encoding of well-formed elements is read as them
-pub tree-encode : (left p : ℕ) (t : Tree) → WellFormed left p t → length (encode t) ≤ 65535 → tree p (encode t) ≡ t
-unfolding encode
+pub tree-encode : (left p : ℕ) (t : Tree) → WellFormed left p t → length (encode t) ≤ longest → tree p (encode t) ≡ t
+unfolding encode WellFormed
 tree-encode left p none w high = tree-end p
 tree-encode zero p (element id first whole content inside rest) w high = absurd w
 tree-encode (suc left) p (element id first whole content inside rest) w high =
@@ -213,18 +220,18 @@ tree-encode (suc left) p (element id first whole content inside rest) w high =
     tree-encoded p id content (encode rest) (f .identified) (omega arith)
     ∙ rw (f .placed, f .sized) (ap₂ (element id p n content) within behind)
 
--- the same element so many bytes further on
+-- the same element d bytes further on
 abbrev pub further : ℕ → Element → Element
 further d x = record { identifier = x .identifier; content = d + x .content; end = d + x .end }
 
 -- octets further on are read as the same element, further on
 pub read-moved : (d p : ℕ) (bs : List ℕ) → read (d + p) bs ≡ further d (read p bs)
-unfolding read given
+unfolding read given nothingAt
 read-moved d p bs = by-head (headOf bs)
   where
     by-head : (x : Head) → given (d + p) bs x ≡ further d (given p bs x)
     by-head (Stands id h n) = rw (add-assoc d p h, add-assoc d (p + h) n)
-    by-head (Broken n k) = rw (add-assoc d p (length bs))
+    by-head (Broken c) = rw (add-assoc d p (length bs))
 
 -- what is inside, if the element is constructed, further on
 inside-moved : (d : ℕ) (t : Bool) (i j : Tree) → i ≡ moved d j → elim t [ true ↦ i | false ↦ none ] ≡ moved d (elim t [ true ↦ j | false ↦ none ])
@@ -232,7 +239,7 @@ unfolding moved
 inside-moved d true i j e = e
 inside-moved d false i j e = refl
 
--- the same of the tree with so many levels and siblings
+-- the same of the tree with a bound on levels and siblings
 tree-of-moved : (n d p : ℕ) (bs : List ℕ) → treeOf n (d + p) bs ≡ moved d (treeOf n p bs)
 unfolding treeOf moved
 tree-of-moved zero d p bs = refl
@@ -267,7 +274,7 @@ encode-moved d (element id first whole content inside rest) = rw (encode-moved d
 
 -- well-formed elements are well-formed further on
 pub well-formed-moved : (d left p : ℕ) (t : Tree) → WellFormed left p t → WellFormed left (d + p) (moved d t)
-unfolding moved
+unfolding moved WellFormed
 well-formed-moved d left p none w = tt
 well-formed-moved d zero p (element id first whole content inside rest) w = absurd w
 well-formed-moved d (suc left) p (element id first whole content inside rest) w =

@@ -82,7 +82,7 @@ way-short [] some few high = absurd (omega arith)
 way-short (id ∷ []) some few high = absurd (omega arith)
 way-short (id ∷ c ∷ bs) some few high = long-none (c - 0x80) bs (λ m n l _ fits. one-past (c - 0x80) bs m n (omega arith) l fits) ∙ span-long id c bs high
 
--- one octet behind the first
+-- one octet after the first
 one-read : (bs : List ℕ) → 4 ≤ length bs → getD bs 1 0 ≡ 0x81 → 0x80 ≤ getD bs 2 0 → fitted (length bs) 3 (getD bs 2 0) ≡ spanOf bs
 unfolding spanOf lengthOf longForm shortest valueFrom
 one-read [] some first high = absurd (omega arith)
@@ -94,7 +94,7 @@ one-read (id ∷ c ∷ d ∷ bs) some first high =
     let same : c ≡ 0x81 = first in
     rw same (span-sized (suc (suc (length bs))) 2 d (omega arith) ∙ ap (spanBy (suc (suc (length bs)))) (sym known))
 
--- two octets behind the first
+-- two octets after the first
 two-read : (bs : List ℕ) → 4 ≤ length bs → getD bs 1 0 ≡ 0x82 → (getD bs 2 0 ≡ 0 → ⊥)
     → fitted (length bs) 4 (getD bs 2 0 * 256 + getD bs 3 0) ≡ spanOf bs
 unfolding spanOf lengthOf longForm shortest valueFrom
@@ -126,13 +126,13 @@ none-read (id ∷ c ∷ d ∷ e ∷ bs) some high one two = long-none (c - 0x80)
 
 -- The long form in four octets or more, by the tests of its first two octets.
 module _ (bs : List ℕ) (a b : ℕ) (first : a ≡ getD bs 1 0) (top : b ≡ getD bs 2 0) (some : 4 ≤ length bs) where
-  -- one octet behind the first
+  -- one octet after the first
   pub way-one : (eqb a 0x81 && leb 0x80 b) ≡ true → fitted (length bs) 3 b ≡ spanOf bs
   way-one t =
       let both = and-eq-true-iff (eqb a 0x81) (leb 0x80 b) .0 t in
       rw top (one-read bs some (sym first ∙ eqb-true a 0x81 (both .0)) (omega (arith, leb-true 0x80 b (both .1))))
 
-  -- two octets behind the first
+  -- two octets after the first
   pub way-two : (eqb a 0x82 && not (eqb b 0)) ≡ true → fitted (length bs) 4 (b * 256 + getD bs 3 0) ≡ spanOf bs
   way-two t =
       let both = and-eq-true-iff (eqb a 0x82) (not (eqb b 0)) .0 t in

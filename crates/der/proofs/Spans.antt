@@ -9,21 +9,22 @@ use lib.Dec.{leb, ltb}
 use lib.ListN.{length, take, drop, getD}
 use lib.Seq.{slice, length-take-le}
 use borrow.Author.Tests.{leb-true, leb-false, ltb-true}
+use Rattle.der.specs.declared.cause.Cause.the-variants.{WrongIdentifier}
 use Rattle.der.specs.declared.header.Head.the-variants.{Stands, Broken}
 use Rattle.der.specs.declared.reading.Element.{Element}
 use Rattle.der.specs.Identifier.{allowed, constructed}
 use Rattle.der.specs.Length.{Length, missing, wrong, octets, valueFrom, shortest, lengthOf}
-use Rattle.der.specs.Header.{sizedBy, headOf}
+use Rattle.der.specs.Header.{sizedBy, headOf, causeBy, causeOf}
 use Rattle.der.specs.Span.{noSpan, spanBy, spanOf}
 use Rattle.der.specs.Tree.{none, element}
-use Rattle.der.specs.Walk.{longest}
+use Rattle.der.specs.Bounds.{longest}
 use Rattle.der.specs.Reading.{tree}
 use Rattle.der.proofs.Length.{Long, long-read, never-missing, length-counted, value-large}
 use Rattle.der.proofs.Readings.{tree-parts, read-stands}
 use Rattle.der.proofs.SpanWays.{span-there, span-unfit}
 use Rattle.der.proofs.Steps.{head-wrong, head-sized, head-stands, head-past}
 
--- What a span says of the octets behind the identifier.
+-- What a span says of the octets after the identifier.
 record Spanned (id : ℕ) (bs : List ℕ) : Type 0 where
   pub count : ℕ
   pub size : ℕ
@@ -120,10 +121,26 @@ span-stands (id ∷ bs) some known =
     let x = spanned id bs some in
     rw (x .before, x .content) (head-stands id bs known (x .measured) (x .fits))
 
+-- With an identifier that is not allowed the header is broken.
+pub head-refused : (bs : List ℕ) → 1 ≤ length bs → allowed (getD bs 0 0) ≡ false → headOf bs ≡ Broken WrongIdentifier
+head-refused [] some e = absurd (omega arith)
+head-refused (id ∷ bs) some e = head-wrong id bs e
+
+-- That is its cause.
+pub refused-cause : (bs : List ℕ) → 1 ≤ length bs → allowed (getD bs 0 0) ≡ false → WrongIdentifier ≡ causeOf bs
+unfolding causeOf
+refused-cause [] some e = absurd (omega arith)
+refused-cause (id ∷ bs) some e = rw (causeOf, e)
+
+-- the cause where the identifier is allowed, by the length octets
+pub sized-cause : (id : ℕ) (bs : List ℕ) {l : Length} → allowed id ≡ true → lengthOf bs ≡ l → causeBy l ≡ causeOf (id ∷ bs)
+unfolding causeOf
+sized-cause id bs e f = rw (causeOf, e, f)
+
 -- Without a span the header is broken, in octets that are not too many.
-pub span-broken : (bs : List ℕ) → length bs ≤ longest → spanOf bs .octets ≡ 0 → (m : ℕ) × (k : ℕ) × (headOf bs ≡ Broken m k)
-unfolding sizedBy headOf
-span-broken [] short lost = (2, 1, refl)
+pub span-broken : (bs : List ℕ) → length bs ≤ longest → spanOf bs .octets ≡ 0 → headOf bs ≡ Broken (causeOf bs)
+unfolding sizedBy headOf causeBy causeOf
+span-broken [] short lost = refl
 span-broken (id ∷ bs) short lost = go (allowed id) refl (lengthOf bs) refl
   where
     far : (k n : ℕ) → lengthOf bs ≡ octets k n → (s t : Bool) → leb k 3 ≡ s → leb (k + n) (length bs) ≡ t → length bs < k + n
@@ -134,13 +151,14 @@ span-broken (id ∷ bs) short lost = go (allowed id) refl (lengthOf bs) refl
         let is : suc k ≡ 0 = sym (ap (λ x. x .octets) (span-by id bs v ∙ span-there (length bs) k n (leb-true k 3 p) fits)) ∙ lost in
         absurd (omega arith)
 
-    go : (a : Bool) → allowed id ≡ a → (l : Length) → lengthOf bs ≡ l → (m : ℕ) × (k : ℕ) × (headOf (id ∷ bs) ≡ Broken m k)
-    go false u l v = (3, 0, head-wrong id bs u)
-    go true u missing v = (2, 2, head-sized id bs u v)
-    go true u wrong v = (4, 0, head-sized id bs u v)
-    go true u (octets k n) v = (2, 3, head-past id bs u v (far k n v (leb k 3) (leb (k + n) (length bs)) refl refl))
+    go : (a : Bool) → allowed id ≡ a → (l : Length) → lengthOf bs ≡ l → headOf (id ∷ bs) ≡ Broken (causeOf (id ∷ bs))
+    go false u l v = head-wrong id bs u ∙ ap Broken (refused-cause (id ∷ bs) (omega arith) u)
+    go true u missing v = head-sized id bs u v ∙ ap Broken (sized-cause id bs u v)
+    go true u wrong v = head-sized id bs u v ∙ ap Broken (sized-cause id bs u v)
+    go true u (octets k n) v =
+        head-past id bs u v (far k n v (leb k 3) (leb (k + n) (length bs)) refl refl) ∙ ap Broken (sized-cause id bs u v)
 
--- the tree of octets that begin with a span, behind an identifier that is allowed
+-- the tree of octets that begin with a span, after an identifier that is allowed
 pub span-tree : (p : ℕ) (bs : List ℕ) → length bs ≤ longest → (spanOf bs .octets ≡ 0 → ⊥) → allowed (getD bs 0 0) ≡ true
     → let h = spanOf bs .octets in let n = spanOf bs .length in let id = getD bs 0 0 in let c = slice h (h + n) bs in
     tree p bs ≡ element id p (h + n) c (elim (constructed id) [ true ↦ tree (p + h) c | false ↦ none ]) (tree (p + (h + n)) (drop (h + n) bs))

@@ -8,19 +8,22 @@ use native.Mathlib.Omega.{arith}
 use lib.ListN.{length, take, drop}
 use lib.Seq.{slice, take-length}
 use borrow.Author.Tests.{le-leb, lt-leb}
+use Rattle.der.specs.declared.cause.Cause.{Cause}
+use Rattle.der.specs.declared.cause.Cause.the-variants.{WrongIdentifier, PastEnd}
 use Rattle.der.specs.declared.header.Head.the-variants.{Stands, Broken}
-use Rattle.der.specs.declared.walk.Nest.{Nest}
-use Rattle.der.specs.declared.walk.Nest.the-variants.{End, Fault}
+use Rattle.der.specs.declared.explain.Nest.{Nest}
+use Rattle.der.specs.declared.explain.Nest.the-variants.{End, Fault}
 use Rattle.der.specs.Identifier.{allowed, constructed, tagNumber}
 use Rattle.der.specs.Length.{Length, octets, lengthOf}
 use Rattle.der.specs.Header.{fitting, sizedBy, headOf}
 use Rattle.der.specs.Content.{holds}
-use Rattle.der.specs.Walk.{listOf, primitiveOf, elementOf, depth, longest, walkAt}
+use Rattle.der.specs.Bounds.{depth, longest}
+use Rattle.der.specs.Explain.{faultAt, listOf, primitiveOf, elementOf, walkAt}
 
--- The header, by the identifier and the octets behind it.
+-- The header, by the identifier and the octets after it.
 module _ (id : ℕ) (bs : List ℕ) where
   -- the identifier is not allowed
-  pub head-wrong : allowed id ≡ false → headOf (id ∷ bs) ≡ Broken 3 0
+  pub head-wrong : allowed id ≡ false → headOf (id ∷ bs) ≡ Broken WrongIdentifier
   unfolding headOf
   head-wrong e = rw (e, headOf)
 
@@ -35,7 +38,7 @@ module _ (id : ℕ) (bs : List ℕ) where
   head-stands e f fits = rw (head-sized e f, fitting, le-leb _ _ fits)
 
   -- the content runs past the end
-  pub head-past : {k n : ℕ} → allowed id ≡ true → lengthOf bs ≡ octets k n → length bs < k + n → headOf (id ∷ bs) ≡ Broken 2 3
+  pub head-past : {k n : ℕ} → allowed id ≡ true → lengthOf bs ≡ octets k n → length bs < k + n → headOf (id ∷ bs) ≡ Broken PastEnd
   unfolding sizedBy
   head-past e f far = rw (head-sized e f, fitting, lt-leb _ _ far)
 
@@ -54,7 +57,7 @@ module _ (p q id : ℕ) (c : List ℕ) where
 -- The walk over an element with a level of depth left, by its header.
 module _ (left p : ℕ) (bs : List ℕ) where
   -- the header has a fault
-  pub element-broken : {n k : ℕ} → headOf bs ≡ Broken n k → elementOf (suc left) p bs ≡ Fault n p k
+  pub element-broken : {c : Cause} → headOf bs ≡ Broken c → elementOf (suc left) p bs ≡ faultAt c p
   unfolding elementOf
   element-broken e = rw (e, elementOf)
 
@@ -75,7 +78,7 @@ unfolding listOf
 list-empty judge zero p = refl
 list-empty judge (suc n) p = refl
 
--- a list's first element ends: the list goes on behind it
+-- a list's first element ends: the list goes on after it
 pub list-next : (judge : ℕ → List ℕ → Nest) (n p : ℕ) (bs : List ℕ) {q : ℕ} → 0 < length bs → length bs ≤ n → judge p bs ≡ End q
     → listOf judge n p bs ≡ listOf judge (n - 1) q (drop (q - p) bs)
 unfolding listOf

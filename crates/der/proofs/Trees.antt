@@ -1,15 +1,15 @@
--- A header's octets, what the encoding of elements and moving them say of no elements and of an element with others behind it, and the
--- identifiers 30 and 02. Assumes nothing.
-use Prim.Native.Nat.{ℕ, _+_, _≤_}
+-- A header's octets, and what the encoding of elements, moving them and being well-formed say of no elements and of an element with others
+-- after it. Assumes nothing.
+use Prim.Native.Nat.{ℕ, suc, _+_, _≤_}
 use native.Mathlib.Omega.{arith}
 use mathlib.Core.Path.{_≡_, refl, ap}
+use mathlib.Core.Logic.{_↔_}
 use mathlib.Core.Bool.{Bool, true, false}
 use mathlib.Core.List.{List, [], _∷_, _++_}
-use lib.Dec.{T, ltb}
+use lib.Dec.{ltb}
 use lib.ListN.{length, length-append}
-use Rattle.der.specs.Identifier.{constructed, allowed}
 use Rattle.der.specs.Length.{base256, lengthOctets}
-use Rattle.der.specs.Tree.{Tree, none, element, header, encode, moved}
+use Rattle.der.specs.Tree.{Tree, none, element, header, encode, Formed, WellFormed, Single, moved}
 
 -- a header has an octet at least
 pub header-some : (id : ℕ) (c : List ℕ) → 1 ≤ length (header id c)
@@ -39,7 +39,7 @@ pub encode-none : encode none ≡ []
 unfolding encode
 encode-none = refl
 
--- the encoding of an element: its header, its content and what stands behind it
+-- the encoding of an element: its header, its content and what stands after it
 pub encode-element : (id first whole : ℕ) (c : List ℕ) (inside rest : Tree)
     → encode (element id first whole c inside rest) ≡ (header id c ++ c) ++ encode rest
 unfolding encode
@@ -56,20 +56,35 @@ pub moved-none : (d : ℕ) → moved d none ≡ none
 unfolding moved
 moved-none d = refl
 
--- an element further on, with those inside it and behind it
+-- an element further on, with those inside it and after it
 pub moved-element : (d id first whole : ℕ) (c : List ℕ) (inside rest : Tree)
     → moved d (element id first whole c inside rest) ≡ element id (d + first) whole c (moved d inside) (moved d rest)
 unfolding moved
 moved-element d id first whole c inside rest = refl
 
--- a SEQUENCE is constructed
-pub sequence-constructed : constructed 0x30 ≡ true
-sequence-constructed = refl
+-- no elements are well-formed anywhere
+pub well-formed-none : (left p : ℕ) → WellFormed left p none
+unfolding WellFormed
+well-formed-none left p = tt
 
--- an INTEGER is not
-pub integer-primitive : constructed 0x02 ≡ false
-integer-primitive = refl
+-- an element is not, without a level of depth left
+pub well-formed-deep : (p id first whole : ℕ) (c : List ℕ) (inside rest : Tree) → WellFormed 0 p (element id first whole c inside rest) → ⊥
+unfolding WellFormed
+well-formed-deep p id first whole c inside rest formed = formed
 
--- the identifier of a SEQUENCE is allowed
-pub sequence-allowed : T (allowed 0x30)
-sequence-allowed = tt
+-- with one left, elements are well-formed where the first is, and those after it are from its end on
+pub well-formed-element : (left p id first whole : ℕ) (c : List ℕ) (inside rest : Tree)
+    → WellFormed (suc left) p (element id first whole c inside rest)
+    ↔ (Formed p id first whole c inside (WellFormed left (p + length (header id c)) inside) × WellFormed (suc left) (p + whole) rest)
+unfolding WellFormed
+well-formed-element left p id first whole c inside rest = (λ formed. formed, λ both. both)
+
+-- no elements are not a single one
+pub single-none : Single none → ⊥
+unfolding Single
+single-none one = one
+
+-- an element is a single one where none stands after it
+pub single-element : (id first whole : ℕ) (c : List ℕ) (inside rest : Tree) → Single (element id first whole c inside rest) ↔ (rest ≡ none)
+unfolding Single
+single-element id first whole c inside rest = (λ one. one, λ last. last)

@@ -1,4 +1,4 @@
--- One step of the check by classes, at an octet of a known class: behind a lead and behind a tail the check goes on, and at any other
+-- One step of the check by classes, at an octet of a known class: after a lead and after a tail the check goes on, and at any other
 -- octet it fails. The class of an octet looked up in a table, with the table itself tested by computing. And octets below 80, of which
 -- eight are tested at once. Assumes nothing.
 use Prim.Native.Nat.{ℕ, zero, suc, _+_, _≤_, _<_}
@@ -111,7 +111,7 @@ module _ (s : List ℕ) (low high : ℕ) where
       rw (add-one, drop-cons s i 0)
       (begin (getD s i 0) class refl low high (drop (suc i) s) ∙ sym (any-range low high (drop (suc i) s)))
 
-  -- so many octets from the place i on
+  -- a number of octets from the place i on
   pub step-many : (n i : ℕ) → i + n ≤ length s → ((k : ℕ) → k < n → getD s (i + k) 0 < 0x80)
       → utf8From 0 low high (drop i s) ≡ utf8From 0 low high (drop (i + n) s)
   step-many zero i h b = rw (add-zero i) refl

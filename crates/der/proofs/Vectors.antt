@@ -4,12 +4,13 @@ use mathlib.Core.Bool.{Bool, true, false}
 use mathlib.Core.Path.{_≡_, refl}
 use mathlib.Core.List.{List, [], _∷_, map}
 use lib.ListN.{length}
-use Rattle.der.specs.declared.walk.Nest.{Nest}
-use Rattle.der.specs.declared.walk.Nest.the-variants.{End, Fault}
+use Rattle.der.specs.declared.explain.Nest.{Nest}
+use Rattle.der.specs.declared.explain.Nest.the-variants.{End, Fault}
+use Rattle.der.specs.Identifier.{tagNumber, constructed, allowed}
 use Rattle.der.specs.Length.{valueFrom, shortest, longForm, lengthOf}
 use Rattle.der.specs.Header.{sizedBy, headOf}
 use Rattle.der.specs.Content.{boolean, integer, null, lastOf, unpadded, objectIdentifier, bitString, holds}
-use Rattle.der.specs.Walk.{listOf, primitiveOf, elementOf, walkAt}
+use Rattle.der.specs.Explain.{listOf, primitiveOf, elementOf, walkAt}
 
 -- octets, and what the walk over the whole of them answers
 abbrev nests : List (List ℕ × Nest)
@@ -28,7 +29,7 @@ nests =
 
 -- the walk answers so
 answered : map (λ c. walkAt (c .0) 0 (length (c .0))) nests ≡ map (λ c. c .1) nests
-unfolding walkAt elementOf headOf sizedBy lengthOf longForm shortest valueFrom listOf primitiveOf holds integer
+unfolding walkAt elementOf allowed constructed tagNumber headOf sizedBy lengthOf longForm shortest valueFrom listOf primitiveOf holds integer
 answered = refl
 
 -- the rule takes each content of the first list and refuses each of the second

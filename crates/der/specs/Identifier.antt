@@ -1,14 +1,14 @@
--- Identifier octets. Assumes nothing.
+-- Identifier octets (X.690 8.1.2). Assumes nothing.
 use Prim.Native.Nat.{ℕ, _/_, _%_}
 use mathlib.Core.Bool.{Bool, not, _&&_, _||_}
 use lib.Dec.{leb, ltb, eqb}
 
 -- the tag number: the low five bits
-abbrev pub tagNumber : ℕ → ℕ
+unfoldable pub tagNumber : ℕ → ℕ
 tagNumber id = id % 32
 
 -- bit 6: the content is a list of elements
-abbrev pub constructed : ℕ → Bool
+unfoldable pub constructed : ℕ → Bool
 constructed id = eqb (id / 32 % 2) 1
 
 -- bits 8 and 7: the class is universal
@@ -28,5 +28,5 @@ abbrev pub universalType : ℕ → Bool
 universalType id = constructed id && constructedType (tagNumber id) || not (constructed id) && primitiveType (tagNumber id)
 
 -- "one octet, tag number below 31"; "other classes: any"
-abbrev pub allowed : ℕ → Bool
+unfoldable pub allowed : ℕ → Bool
 allowed id = ltb (tagNumber id) 31 && (not (universal id) || universalType id)

@@ -1,4 +1,4 @@
--- Length octets: what they give, and the shortest that give a number. Assumes nothing.
+-- Length octets (X.690 8.1.3): what they give, and the shortest that give a number. Assumes nothing.
 use Prim.Native.Nat.{ℕ, zero, suc, _+_, _-_, _*_, _/_, _%_}
 use mathlib.Core.Bool.{Bool, true, false, _&&_}
 use mathlib.Core.List.{List, [], _∷_, _++_}
@@ -14,18 +14,18 @@ pub data Length : Type 0 where
   -- how many length octets there are, and the number that they give
   octets : ℕ → ℕ → Length
 
--- the number that octets give, the most significant first, behind the number n
+-- the number that octets give, the most significant first, after the number n
 unfoldable pub valueFrom : ℕ → List ℕ → ℕ
 valueFrom n [] = n
 valueFrom n (b ∷ bs) = valueFrom (n * 256 + b) bs
 
--- "first not 00, and a single octet at least 80"
+-- X.690 10.1: "first not 00, and a single octet at least 80"
 unfoldable pub shortest : List ℕ → Bool
 shortest [] = false
 shortest (b ∷ []) = leb 0x80 b
 shortest (b ∷ c ∷ bs) = ltb 0 b
 
--- "81 to FE and that many octets (low seven bits)"; "80 and FF are 4", before any octet behind them is looked at
+-- "81 to FE and that many octets (low seven bits)"; "80 and FF are 4", before any octet after them is looked at
 unfoldable pub longForm : ℕ → List ℕ → Length
 longForm k bs =
     elim (leb 1 k && leb k 126) [

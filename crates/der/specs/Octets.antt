@@ -4,5 +4,5 @@ use mathlib.Core.List.{List}
 use lib.ListN.{getD}
 
 -- every number of the list is an octet, as in a slice of bytes
-abbrev pub Octets : List ℕ → Type 0
+unfoldable pub Octets : List ℕ → Type 0
 Octets bs = (i : ℕ) → getD bs i 0 < 256

@@ -11,16 +11,16 @@ use Rattle.der.specs.declared.reading.Element.{Element}
 use Rattle.der.specs.Identifier.{constructed}
 use Rattle.der.specs.Header.{headOf}
 use Rattle.der.specs.Tree.{Tree, none, element}
-use Rattle.der.specs.Walk.{longest}
+use Rattle.der.specs.Bounds.{longest}
 
 -- where no element stands: identifier 0 and an empty content
-abbrev pub nothingAt : ℕ → Element
+unfoldable pub nothingAt : ℕ → Element
 nothingAt p = record { identifier = 0; content = p; end = p }
 
 -- the element that a header gives at a place; where the header is broken, none up to the end
 unfoldable pub given : ℕ → List ℕ → Head → Element
 given p bs (Stands id h n) = record { identifier = id; content = p + h; end = p + h + n }
-given p bs (Broken n k) = nothingAt (p + length bs)
+given p bs (Broken c) = nothingAt (p + length bs)
 
 -- the element at a place, over the octets from there to its parent's end
 unfoldable pub read : ℕ → List ℕ → Element
@@ -30,7 +30,7 @@ read p bs = given p bs (headOf bs)
 unfoldable pub readAt : List ℕ → ℕ → ℕ → Element
 readAt s at end = elim (leb (length s) longest) [ true ↦ read at (slice at end s) | false ↦ nothingAt at ]
 
--- the elements from a place on, each read so, and those inside it if it is constructed; so many levels and siblings at most
+-- the elements from a place on, each read so, and those inside it if it is constructed; the first argument bounds levels and siblings
 unfoldable pub treeOf : ℕ → ℕ → List ℕ → Tree
 treeOf zero p bs = none
 treeOf (suc n) p [] = none

@@ -1,4 +1,5 @@
--- An element's length octets by themselves, whatever its identifier: how many octets stand before its content, and how many are its content. Assumes nothing.
+-- An element's length octets (X.690 8.1.3, 10.1) by themselves, whatever its identifier: how many octets stand before its content, and how
+-- many are its content. Assumes nothing.
 use Prim.Native.Nat.{ℕ, suc, _+_}
 use mathlib.Core.Bool.{true, false, _&&_}
 use mathlib.Core.List.{List, [], _∷_}
@@ -11,11 +12,11 @@ use Rattle.der.specs.Length.{Length, missing, wrong, octets, lengthOf}
 abbrev pub noSpan : Span
 noSpan = record { octets = 0; length = 0 }
 
--- so many octets before the content and so many of content, where they stand in the room
+-- h octets before the content and n of content, where they stand in the room
 abbrev pub fitted : ℕ → ℕ → ℕ → Span
 fitted room h n = elim (leb (h + n) room) [ true ↦ record { octets = h; length = n } | false ↦ noSpan ]
 
--- the identifier octet and the length octets, up to three, and the content's octets, where all of them stand in the room behind the identifier
+-- the identifier octet and the length octets, up to three, and the content's octets, where all of them stand in the room after the identifier
 unfoldable pub spanBy : ℕ → Length → Span
 spanBy room missing = noSpan
 spanBy room wrong = noSpan

@@ -33,8 +33,8 @@ pub record Formed (place id first whole : ℕ) (content : List ℕ) (inside : Tr
   -- primitive: there is nothing inside, and the content keeps its rule
   pub valued : constructed id ≡ false → (inside ≡ none) × Content id content
 
--- A list of elements from a place on is well-formed with so many levels of depth left.
-abbrev pub WellFormed : ℕ → ℕ → Tree → Type 0
+-- A list of elements from a place on is well-formed with the levels of depth that are left.
+unfoldable pub WellFormed : ℕ → ℕ → Tree → Type 0
 WellFormed left place none = Unit {0}
 WellFormed zero place (element id first whole content inside rest) = ⊥
 WellFormed (suc left) place (element id first whole content inside rest) =
@@ -42,11 +42,11 @@ WellFormed (suc left) place (element id first whole content inside rest) =
     × WellFormed (suc left) (place + whole) rest
 
 -- a single element
-abbrev pub Single : Tree → Type 0
+unfoldable pub Single : Tree → Type 0
 Single none = ⊥
 Single (element id first whole content inside rest) = rest ≡ none
 
--- the same elements so many bytes further on
+-- the same elements d bytes further on
 unfoldable pub moved : ℕ → Tree → Tree
 moved d none = none
 moved d (element id first whole content inside rest) = element id (d + first) whole content (moved d inside) (moved d rest)

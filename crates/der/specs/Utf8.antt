@@ -102,7 +102,7 @@ lowest c = elim (eqb c 5) [ true ↦ 3 | false ↦ elim (eqb c 8) [ true ↦ 2 |
 unfoldable pub highest : ℕ → ℕ
 highest c = elim (eqb c 7) [ true ↦ 2 | false ↦ elim (eqb c 10) [ true ↦ 1 | false ↦ 3 ] ]
 
--- The check from within a character that wants so many tails more, the next of a class from low to high; at 0 a character begins.
+-- The check from within a character that still wants `left` tails, the next of a class from low to high; at 0 a character begins.
 unfoldable pub utf8From : ℕ → ℕ → ℕ → List ℕ → Bool
 utf8From left low high [] = eqb left 0
 utf8From zero low high (b ∷ bs) =
@@ -119,7 +119,7 @@ utf8 bs = utf8From 0 1 3 bs
 pub record Classes (table : List ℕ) : Type 0 where
   pub entry : (b : ℕ) → b < 256 → getD table b 0 ≡ classOf b
 
--- the check over the octets behind one that it made a step by
+-- the check over the octets after one that it made a step by
 abbrev pub after : Step → List ℕ → Bool
 after (Next left low high) bs = utf8From left low high bs
 after Stop bs = false

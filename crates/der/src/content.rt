@@ -1,4 +1,5 @@
 // The content rules, each on the content octets of one element.
+use crate::identifier;
 use crate::utf8;
 ghost use Prim.Native.Nat.{ℕ, _<_};
 ghost use mathlib.Core.Bool.{true};
@@ -6,7 +7,7 @@ ghost use mathlib.Core.Path.{_≡_};
 ghost use lib.ListN.{length, getD};
 ghost use Rattle.der.specs.Content as rule;
 
-// Whether the octets are the content of a BOOLEAN.
+// Whether the octets are the content of a BOOLEAN (X.690 8.2, 11.1).
 pub fn boolean(content: &[u8]) -> bool
     ensures { λ r. ⌜ r ≡ rule.boolean (now (content .entry)) ⌝ }
 {
@@ -17,7 +18,7 @@ pub fn boolean(content: &[u8]) -> bool
     (octet == 0x00) | (octet == 0xFF)
 }
 
-// Whether the octets are the content of an INTEGER or ENUMERATED.
+// Whether the octets are the content of an INTEGER (X.690 8.3) or ENUMERATED (8.4).
 pub fn integer(content: &[u8]) -> bool
     ensures { λ r. ⌜ r ≡ rule.integer (now (content .entry)) ⌝ }
 {
@@ -29,7 +30,7 @@ pub fn integer(content: &[u8]) -> bool
     !((first == 0x00) & (second < 0x80) | (first == 0xFF) & (0x80 <= second))
 }
 
-// Whether the octets are the content of a BIT STRING.
+// Whether the octets are the content of a BIT STRING (X.690 8.6, 11.2).
 pub fn bit_string(content: &[u8]) -> bool
     ensures { λ r. ⌜ r ≡ rule.bitString (now (content .entry)) ⌝ }
 {
@@ -45,21 +46,21 @@ pub fn bit_string(content: &[u8]) -> bool
     (unused <= 7) & ((unused as u32) <= u8::trailing_zeros(last))
 }
 
-// Whether the octets are the content of an OBJECT IDENTIFIER.
+// Whether the octets are the content of an OBJECT IDENTIFIER (X.690 8.19).
 pub fn object_identifier(content: &[u8]) -> bool
     ensures { λ r. ⌜ r ≡ rule.objectIdentifier (now (content .entry)) ⌝ }
 {
     if content.len() == 0 {
         return false;
     }
-    if plain(content) {
+    if lacks_80(content) {
         return content[content.len() - 1] < 0x80;
     }
-    parted(content)
+    are_subidentifiers(content)
 }
 
-// Whether no octet is 80.
-fn plain(content: &[u8]) -> bool
+// Whether no octet is 80, with which a padded subidentifier would start.
+fn lacks_80(content: &[u8]) -> bool
     ensures { λ r. ⌜ (r ≡ true → (i : ℕ) → i < length (now (content .entry)) → getD (now (content .entry)) i 0 ≡ 0x80 → ⊥) ⌝ }
 {
     let mut i = 0;
@@ -72,12 +73,12 @@ fn plain(content: &[u8]) -> bool
     true
 }
 
-// The rule of an OBJECT IDENTIFIER that is not empty, part by part.
-fn parted(content: &[u8]) -> bool
+// Whether octets, of which there is at least one, are subidentifiers in the shortest form, the last of them complete.
+fn are_subidentifiers(content: &[u8]) -> bool
     requires { ⌜ 0 < length (now content) ⌝ }
     ensures { λ r. ⌜ r ≡ rule.objectIdentifier (now (content .entry)) ⌝ }
 {
-    // The octet before, and at first one that ends a part.
+    // The octet before, and at first one that ends a subidentifier.
     let mut before: u8 = 0x00;
     let mut i = 0;
     while i < content.len() {
@@ -91,17 +92,17 @@ fn parted(content: &[u8]) -> bool
     before < 0x80
 }
 
-// Whether the content of a primitive element keeps the rule that its identifier asks.
+// Whether the content of a primitive element keeps the rule of its type; NULL is empty (X.690 8.8), and types without a rule take any.
 pub fn holds(id: u8, content: &[u8]) -> bool
     ensures { λ r. ⌜ r ≡ rule.holds id (now (content .entry)) ⌝ }
 {
     match id {
-        0x01 => boolean(content),
-        0x02 | 0x0A => integer(content),
-        0x03 => bit_string(content),
-        0x05 => content.len() == 0,
-        0x06 => object_identifier(content),
-        0x0C => utf8::is_text(content),
+        identifier::BOOLEAN => boolean(content),
+        identifier::INTEGER | identifier::ENUMERATED => integer(content),
+        identifier::BIT_STRING => bit_string(content),
+        identifier::NULL => content.len() == 0,
+        identifier::OBJECT_IDENTIFIER => object_identifier(content),
+        identifier::UTF8_STRING => utf8::is_text(content),
         _ => true,
     }
 }

@@ -1,123 +1,76 @@
-// The identifier and length octets of an element.
+// The header of an element: its identifier and length octets.
+use crate::cause::Cause;
 use crate::identifier::is_allowed;
+use crate::span::measure;
+use crate::span::wide;
 ghost use mathlib.Core.Path.{_≡_};
-ghost use Prim.Native.Nat.{ℕ, _+_, _-_, _≤_, _<_};
-ghost use mathlib.Core.List.{_∷_};
+ghost use Prim.Native.Nat.{_≤_};
 ghost use lib.ListN.{length};
-ghost use Rattle.der.specs.Length.{longForm};
-ghost use Rattle.der.specs.Header.{fitting, sizedBy, headOf};
+ghost use Rattle.der.specs.Bounds.{longest};
+ghost use Rattle.der.specs.Header.{causeOf, headOf};
 
 // What the octets from an element's first byte to its parent's end begin with.
 pub enum Head {
-    // A header of `octets` bytes, and behind it a content of `length` bytes that ends in time.
+    // A header of `octets` bytes, and after it a content of `length` bytes that ends in time.
     Stands {
         identifier: u8,
         octets: usize,
         length: usize,
     },
-    // No element: document 01's number and the detail of the rule that is broken.
-    Broken {
-        number: usize,
-        detail: usize,
-    },
+    // No element, and why.
+    Broken(Cause),
 }
 
-// The header at the start of bytes that end where the element's parent does.
+// The header at the start of bytes that end where the element's parent does, or why there is none.
 pub(crate) fn read(bytes: &[u8]) -> Head
-    requires { ⌜ length (now bytes) ≤ 65535 ⌝ }
+    requires { ⌜ length (now bytes) ≤ longest ⌝ }
     ensures { λ r. ⌜ r ≡ headOf (now (bytes .entry)) ⌝ }
 {
-    if bytes.len() == 0 {
-        return Head::Broken {
-            number: 2,
-            detail: 1,
-        };
-    }
-    let id = bytes[0];
-    if !is_allowed(id) {
-        return Head::Broken {
-            number: 3,
-            detail: 0,
-        };
-    }
-    if bytes.len() == 1 {
-        return Head::Broken {
-            number: 2,
-            detail: 2,
-        };
-    }
-    let first = bytes[1];
-    if first < 0x80 {
-        return fit(id, bytes.len() - 1, 1, wide(first));
-    }
-    long_form(id, wide(first - 0x80), &bytes[2..])
-}
-
-// The header whose length octets are in the long form: the k octets behind the first of them are the first k of `bytes`. A form of
-// three octets or more gives at least 65,536, since the first is not 00, and so runs past any end.
-fn long_form(id: u8, k: usize, bytes: &[u8]) -> Head
-    requires { ⌜ (k < 128) × (length (now bytes) < 65535) ⌝ }
-    ensures { λ r. ⌜ r ≡ sizedBy id ((0x80 + k) ∷ now (bytes .entry)) (longForm k (now (bytes .entry))) ⌝ }
-{
-    if !((1 <= k) & (k <= 126)) {
-        return Head::Broken {
-            number: 4,
-            detail: 0,
-        };
-    }
-    if bytes.len() < k {
-        return Head::Broken {
-            number: 2,
-            detail: 2,
-        };
-    }
-    let top = wide(bytes[0]);
-    if k == 1 {
-        if top < 0x80 {
-            return Head::Broken {
-                number: 4,
-                detail: 0,
+    let x = measure(bytes);
+    if x.octets != 0 {
+        let id = bytes[0];
+        if is_allowed(id) {
+            return Head::Stands {
+                identifier: id,
+                octets: x.octets,
+                length: x.length,
             };
         }
-        return fit(id, bytes.len() + 1, 2, top);
     }
-    if top == 0 {
-        return Head::Broken {
-            number: 4,
-            detail: 0,
-        };
-    }
-    if k == 2 {
-        return fit(id, bytes.len() + 1, 3, top * 256 + wide(bytes[1]));
-    }
-    Head::Broken {
-        number: 2,
-        detail: 3,
-    }
+    Head::Broken(cause_of(bytes))
 }
 
-// The header with k length octets before n octets of content, if they end in the room behind the identifier.
-fn fit(id: u8, room: usize, k: usize, n: usize) -> Head
-    requires { ⌜ (k ≤ 3) × (n ≤ 65535) ⌝ }
-    ensures { λ r. ⌜ r ≡ fitting id room k n ⌝ }
+// Why no element stands at the start of bytes that begin with none: what is missing or wrong, in document 01's order. It decodes no
+// length: one in the right form that gives no element runs past the end.
+fn cause_of(bytes: &[u8]) -> Cause
+    ensures { λ r. ⌜ r ≡ causeOf (now (bytes .entry)) ⌝ }
 {
-    if k + n <= room {
-        Head::Stands {
-            identifier: id,
-            octets: k + 1,
-            length: n,
-        }
-    } else {
-        Head::Broken {
-            number: 2,
-            detail: 3,
-        }
+    if bytes.len() == 0 {
+        return Cause::NoIdentifier;
     }
-}
-
-// An octet as a number.
-fn wide(octet: u8) -> usize
-    ensures { λ r. ⌜ r ≡ octet ⌝ }
-{
-    octet as usize
+    if !is_allowed(bytes[0]) {
+        return Cause::WrongIdentifier;
+    }
+    if bytes.len() == 1 {
+        return Cause::NoLength;
+    }
+    let first = bytes[1];
+    // X.690 8.1.3: the short form.
+    if first < 0x80 {
+        return Cause::PastEnd;
+    }
+    // X.690 8.1.3: 80 is indefinite, and FF reserved.
+    if (first == 0x80) | (first == 0xFF) {
+        return Cause::WrongLength;
+    }
+    let count = wide(first - 0x80);
+    if bytes.len() - 2 < count {
+        return Cause::NoLength;
+    }
+    // X.690 10.1: the shortest form.
+    let top = bytes[2];
+    if (top == 0) | (count == 1) & (top < 0x80) {
+        return Cause::WrongLength;
+    }
+    Cause::PastEnd
 }

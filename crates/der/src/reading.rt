@@ -1,7 +1,7 @@
 // The element at a place, for the layers above.
+use crate::between::between;
+use crate::bounds::LONGEST;
 use crate::identifier::is_allowed;
-use crate::input::LONGEST;
-use crate::input::part;
 use crate::span::measure;
 ghost use mathlib.Core.Path.{_≡_};
 ghost use Rattle.der.specs.Reading.{nothingAt, readAt};
@@ -13,15 +13,14 @@ pub struct Element {
     pub end: usize,
 }
 
-// The element from `at` before `end`; where none stands, identifier 0 and an empty content at the end. Input longer than 65,535 bytes
-// has none.
+// The element from `at` before `end`; where none stands, identifier 0 and an empty content at the end. Input longer than LONGEST has none.
 pub fn read_at(bytes: &[u8], at: usize, end: usize) -> Element
     ensures { λ r. ⌜ r ≡ readAt (now (bytes .entry)) at end ⌝ }
 {
     if LONGEST < bytes.len() {
         return nothing_at(at);
     }
-    let inside = part(bytes, at, end);
+    let inside = between(bytes, at, end);
     let x = measure(inside);
     if x.octets != 0 {
         let id = inside[0];

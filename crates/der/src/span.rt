@@ -1,4 +1,5 @@
-// An element's length octets by themselves, as most elements have them: in one, two or three octets.
+// The decoder of length octets (X.690 8.1.3, 10.1), whatever the identifier before them. It reads forms of one, two and three octets: a
+// longer one that is the shortest gives 65,536 or more, which no input holds.
 ghost use mathlib.Core.Path.{_≡_};
 ghost use Prim.Native.Nat.{_≤_};
 ghost use Rattle.der.specs.Span.{noSpan, fitted, spanOf};
@@ -17,12 +18,14 @@ pub fn measure(bytes: &[u8]) -> Span
         return nothing();
     }
     let first = wide(bytes[1]);
+    // X.690 8.1.3: the short form.
     if first < 0x80 {
         return fit(bytes.len(), 2, first);
     }
     if bytes.len() < 4 {
         return nothing();
     }
+    // X.690 8.1.3 and 10.1: the long form, which is the shortest.
     let top = wide(bytes[2]);
     if (first == 0x81) & (0x80 <= top) {
         return fit(bytes.len(), 3, top);
@@ -55,7 +58,7 @@ fn nothing() -> Span
 }
 
 // An octet as a number.
-fn wide(octet: u8) -> usize
+pub(crate) fn wide(octet: u8) -> usize
     ensures { λ r. ⌜ r ≡ octet ⌝ }
 {
     octet as usize

@@ -1,4 +1,5 @@
 // UTF-8 as in RFC 3629: octets below 80 eight at once, and others by a table of classes of octets.
+use crate::octet_class;
 ghost use Prim.Native.Nat.{ℕ, _+_, _≤_, _<_};
 ghost use mathlib.Core.Bool.{true};
 ghost use mathlib.Core.List.{List, _∷_};
@@ -8,7 +9,7 @@ ghost use Rattle.der.specs.Utf8.{classOf, utf8From, utf8, after, Classes
 
 // What the check makes of one octet.
 enum Step {
-    // The character wants so many tails more, the next of a class from the second number to the third.
+    // How many tails the character still wants, and the lowest and the highest class of the next.
     Next(u8, u8, u8),
     // No character has the octet here.
     Stop,
@@ -19,19 +20,19 @@ fn lead(class: u8) -> Step
     ensures { λ r. ⌜ ((b : ℕ) (bs : List ℕ) → classOf b ≡ class → after r bs ≡ utf8From 0 1 3 (b ∷ bs)) ⌝ }
 {
     match class {
-        0 => Step::Next(0, 1, 3),
-        4 => Step::Next(1, 1, 3),
-        5 => Step::Next(2, 3, 3),
-        6 => Step::Next(2, 1, 3),
-        7 => Step::Next(2, 1, 2),
-        8 => Step::Next(3, 2, 3),
-        9 => Step::Next(3, 1, 3),
-        10 => Step::Next(3, 1, 1),
+        octet_class::WHOLE => Step::Next(0, octet_class::TAIL_80, octet_class::TAIL_A0),
+        octet_class::LEAD_C2 => Step::Next(1, octet_class::TAIL_80, octet_class::TAIL_A0),
+        octet_class::LEAD_E0 => Step::Next(2, octet_class::TAIL_A0, octet_class::TAIL_A0),
+        octet_class::LEAD_E1 => Step::Next(2, octet_class::TAIL_80, octet_class::TAIL_A0),
+        octet_class::LEAD_ED => Step::Next(2, octet_class::TAIL_80, octet_class::TAIL_90),
+        octet_class::LEAD_F0 => Step::Next(3, octet_class::TAIL_90, octet_class::TAIL_A0),
+        octet_class::LEAD_F1 => Step::Next(3, octet_class::TAIL_80, octet_class::TAIL_A0),
+        octet_class::LEAD_F4 => Step::Next(3, octet_class::TAIL_80, octet_class::TAIL_80),
         _ => Step::Stop,
     }
 }
 
-// An octet of the class where the character wants so many tails, the next of a class from `low` to `high`.
+// An octet of the class where the character still wants `left` tails, the next of a class from `low` to `high`.
 fn advance(left: u8, low: u8, high: u8, class: u8) -> Step
     ensures { λ r. ⌜ ((b : ℕ) (bs : List ℕ) → classOf b ≡ class → after r bs ≡ utf8From left low high (b ∷ bs)) ⌝ }
 {
@@ -39,7 +40,7 @@ fn advance(left: u8, low: u8, high: u8, class: u8) -> Step
         return lead(class);
     }
     if (low <= class) & (class <= high) {
-        return Step::Next(left - 1, 1, 3);
+        return Step::Next(left - 1, octet_class::TAIL_80, octet_class::TAIL_A0);
     }
     Step::Stop
 }
@@ -91,8 +92,8 @@ fn text(content: &[u8], classes: &[u8; 256]) -> bool
     ensures { λ r. ⌜ r ≡ utf8 (now (content .entry)) ⌝ }
 {
     let mut left: u8 = 0;
-    let mut low: u8 = 1;
-    let mut high: u8 = 3;
+    let mut low: u8 = octet_class::TAIL_80;
+    let mut high: u8 = octet_class::TAIL_A0;
     let mut i = 0;
     while i < content.len() {
         if (left == 0) & (i + 8 <= content.len()) {

@@ -7,30 +7,33 @@ use lib.Dec.{eqb}
 use lib.ListN.{length}
 use borrow.Author.Tests.{eqb-true, eqb-false, eq-eqb, ne-eqb, lt-ltb, le-ltb, le-leb, lt-leb}
 use native.Mathlib.Omega.{arith}
-use Rattle.der.specs.declared.walk.Nest.the-variants.{End, Fault}
-use Rattle.der.specs.Walk.{longest, walkAt}
-use Rattle.crmf.specs.declared.walk.Seen.{Seen}
+use Rattle.der.specs.Refusal.{longCertReqId, notInGrammar, tooLong, trailingBytes, unknownEdition}
+use Rattle.der.specs.declared.explain.Nest.the-variants.{End, Fault}
+use Rattle.der.specs.Bounds.{longest}
+use Rattle.der.specs.Explain.{walkAt}
+use Rattle.crmf.specs.declared.tally.Tally.{Tally}
 use Rattle.editions.specs.declared.reader.Answer.{Answer}
-use Rattle.editions.specs.Reading.{refusal, accepted, opposite, batchAnswer, answer}
+use Rattle.editions.specs.Edition.{opposite}
+use Rattle.editions.specs.Reading.{refusal, accepted, batchAnswer, answer}
 use Rattle.editions.specs.Steps.{formOf, stopNumber, passedAnswer, brokenAnswer}
 
 -- of what was met, the first form of edition 1, or of edition 2
-module _ (e : ℕ) (s : Seen) where
-  pub form-one : e ≡ 1 → formOf e s ≡ (s .one, s .«one_at»)
+module _ (e : ℕ) (s : Tally) where
+  pub form-one : e ≡ 1 → formOf e s ≡ (s .one .number, s .one .place)
   form-one is = rw is
 
-  pub form-two : (e ≡ 1 → ⊥) → formOf e s ≡ (s .two, s .«two_at»)
+  pub form-two : (e ≡ 1 → ⊥) → formOf e s ≡ (s .two .number, s .two .place)
   form-two not-one = rw (formOf, ne-eqb e 1 not-one)
 
 -- by the difference d and the place q of the opposite edition's first form that was met
-module _ (e d q : ℕ) (s : Seen) (difference : d ≡ formOf (opposite e) s .0) (place : q ≡ formOf (opposite e) s .1) where
-  pub broken-before : (p : ℕ) → (d ≡ 0 → ⊥) → refusal 8 q ≡ brokenAnswer e p s
+module _ (e d q : ℕ) (s : Tally) (difference : d ≡ formOf (opposite e) s .0) (place : q ≡ formOf (opposite e) s .1) where
+  pub broken-before : (p : ℕ) → (d ≡ 0 → ⊥) → refusal notInGrammar q ≡ brokenAnswer e p s
   unfolding brokenAnswer
   broken-before p some =
       let test : eqb (formOf (opposite e) s .0) 0 ≡ false = ne-eqb _ _ (λ z. some (difference ∙ z)) in
       rw (brokenAnswer, test, place)
 
-  pub broken-there : (p : ℕ) → d ≡ 0 → refusal 8 p ≡ brokenAnswer e p s
+  pub broken-there : (p : ℕ) → d ≡ 0 → refusal notInGrammar p ≡ brokenAnswer e p s
   unfolding brokenAnswer
   broken-there p none =
       let test : eqb (formOf (opposite e) s .0) 0 ≡ true = eq-eqb _ _ (sym difference ∙ none) in
@@ -42,17 +45,17 @@ module _ (e d q : ℕ) (s : Seen) (difference : d ≡ formOf (opposite e) s .0) 
       let test : eqb (formOf (opposite e) s .0) 0 ≡ false = ne-eqb _ _ (λ z. some (difference ∙ z)) in
       rw (passedAnswer, test, place, is)
 
-  pub passed-long : d ≡ 0 → (s .long ≡ 0 → ⊥) → refusal 10 (s .«long_at») ≡ passedAnswer e s
+  pub passed-long : d ≡ 0 → (s .long .whole ≡ 0 → ⊥) → refusal longCertReqId (s .long .place) ≡ passedAnswer e s
   unfolding passedAnswer
   passed-long none some =
       let test : eqb (formOf (opposite e) s .0) 0 ≡ true = eq-eqb _ _ (sym difference ∙ none) in
-      rw (passedAnswer, test) (ap (λ (b : Bool). elim b as (λ x. Answer) [ true ↦ accepted (s .count) | false ↦ refusal 10 (s .«long_at») ]) (sym (ne-eqb (s .long) 0 some)))
+      rw (passedAnswer, test) (ap (λ (b : Bool). elim b as (λ x. Answer) [ true ↦ accepted (s .count) | false ↦ refusal longCertReqId (s .long .place) ]) (sym (ne-eqb (s .long .whole) 0 some)))
 
-  pub passed-accepted : d ≡ 0 → s .long ≡ 0 → accepted (s .count) ≡ passedAnswer e s
+  pub passed-accepted : d ≡ 0 → s .long .whole ≡ 0 → accepted (s .count) ≡ passedAnswer e s
   unfolding passedAnswer
   passed-accepted none short =
       let test : eqb (formOf (opposite e) s .0) 0 ≡ true = eq-eqb _ _ (sym difference ∙ none) in
-      rw (passedAnswer, test) (ap (λ (b : Bool). elim b as (λ x. Answer) [ true ↦ accepted (s .count) | false ↦ refusal 10 (s .«long_at») ]) (sym (eq-eqb (s .long) 0 short)))
+      rw (passedAnswer, test) (ap (λ (b : Bool). elim b as (λ x. Answer) [ true ↦ accepted (s .count) | false ↦ refusal longCertReqId (s .long .place) ]) (sym (eq-eqb (s .long .whole) 0 short)))
 
 -- a number that is neither 1 nor 2 is no edition, and any other is one
 neither : (a b : Bool) → (not a && not b) ≡ true → (a || b) ≡ false
@@ -76,7 +79,7 @@ an-edition e range = go (eqb e 1) refl (eqb e 2) refl
 
 -- the answer by the order of the refusals
 module _ (e : ℕ) (s : List ℕ) where
-  pub no-edition : (not (eqb e 1) && not (eqb e 2)) ≡ true → refusal 13 0 ≡ answer e s
+  pub no-edition : (not (eqb e 1) && not (eqb e 2)) ≡ true → refusal unknownEdition 0 ≡ answer e s
   unfolding answer
   no-edition test = rw (answer, neither (eqb e 1) (eqb e 2) test)
 
@@ -92,7 +95,7 @@ module _ (e : ℕ) (s : List ℕ) where
         go true one = omega (arith, eqb-true e 1 one)
         go false more = omega (arith, eqb-true e 2 (rw more at edition))
 
-    pub too-long : longest < length s → refusal 1 0 ≡ answer e s
+    pub too-long : longest < length s → refusal tooLong 0 ≡ answer e s
     unfolding answer
     too-long over = rw (answer, edition, lt-leb _ _ over)
 
@@ -101,7 +104,7 @@ module _ (e : ℕ) (s : List ℕ) where
       unfolding answer
       nest-fault n p d is = rw (answer, edition, le-leb _ _ short, is)
 
-      pub bytes-after : (q : ℕ) → walkAt s 0 (length s) ≡ End q → q < length s → refusal 7 q ≡ answer e s
+      pub bytes-after : (q : ℕ) → walkAt s 0 (length s) ≡ End q → q < length s → refusal trailingBytes q ≡ answer e s
       unfolding answer
       bytes-after q is more = rw (answer, edition, le-leb _ _ short, is, lt-ltb q (length s) more)
 

@@ -10,12 +10,13 @@ use lib.Dec.{eqb}
 use lib.ListN.{length, take}
 use lib.Seq.{take-all}
 use borrow.Author.Tests.{le-leb, leb-true}
+use Rattle.der.specs.Refusal.{accepted as acceptance, longCertReqId}
 use Rattle.der.specs.Octets.{Octets}
 use Rattle.der.specs.Tree.{Tree, WellFormed, Single, encode}
-use Rattle.der.specs.Walk.{depth, longest}
+use Rattle.der.specs.Bounds.{depth, longest}
 use Rattle.der.specs.Reading.{tree}
 use Rattle.der.proofs.Laws.{walk-tree, exact, tree-encode}
-use Rattle.crmf.specs.declared.walk.Seen.{Seen}
+use Rattle.crmf.specs.declared.tally.Tally.{Tally}
 use Rattle.crmf.specs.declared.walk.Walked.{Walked}
 use Rattle.crmf.specs.declared.walk.Walked.the-variants.{Passed, Broken}
 use Rattle.crmf.specs.Notation.{Top}
@@ -24,39 +25,40 @@ use Rattle.crmf.specs.Language.{Matches}
 use Rattle.crmf.specs.Walk.{fresh}
 use Rattle.crmf.specs.Rows.{Row, width, batchRows, firstLong, allShort}
 use Rattle.crmf.specs.Fill.{fits, rowsOf}
-use Rattle.crmf.proofs.Laws.{Edition, first-edition, second-edition, accepts, rows-of, long-none, Holds, over-holds}
+use Rattle.crmf.proofs.Laws.{Edition, first-edition, second-edition, accepts, rows-of, long-none, Holds, over-holds, fits-room}
 use Rattle.editions.specs.declared.reader.Answer.{Answer}
 use Rattle.editions.specs.Membership.{InGrammar}
-use Rattle.editions.specs.Reading.{refusal, accepted, opposite, ownWalk, passes, eightOrNine, counted, batchAnswer, answer, readAnswer, tableAfter}
+use Rattle.editions.specs.Edition.{opposite}
+use Rattle.editions.specs.Reading.{refusal, accepted, ownWalk, passes, eightOrNine, counted, batchAnswer, answer, readAnswer, tableAfter}
 use Rattle.editions.proofs.Answers.{one-element}
 use Rattle.editions.proofs.OneElement.{OneElement, late-accepted, one-whole}
 use Rattle.editions.proofs.OneWalk.{goes-through}
 use Rattle.editions.proofs.Tables.{answer-counts, shown, with-room, shown-table}
 
 module _ (e : ℕ) (s : List ℕ) where
-  by-long : (b : Bool) → elim b as (λ x. Answer) [ true ↦ accepted (length (rowsOf s)) | false ↦ refusal 10 (firstLong (0, 0) (rowsOf s) .1) ] .number ≡ 0
+  by-long : (b : Bool) → elim b as (λ x. Answer) [ true ↦ accepted (length (rowsOf s)) | false ↦ refusal longCertReqId (firstLong (0, 0) (rowsOf s) .1) ] .number ≡ acceptance
       → b ≡ true
   by-long true zero = refl
   by-long false zero = absurd (omega arith)
 
-  by-stop : (p : ℕ) (b : Bool) → refusal (eightOrNine b) p .number ≡ 0 → ⊥
+  by-stop : (p : ℕ) (b : Bool) → refusal (eightOrNine b) p .number ≡ acceptance → ⊥
   by-stop p true zero = omega arith
   by-stop p false zero = omega arith
 
   by-walk : (w : Walked) → ownWalk e (tree 0 s) ≡ w → elim w as (λ x. Answer) [
     | Passed r ↦ counted (firstLong (0, 0) (rowsOf s)) (length (rowsOf s))
     | Broken p d r ↦ refusal (eightOrNine (passes (ownWalk (opposite e) (tree 0 s)))) p
-  ] .number ≡ 0 → (r : Seen) × ((ownWalk e (tree 0 s) ≡ Passed r) × (eqb (firstLong (0, 0) (rowsOf s) .0) 0 ≡ true))
+  ] .number ≡ acceptance → (r : Tally) × ((ownWalk e (tree 0 s) ≡ Passed r) × (eqb (firstLong (0, 0) (rowsOf s) .0) 0 ≡ true))
   by-walk (Passed r) is zero = (r, (is, by-long (eqb (firstLong (0, 0) (rowsOf s) .0) 0) zero))
   by-walk (Broken p d r) is zero = absurd (by-stop p (passes (ownWalk (opposite e) (tree 0 s))) zero)
 
   -- An answer of acceptance comes from a walk of the edition's own that passes, with no long certReqId among the rows.
-  pub batch-inverse : batchAnswer e s .number ≡ 0 → (r : Seen) × ((ownWalk e (tree 0 s) ≡ Passed r) × (eqb (firstLong (0, 0) (rowsOf s) .0) 0 ≡ true))
+  pub batch-inverse : batchAnswer e s .number ≡ acceptance → (r : Tally) × ((ownWalk e (tree 0 s) ≡ Passed r) × (eqb (firstLong (0, 0) (rowsOf s) .0) 0 ≡ true))
   unfolding batchAnswer
   batch-inverse zero = by-walk (ownWalk e (tree 0 s)) refl zero
 
 -- bytes that are one element over which an edition's own walk passes are in its grammar
-pub walk-in : {e f : ℕ} (s : List ℕ) → Octets s → OneElement f s → (r : Seen) → ownWalk e (tree 0 s) ≡ Passed r → InGrammar e s
+pub walk-in : {e f : ℕ} (s : List ℕ) → Octets s → OneElement f s → (r : Tally) → ownWalk e (tree 0 s) ≡ Passed r → InGrammar e s
 walk-in {e} s octets one r passed =
     let c = walk-tree s (one .end) octets (one .short) .0 (one .ends) in
     let all : take (one .end) s ≡ s = take-all (one .end) s (one .last) in
@@ -105,11 +107,11 @@ module _ {e : ℕ} (s : List ℕ) (g : InGrammar e s) where
   in-accepted ed octets fit =
       let clear : eqb (firstLong (0, 0) (rowsOf s) .0) 0 ≡ true = long-none (rowsOf s) ∙ ap allShort nest-rows ∙ fit in
       in-counted ed octets
-      ∙ ap (λ (b : Bool). elim b as (λ x. Answer) [ true ↦ accepted (length (rowsOf s)) | false ↦ refusal 10 (firstLong (0, 0) (rowsOf s) .1) ]) clear
+      ∙ ap (λ (b : Bool). elim b as (λ x. Answer) [ true ↦ accepted (length (rowsOf s)) | false ↦ refusal longCertReqId (firstLong (0, 0) (rowsOf s) .1) ]) clear
       ∙ ap (λ (rs : List Row). accepted (length rs)) nest-rows
 
 -- What is accepted is in the grammar, and every certReqId fits.
-pub accepted-in : (e : ℕ) (s : List ℕ) → Octets s → answer e s .number ≡ 0 → (g : InGrammar e s) × (allShort (batchRows (g .batch)) ≡ true)
+pub accepted-in : (e : ℕ) (s : List ℕ) → Octets s → answer e s .number ≡ acceptance → (g : InGrammar e s) × (allShort (batchRows (g .batch)) ≡ true)
 accepted-in e s octets zero =
     let one = one-whole e s octets (late-accepted zero) in
     let (r, (passed, fit)) = batch-inverse e s (ap (λ (a : Answer). a .number) (sym (one .same)) ∙ zero) in
@@ -118,7 +120,7 @@ accepted-in e s octets zero =
 
 -- Acceptance without a table, exactly: in the edition's grammar, with every certReqId of at most 8 octets.
 pub accepted-exactly : {e : ℕ} → Edition e → (s : List ℕ) → Octets s
-    → (answer e s .number ≡ 0) ↔ ((g : InGrammar e s) × (allShort (batchRows (g .batch)) ≡ true))
+    → (answer e s .number ≡ acceptance) ↔ ((g : InGrammar e s) × (allShort (batchRows (g .batch)) ≡ true))
 accepted-exactly {e} ed s octets =
     (accepted-in e s octets, λ h. ap (λ (a : Answer). a .number) (in-accepted s (h .0) ed octets (h .1)))
 
@@ -128,33 +130,33 @@ one-nest s g h = sym (nest-read s g) ∙ nest-read s h
 
 module _ {e : ℕ} (s old : List ℕ) (octets : Octets s) where
   -- Reading accepts exactly that, given room for the rows.
-  pub read-exactly : Edition e → (readAnswer e s old .number ≡ 0)
+  pub read-exactly : Edition e → (readAnswer e s old .number ≡ acceptance)
       ↔ ((g : InGrammar e s) × (allShort (batchRows (g .batch)) ≡ true) × (width * length (batchRows (g .batch)) ≤ length old))
   read-exactly ed = (there, back)
     where
-      there : readAnswer e s old .number ≡ 0
+      there : readAnswer e s old .number ≡ acceptance
           → (g : InGrammar e s) × (allShort (batchRows (g .batch)) ≡ true) × (width * length (batchRows (g .batch)) ≤ length old)
       there zero =
           let found = shown e s old zero in
           let (g, fit) = accepted-in e s octets (found .zero) in
           let count = ap (λ (a : Answer). a .count) (in-accepted s g ed octets fit) in
-          (g, fit, omega (arith, leb-true (width * answer e s .count) (length old) (found .room)))
+          (g, fit, omega (arith, leb-true (width * answer e s .count) (length old) (sym (fits-room (answer e s .count) old) ∙ found .room)))
 
       back : (g : InGrammar e s) × (allShort (batchRows (g .batch)) ≡ true) × (width * length (batchRows (g .batch)) ≤ length old)
-          → readAnswer e s old .number ≡ 0
+          → readAnswer e s old .number ≡ acceptance
       back (g, fit, room) =
           let is = in-accepted s g ed octets fit in
           let zero = ap (λ (a : Answer). a .number) is in
-          let enough : fits (answer e s .count) old ≡ true = ap (λ (a : Answer). fits (a .count) old) is ∙ le-leb _ _ room in
+          let enough : fits (answer e s .count) old ≡ true = ap (λ (a : Answer). fits (a .count) old) is ∙ fits-room _ old ∙ le-leb _ _ room in
           ap (λ (a : Answer). a .number) (with-room e s old zero enough) ∙ zero
 
   -- The table then holds the rows of that tree, as many as the count says, and its other numbers are as they were.
-  pub rows-shown : readAnswer e s old .number ≡ 0 → (g : InGrammar e s)
+  pub rows-shown : readAnswer e s old .number ≡ acceptance → (g : InGrammar e s)
       → Holds (batchRows (g .batch)) (readAnswer e s old .count) old (tableAfter e s old)
   rows-shown zero g =
       let found = shown e s old zero in
       let count : readAnswer e s old .count ≡ length (rowsOf s) =
       ap (λ (a : Answer). a .count) (found .same) ∙ answer-counts e s octets (found .zero) in
       let room : width * length (rowsOf s) ≤ length old =
-      omega (arith, leb-true (width * answer e s .count) (length old) (found .room), answer-counts e s octets (found .zero)) in
+      omega (arith, leb-true (width * answer e s .count) (length old) (sym (fits-room (answer e s .count) old) ∙ found .room), answer-counts e s octets (found .zero)) in
       rw (← nest-rows s g, count, shown-table e s old zero) (over-holds old (rowsOf s) room)

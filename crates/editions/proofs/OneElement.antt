@@ -7,10 +7,11 @@ use mathlib.Core.List.{List}
 use lib.Dec.{eqb, ltb, leb}
 use lib.ListN.{length}
 use borrow.Author.Tests.{ltb-true, ltb-false, leb-true, leb-false}
-use Rattle.der.specs.declared.walk.Nest.{Nest}
-use Rattle.der.specs.declared.walk.Nest.the-variants.{End, Fault}
+use Rattle.der.specs.declared.explain.Nest.{Nest}
+use Rattle.der.specs.declared.explain.Nest.the-variants.{End, Fault}
 use Rattle.der.specs.Octets.{Octets}
-use Rattle.der.specs.Walk.{longest, walkAt}
+use Rattle.der.specs.Bounds.{longest}
+use Rattle.der.specs.Explain.{walkAt}
 use Rattle.der.proofs.Laws.{fault-number}
 use Rattle.crmf.proofs.Laws.{Edition}
 use Rattle.editions.specs.declared.reader.Answer.{Answer}

@@ -9,9 +9,9 @@ use lib.ListN.{length}
 use borrow.Author.Tests.{eqb-true, eqb-false}
 use native.Mathlib.Omega.{arith}
 use Rattle.der.specs.Tree.{Tree}
-use Rattle.der.specs.Walk.{longest}
+use Rattle.der.specs.Bounds.{longest}
 use Rattle.der.specs.Reading.{tree}
-use Rattle.crmf.specs.declared.walk.Seen.{Seen}
+use Rattle.crmf.specs.declared.tally.Tally.{Tally}
 use Rattle.crmf.specs.declared.walk.Walked.{Walked}
 use Rattle.crmf.specs.declared.walk.Walked.the-variants.{Passed, Broken}
 use Rattle.crmf.specs.Notation.{Top}
@@ -20,8 +20,9 @@ use Rattle.crmf.specs.Walk.{walk, every, fresh, countOf}
 use Rattle.crmf.specs.Walk as lines
 use Rattle.crmf.specs.Rows.{firstLong}
 use Rattle.crmf.specs.Fill.{rowsOf}
-use Rattle.crmf.proofs.Laws.{Edition, first-edition, second-edition, isPassed, foreign, own-alike, own-stops, own-passes, walk-passes, seenOf, count-whole, whole-count, whole-long}
-use Rattle.editions.specs.Reading.{refusal, opposite, ownWalk, passes, eightOrNine, counted, batchAnswer}
+use Rattle.crmf.proofs.Laws.{Edition, first-edition, second-edition, isPassed, foreign, own-alike, own-stops, own-passes, walk-passes, seenOf, count-whole, whole-count, whole-long, none-met}
+use Rattle.editions.specs.Edition.{opposite}
+use Rattle.editions.specs.Reading.{refusal, ownWalk, passes, eightOrNine, counted, batchAnswer}
 use Rattle.editions.specs.Steps.{formOf, stopNumber, passedAnswer, brokenAnswer}
 
 -- a number from 1 to 2 is an edition
@@ -40,11 +41,6 @@ pub back : {e : ℕ} → Edition e → opposite (opposite e) ≡ e
 back first-edition = refl
 back second-edition = refl
 
--- at first no form was met
-none-met : {e : ℕ} → Edition e → formOf (opposite e) fresh .0 ≡ 0
-none-met first-edition = refl
-none-met second-edition = refl
-
 -- the opposite is an edition
 pub other-edition : {e : ℕ} → Edition e → Edition (opposite e)
 other-edition first-edition = second-edition
@@ -56,13 +52,13 @@ passes-alike (Passed r) = refl
 passes-alike (Broken p d r) = refl
 
 -- 9 or 8 where this edition's own walk stops, by whether the opposite edition's passes
-pub stops-at : (e q d : ℕ) (r : Seen) (s : List ℕ) (n : ℕ) → ownWalk e (tree 0 s) ≡ Broken q d r
+pub stops-at : (e q d : ℕ) (r : Tally) (s : List ℕ) (n : ℕ) → ownWalk e (tree 0 s) ≡ Broken q d r
     → eightOrNine (passes (ownWalk (opposite e) (tree 0 s))) ≡ n → refusal n q ≡ batchAnswer e s
 unfolding batchAnswer
 stops-at e q d r s n own number = rw (batchAnswer, own, number)
 
 -- 10 or acceptance where it passes
-pub goes-through : (e : ℕ) (r : Seen) (s : List ℕ) → ownWalk e (tree 0 s) ≡ Passed r
+pub goes-through : (e : ℕ) (r : Tally) (s : List ℕ) → ownWalk e (tree 0 s) ≡ Passed r
     → batchAnswer e s ≡ counted (firstLong (0, 0) (rowsOf s)) (length (rowsOf s))
 unfolding batchAnswer
 goes-through e r s own = rw (batchAnswer, own)
@@ -81,11 +77,11 @@ module _ {e : ℕ} (ed : Edition e) (s : List ℕ) (short : length s ≤ longest
 
   -- with one it stops at the first
   own-stop : eqb (formOf (opposite e) (seenOf w) .0) 0 ≡ false
-      → (d : ℕ) × ((r : Seen) × (ownWalk e t ≡ Broken (formOf (opposite e) (seenOf w) .1) d r))
+      → (d : ℕ) × ((r : Tally) × (ownWalk e t ≡ Broken (formOf (opposite e) (seenOf w) .1) d r))
   own-stop some =
       let (r, stops) =
       own-stops ed fresh (start Top) 0 t (none-met ed) (λ z. eqb-false _ _ some (sym (ap (λ (v : Walked). foreign e v .0) walked) ∙ z)) in
-      subst (λ (v : Walked). (d : ℕ) × ((r : Seen) × (ownWalk e t ≡ Broken (foreign e v .1) d r))) walked (_, (r, stops))
+      subst (λ (v : Walked). (d : ℕ) × ((r : Tally) × (ownWalk e t ≡ Broken (foreign e v .1) d r))) walked (_, (r, stops))
 
   -- the opposite edition's walk passes where the whole walk does and has met none of this edition's own forms
   opposite-passes : passes (ownWalk (opposite e) t) ≡ (isPassed w && eqb (formOf e (seenOf w) .0) 0)
@@ -99,7 +95,7 @@ module _ {e : ℕ} (ed : Edition e) (s : List ℕ) (short : length s ≤ longest
   stop-number = ap eightOrNine opposite-passes
 
 module _ {e : ℕ} (ed : Edition e) (s : List ℕ) (short : length s ≤ longest) where
-  pub batch-passed : (r : Seen) → countOf s ≡ Passed r → passedAnswer e r ≡ batchAnswer e s
+  pub batch-passed : (r : Tally) → countOf s ≡ Passed r → passedAnswer e r ≡ batchAnswer e s
   unfolding passedAnswer batchAnswer
   batch-passed r is = go (eqb (formOf (opposite e) r .0) 0) refl
     where
@@ -112,7 +108,7 @@ module _ {e : ℕ} (ed : Edition e) (s : List ℕ) (short : length s ≤ longest
           rw (passedAnswer, some)
           (stops-at e (formOf (opposite e) r .1) d q s (stopNumber (formOf e r .0)) stops (stop-number ed s short (Passed r) is))
 
-  pub batch-broken : (p d : ℕ) (r : Seen) → countOf s ≡ Broken p d r → brokenAnswer e p r ≡ batchAnswer e s
+  pub batch-broken : (p d : ℕ) (r : Tally) → countOf s ≡ Broken p d r → brokenAnswer e p r ≡ batchAnswer e s
   unfolding brokenAnswer
   batch-broken p d r is = go (eqb (formOf (opposite e) r .0) 0) refl
     where

@@ -7,6 +7,7 @@ use mathlib.Core.List.{List}
 use lib.Dec.{eqb}
 use lib.ListN.{length}
 use borrow.Author.Tests.{eqb-true, eqb-false, eq-eqb, ne-eqb}
+use Rattle.der.specs.Refusal.{accepted as acceptance, longCertReqId, noRoom}
 use Rattle.der.specs.Octets.{Octets}
 use Rattle.der.specs.Reading.{tree}
 use Rattle.crmf.specs.declared.walk.Walked.{Walked}
@@ -15,17 +16,18 @@ use Rattle.crmf.specs.Rows.{numbers, firstLong}
 use Rattle.crmf.specs.Fill.{over, fits, rowsOf, filled}
 use Rattle.crmf.proofs.Laws.{filled-whole, filled-short}
 use Rattle.editions.specs.declared.reader.Answer.{Answer}
-use Rattle.editions.specs.Reading.{refusal, accepted, opposite, ownWalk, passes, eightOrNine, counted, batchAnswer, answer, readAnswer, tableAfter}
+use Rattle.editions.specs.Edition.{opposite}
+use Rattle.editions.specs.Reading.{refusal, accepted, ownWalk, passes, eightOrNine, counted, batchAnswer, answer, readAnswer, tableAfter}
 use Rattle.editions.proofs.OneElement.{late-accepted, one-whole}
 
 -- where an answer's number is 0, its count is the number of rows
 abbrev pub Counts : ℕ → Answer → Type 0
-Counts n a = a .number ≡ 0 → a .count ≡ n
+Counts n a = a .number ≡ acceptance → a .count ≡ n
 
 counted-counts : (long : ℕ × ℕ) (n : ℕ) → Counts n (counted long n)
 counted-counts long n = go (eqb (long .0) 0)
   where
-    go : (b : Bool) → Counts n (elim b as (λ x. Answer) [ true ↦ accepted n | false ↦ refusal 10 (long .1) ])
+    go : (b : Bool) → Counts n (elim b as (λ x. Answer) [ true ↦ accepted n | false ↦ refusal longCertReqId (long .1) ])
     go true zero = refl
     go false zero = absurd (omega arith)
 
@@ -55,23 +57,23 @@ answer-counts e s octets zero =
 
 module _ (e : ℕ) (s old : List ℕ) (a : Answer) (found : a ≡ answer e s) where
   -- a refusal stays, and so does the table
-  pub read-refused : (a .number ≡ 0 → ⊥) → (a ≡ readAnswer e s old) × (old ≡ tableAfter e s old)
+  pub read-refused : (a .number ≡ acceptance → ⊥) → (a ≡ readAnswer e s old) × (old ≡ tableAfter e s old)
   unfolding readAnswer tableAfter
   read-refused some =
       let test : eqb (answer e s .number) 0 ≡ false = ne-eqb _ _ (λ z. some (ap (λ (x : Answer). x .number) found ∙ z)) in
       let same : readAnswer e s old ≡ answer e s = rw (readAnswer, test) in
       (found ∙ sym same, rw (tableAfter, same, test))
 
-  module _ (zero : a .number ≡ 0) where
+  module _ (zero : a .number ≡ acceptance) where
     accepting : eqb (answer e s .number) 0 ≡ true
     accepting = eq-eqb _ _ (ap (λ (x : Answer). x .number) (sym found) ∙ zero)
 
     -- with no room the answer is 11, and the table stays
-    pub read-short : fits (a .count) old ≡ false → (refusal 11 0 ≡ readAnswer e s old) × (filled s (a .count) old ≡ tableAfter e s old)
+    pub read-short : fits (a .count) old ≡ false → (refusal noRoom 0 ≡ readAnswer e s old) × (filled s (a .count) old ≡ tableAfter e s old)
     unfolding readAnswer tableAfter
     read-short few =
         let room : fits (answer e s .count) old ≡ false = ap (λ (x : Answer). fits (x .count) old) (sym found) ∙ few in
-        let same : readAnswer e s old ≡ refusal 11 0 = rw (readAnswer, accepting, room) in
+        let same : readAnswer e s old ≡ refusal noRoom 0 = rw (readAnswer, accepting, room) in
         (sym same, filled-short s (a .count) old few ∙ rw (tableAfter, same))
 
     -- with room the rows are written
@@ -87,12 +89,12 @@ module _ (e : ℕ) (s old : List ℕ) (a : Answer) (found : a ≡ answer e s) wh
 
 -- What a reading that is accepted comes from: the answer without a table, and room for its rows.
 pub record Shown (e : ℕ) (s old : List ℕ) : Type 0 where
-  pub zero : answer e s .number ≡ 0
+  pub zero : answer e s .number ≡ acceptance
   pub same : readAnswer e s old ≡ answer e s
   pub room : fits (answer e s .count) old ≡ true
 
 module _ (e : ℕ) (s old : List ℕ) where
-  pub shown : readAnswer e s old .number ≡ 0 → Shown e s old
+  pub shown : readAnswer e s old .number ≡ acceptance → Shown e s old
   unfolding readAnswer
   shown zero = by-number (eqb (answer e s .number) 0) refl
     where
@@ -106,16 +108,16 @@ module _ (e : ℕ) (s old : List ℕ) where
       by-number false some = absurd (eqb-false _ _ some (rw (readAnswer, some) at zero))
 
   -- with room the answer is the one without a table
-  pub with-room : answer e s .number ≡ 0 → fits (answer e s .count) old ≡ true → readAnswer e s old ≡ answer e s
+  pub with-room : answer e s .number ≡ acceptance → fits (answer e s .count) old ≡ true → readAnswer e s old ≡ answer e s
   unfolding readAnswer
   with-room zero enough = rw (readAnswer, eq-eqb _ _ zero, enough)
 
   -- and so it is where it is a refusal
-  pub read-alike : (answer e s .number ≡ 0 → ⊥) → readAnswer e s old ≡ answer e s
+  pub read-alike : (answer e s .number ≡ acceptance → ⊥) → readAnswer e s old ≡ answer e s
   read-alike some = sym (read-refused e s old (answer e s) refl some .0)
 
   -- an answer that is neither acceptance nor 11 is the one without a table
-  pub not-short : (readAnswer e s old .number ≡ 0 → ⊥) → (readAnswer e s old .number ≡ 11 → ⊥) → readAnswer e s old ≡ answer e s
+  pub not-short : (readAnswer e s old .number ≡ acceptance → ⊥) → (readAnswer e s old .number ≡ 11 → ⊥) → readAnswer e s old ≡ answer e s
   unfolding readAnswer
   not-short some enough = by-number (eqb (answer e s .number) 0) refl
     where
@@ -128,6 +130,6 @@ module _ (e : ℕ) (s old : List ℕ) where
       by-number false is = read-alike (eqb-false _ _ is)
 
   -- the table then has the rows written over it
-  pub shown-table : readAnswer e s old .number ≡ 0 → tableAfter e s old ≡ over old 0 (numbers (rowsOf s))
+  pub shown-table : readAnswer e s old .number ≡ acceptance → tableAfter e s old ≡ over old 0 (numbers (rowsOf s))
   unfolding tableAfter
   shown-table zero = rw (tableAfter, eq-eqb _ _ zero)

@@ -6,7 +6,7 @@ use mathlib.Core.List.{List, List·Memᴰ}
 use lib.Dec.{eqb}
 use lib.ListN.{length}
 use Rattle.der.specs.Tree.{Tree, WellFormed, Single, encode}
-use Rattle.der.specs.Walk.{depth, longest}
+use Rattle.der.specs.Bounds.{depth, longest}
 use Rattle.crmf.specs.Notation.{Top}
 use Rattle.crmf.specs.Grammar.{content}
 use Rattle.crmf.specs.Language.{Matches, Occurrence, occurrences}

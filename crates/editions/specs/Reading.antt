@@ -1,12 +1,14 @@
 -- Reading a batch in an edition: the answer and the table for every input, in document 01's order of refusals. Assumes nothing.
-use Prim.Native.Nat.{ℕ, _-_}
+use Prim.Native.Nat.{ℕ}
 use mathlib.Core.Bool.{Bool, true, false, _||_}
 use mathlib.Core.List.{List}
 use lib.Dec.{eqb, ltb, leb}
 use lib.ListN.{length}
-use Rattle.der.specs.declared.walk.Nest.the-variants.{End, Fault}
+use Rattle.der.specs.Refusal.{accepted as acceptance, tooLong, trailingBytes, notInGrammar, otherEdition, longCertReqId, noRoom, unknownEdition}
+use Rattle.der.specs.declared.explain.Nest.the-variants.{End, Fault}
 use Rattle.der.specs.Tree.{Tree}
-use Rattle.der.specs.Walk.{longest, walkAt}
+use Rattle.der.specs.Bounds.{longest}
+use Rattle.der.specs.Explain.{walkAt}
 use Rattle.der.specs.Reading.{tree}
 use Rattle.crmf.specs.declared.walk.Walked.{Walked}
 use Rattle.crmf.specs.declared.walk.Walked.the-variants.{Passed, Broken}
@@ -16,6 +18,7 @@ use Rattle.crmf.specs.Walk.{walk, fresh}
 use Rattle.crmf.specs.Rows.{numbers, firstLong}
 use Rattle.crmf.specs.Fill.{over, fits, rowsOf}
 use Rattle.editions.specs.declared.reader.Answer.{Answer}
+use Rattle.editions.specs.Edition.{rfc2511, rfc4211, opposite}
 
 -- "Refusals return their number and place, a count of 0"
 abbrev pub refusal : ℕ → ℕ → Answer
@@ -23,11 +26,7 @@ refusal n p = record { number = n; place = p; count = 0 }
 
 -- "0: accepted, with the row count"
 abbrev pub accepted : ℕ → Answer
-accepted n = record { number = 0; place = 0; count = n }
-
--- the opposite edition
-abbrev pub opposite : ℕ → ℕ
-opposite e = 3 - e
+accepted n = record { number = acceptance; place = 0; count = n }
 
 -- "this edition's walk, parts left to right, insides first"
 abbrev pub ownWalk : ℕ → Tree → Walked
@@ -40,7 +39,7 @@ passes (Broken p d r) = false
 
 -- "8: not in the grammar of either edition", "9: not in this edition's grammar, but in the other's"
 abbrev pub eightOrNine : Bool → ℕ
-eightOrNine other = elim other [ true ↦ 9 | false ↦ 8 ]
+eightOrNine other = elim other [ true ↦ otherEdition | false ↦ notInGrammar ]
 
 -- both stand where this edition's walk stops, which for 9 is the first difference
 abbrev pub stopped : ℕ → ℕ → Tree → Answer
@@ -48,7 +47,7 @@ stopped e p t = refusal (eightOrNine (passes (ownWalk (opposite e) t))) p
 
 -- "10: a certReqId of more than 8 content octets", by the first such (its whole length, 0: none, and its place); or else acceptance
 abbrev pub counted : ℕ × ℕ → ℕ → Answer
-counted long n = elim (eqb (long .0) 0) [ true ↦ accepted n | false ↦ refusal 10 (long .1) ]
+counted long n = elim (eqb (long .0) 0) [ true ↦ accepted n | false ↦ refusal longCertReqId (long .1) ]
 
 -- 8 or 9, 10 or acceptance, of bytes that are one element
 unfoldable pub batchAnswer : ℕ → List ℕ → Answer
@@ -57,13 +56,13 @@ batchAnswer e s = elim (ownWalk e (tree 0 s)) [ Passed r ↦ counted (firstLong 
 -- "Order for reading: 13, 1, then 2 to 6 over the whole nest, 7, 8 or 9, 10"
 unfoldable pub answer : ℕ → List ℕ → Answer
 answer e s =
-    elim (eqb e 1 || eqb e 2) [
-      | false ↦ refusal 13 0
+    elim (eqb e rfc2511 || eqb e rfc4211) [
+      | false ↦ refusal unknownEdition 0
       | true ↦ elim (leb (length s) longest) [
-        | false ↦ refusal 1 0
+        | false ↦ refusal tooLong 0
         | true ↦ elim (walkAt s 0 (length s)) [
           | Fault n p d ↦ refusal n p
-          | End q ↦ elim (ltb q (length s)) [ true ↦ refusal 7 q | false ↦ batchAnswer e s ]
+          | End q ↦ elim (ltb q (length s)) [ true ↦ refusal trailingBytes q | false ↦ batchAnswer e s ]
         ]
       ]
     ]
@@ -72,8 +71,8 @@ answer e s =
 unfoldable pub readAnswer : ℕ → List ℕ → List ℕ → Answer
 readAnswer e s old =
     let a = answer e s in
-    elim (eqb (a .number) 0) [ false ↦ a | true ↦ elim (fits (a .count) old) [ true ↦ a | false ↦ refusal 11 0 ] ]
+    elim (eqb (a .number) acceptance) [ false ↦ a | true ↦ elim (fits (a .count) old) [ true ↦ a | false ↦ refusal noRoom 0 ] ]
 
 -- "An accepted reading changes the table's first 4 times count numbers and no others", and a refusal none
 unfoldable pub tableAfter : ℕ → List ℕ → List ℕ → List ℕ
-tableAfter e s old = elim (eqb (readAnswer e s old .number) 0) [ true ↦ over old 0 (numbers (rowsOf s)) | false ↦ old ]
+tableAfter e s old = elim (eqb (readAnswer e s old .number) acceptance) [ true ↦ over old 0 (numbers (rowsOf s)) | false ↦ old ]

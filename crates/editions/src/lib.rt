@@ -1,2 +1,3 @@
 // The readers of the two editions.
+pub mod edition;
 pub mod reader;

@@ -1,17 +1,31 @@
 // Reading a batch in an edition: document 01's answer, and the rows in a lent table.
-use crmf::walk::Seen;
+use crate::edition::BOTH;
+use crate::edition::RFC2511;
+use crate::edition::RFC4211;
+use crmf::quick::Recognition;
+use crmf::tally::Difference;
+use crmf::tally::Tally;
 use crmf::walk::Walked;
-use der::walk::Nest;
+use der::refusal::ACCEPTED;
+use der::refusal::LONG_CERT_REQ_ID;
+use der::refusal::NO_ROOM;
+use der::refusal::NOT_IN_GRAMMAR;
+use der::refusal::OTHER_EDITION;
+use der::refusal::TOO_LONG;
+use der::refusal::TRAILING_BYTES;
+use der::refusal::UNKNOWN_EDITION;
+use der::explain::Nest;
 ghost use Prim.Native.Nat.{ℕ, _≤_};
 ghost use mathlib.Core.Path.{_≡_};
 ghost use mathlib.Core.Bool.{_&&_, not};
 ghost use lib.Dec.{eqb};
 ghost use lib.ListN.{length};
-ghost use Rattle.der.specs.Walk.{longest};
+ghost use Rattle.der.specs.Bounds.{longest};
+ghost use Rattle.editions.specs.Edition.{rfc2511, rfc4211};
 ghost use Rattle.editions.specs.Reading.{refusal, accepted, batchAnswer, answer, readAnswer, tableAfter};
 ghost use Rattle.editions.specs.Steps.{formOf, stopNumber, passedAnswer, brokenAnswer, shownAnswer};
 
-// What a call answers: document 01's number (0: accepted), its place, and the count of rows. C is handed it as it is.
+// What a call answers: document 01's number (`der::refusal`), its place, and the count of rows. C is handed it as it is.
 #[repr(C)]
 pub struct Answer {
     pub number: usize,
@@ -25,55 +39,53 @@ pub fn read(edition: usize, bytes: &[u8], table: &mut [usize]) -> Answer
         × (now (table .exit) ≡ tableAfter edition (now (bytes .entry)) (now (table .entry))) ⌝ }
 {
     if is_none(edition) {
-        return refuse(13, 0);
+        return refuse(UNKNOWN_EDITION, 0);
     }
-    let rows = crmf::quick::read(edition, bytes, table);
-    if rows != 0 {
-        return shown(rows - 1, table.len());
+    match crmf::quick::read(edition, bytes, table) {
+        Recognition::Rows(count) => shown(count, table.len()),
+        Recognition::Unrecognised => exact(edition, bytes),
     }
-    exact(edition, bytes)
 }
 
-// The answer for so many rows, in a table of a length that holds them if it can.
+// The answer for a batch with this many rows, in a table of this length, which holds them if it can.
 fn shown(count: usize, room: usize) -> Answer
     ensures { λ r. ⌜ r ≡ shownAnswer count room ⌝ }
 {
     if room / crmf::fill::WIDTH < count {
-        return refuse(11, 0);
+        return refuse(NO_ROOM, 0);
     }
     admit(count)
 }
 
-// Judges a batch in an edition: the same answer without a table, so without 11.
+// Judges a batch in an edition: the same answer without a table, so never NO_ROOM.
 pub fn accept(edition: usize, bytes: &[u8]) -> Answer
     ensures { λ r. ⌜ r ≡ answer edition (now (bytes .entry)) ⌝ }
 {
     if is_none(edition) {
-        return refuse(13, 0);
+        return refuse(UNKNOWN_EDITION, 0);
     }
-    let rows = crmf::quick::count(edition, bytes);
-    if rows != 0 {
-        return admit(rows - 1);
+    match crmf::quick::count(edition, bytes) {
+        Recognition::Rows(count) => admit(count),
+        Recognition::Unrecognised => exact(edition, bytes),
     }
-    exact(edition, bytes)
 }
 
-// Whether a number is none of the two editions.
+// Whether a number is neither edition.
 fn is_none(edition: usize) -> bool
-    ensures { λ r. ⌜ r ≡ (not (eqb edition 1) && not (eqb edition 2)) ⌝ }
+    ensures { λ r. ⌜ r ≡ (not (eqb edition rfc2511) && not (eqb edition rfc4211)) ⌝ }
 {
-    (edition != 1) & (edition != 2)
+    (edition != RFC2511) & (edition != RFC4211)
 }
 
-// The answer in one of the two editions, by one look after the other: at the length, the nest, and the grammar.
+// The answer in one of the two editions: the length is judged first, then the nest, then the grammar.
 fn exact(edition: usize, bytes: &[u8]) -> Answer
-    requires { ⌜ (1 ≤ edition) × (edition ≤ 2) ⌝ }
+    requires { ⌜ (rfc2511 ≤ edition) × (edition ≤ rfc4211) ⌝ }
     ensures { λ r. ⌜ r ≡ answer edition (now (bytes .entry)) ⌝ }
 {
-    if der::input::LONGEST < bytes.len() {
-        return refuse(1, 0);
+    if der::bounds::LONGEST < bytes.len() {
+        return refuse(TOO_LONG, 0);
     }
-    match der::walk::walk(bytes, 0, bytes.len()) {
+    match der::explain::explain(bytes, 0, bytes.len()) {
         Nest::Fault {
             number,
             place,
@@ -81,83 +93,76 @@ fn exact(edition: usize, bytes: &[u8]) -> Answer
         } => refuse(number, place),
         Nest::End(end) => {
             if end < bytes.len() {
-                return refuse(7, end);
+                return refuse(TRAILING_BYTES, end);
             }
             batch(edition, bytes)
         }
     }
 }
 
-// The answer where the bytes are one element and nothing behind it.
+// The answer where the bytes are one element and nothing after it.
 fn batch(edition: usize, bytes: &[u8]) -> Answer
-    requires { ⌜ (1 ≤ edition) × (edition ≤ 2) × (length (now bytes) ≤ longest) ⌝ }
+    requires { ⌜ (rfc2511 ≤ edition) × (edition ≤ rfc4211) × (length (now bytes) ≤ longest) ⌝ }
     ensures { λ r. ⌜ r ≡ batchAnswer edition (now (bytes .entry)) ⌝ }
 {
     match crmf::walk::count(bytes) {
-        Walked::Passed(seen) => passed(edition, seen),
+        Walked::Passed(tally) => passed(edition, tally),
         Walked::Broken {
             place,
             detail,
-            seen,
-        } => broken(edition, place, seen),
+            tally,
+        } => broken(edition, place, tally),
     }
 }
 
 // The answer where the walk that reads every form passes.
-fn passed(edition: usize, seen: Seen) -> Answer
-    requires { ⌜ edition ≤ 2 ⌝ }
-    ensures { λ r. ⌜ r ≡ passedAnswer edition seen ⌝ }
+fn passed(edition: usize, tally: Tally) -> Answer
+    requires { ⌜ edition ≤ rfc4211 ⌝ }
+    ensures { λ r. ⌜ r ≡ passedAnswer edition tally ⌝ }
 {
-    let foreign = first_form(3 - edition, seen);
-    if foreign.difference != 0 {
-        let own = first_form(edition, seen);
-        return refuse(stop_number(own.difference), foreign.place);
+    let foreign = first_form(BOTH - edition, tally);
+    if foreign.number != 0 {
+        let own = first_form(edition, tally);
+        return refuse(stop_number(own.number), foreign.place);
     }
-    if seen.long != 0 {
-        return refuse(10, seen.long_at);
+    if tally.long.whole != 0 {
+        return refuse(LONG_CERT_REQ_ID, tally.long.place);
     }
-    admit(seen.count)
+    admit(tally.count)
 }
 
-// The number where a form of the opposite edition stands in what is else a batch, by the difference of this edition's own that was met.
+// The number where a form of the opposite edition stands in what is otherwise a batch: it depends on whether a form of this edition alone
+// was met, by the number of its difference (0: none).
 fn stop_number(own: usize) -> usize
     ensures { λ r. ⌜ r ≡ stopNumber own ⌝ }
 {
-    if own == 0 { 9 } else { 8 }
+    if own == 0 {
+        OTHER_EDITION
+    } else {
+        NOT_IN_GRAMMAR
+    }
 }
 
 // The answer where the walk that reads every form breaks at a place: a form that the edition doesn't read may stand before it.
-fn broken(edition: usize, place: usize, seen: Seen) -> Answer
-    requires { ⌜ edition ≤ 2 ⌝ }
-    ensures { λ r. ⌜ r ≡ brokenAnswer edition place seen ⌝ }
+fn broken(edition: usize, place: usize, tally: Tally) -> Answer
+    requires { ⌜ edition ≤ rfc4211 ⌝ }
+    ensures { λ r. ⌜ r ≡ brokenAnswer edition place tally ⌝ }
 {
-    let foreign = first_form(3 - edition, seen);
-    if foreign.difference != 0 {
-        return refuse(8, foreign.place);
+    let foreign = first_form(BOTH - edition, tally);
+    if foreign.number != 0 {
+        return refuse(NOT_IN_GRAMMAR, foreign.place);
     }
-    refuse(8, place)
+    refuse(NOT_IN_GRAMMAR, place)
 }
 
-// The first form of an edition alone that was met: its difference's number (0: none) and its place.
-struct Form {
-    difference: usize,
-    place: usize,
-}
-
-// Of what was met, the first form of an edition alone.
-fn first_form(edition: usize, seen: Seen) -> Form
-    ensures { λ r. ⌜ (r .difference ≡ formOf edition seen .0) × (r .place ≡ formOf edition seen .1) ⌝ }
+// Of the tally, the first form of an edition alone.
+fn first_form(edition: usize, tally: Tally) -> Difference
+    ensures { λ r. ⌜ (r .number ≡ formOf edition tally .0) × (r .place ≡ formOf edition tally .1) ⌝ }
 {
-    if edition == 1 {
-        return Form {
-            difference: seen.one,
-            place: seen.one_at,
-        };
+    if edition == RFC2511 {
+        return tally.one;
     }
-    Form {
-        difference: seen.two,
-        place: seen.two_at,
-    }
+    tally.two
 }
 
 // An acceptance's answer.
@@ -165,7 +170,7 @@ fn admit(count: usize) -> Answer
     ensures { λ r. ⌜ r ≡ accepted count ⌝ }
 {
     Answer {
-        number: 0,
+        number: ACCEPTED,
         place: 0,
         count,
     }

@@ -4,18 +4,19 @@ use mathlib.Core.Path.{_≡_}
 use mathlib.Core.List.{List}
 use lib.ListN.{length}
 use borrow.Author.Tests.{eq-eqb, ne-eqb, lt-ltb, le-ltb}
+use Rattle.der.specs.Refusal.{accepted, noSuchMessage}
 use Rattle.der.specs.Reading.{tree}
 use Rattle.crmf.specs.Messages.{messages}
 use Rattle.editions.specs.Reading.{answer}
 use Rattle.verdict.specs.Verdict.{refused, judged, messageAt, verdictAnswer}
 
 module _ (e : ℕ) (s : List ℕ) (position : ℕ) where
-  pub answer-refused : (answer e s .number ≡ 0 → ⊥) → refused (answer e s .number) (answer e s .place) ≡ verdictAnswer e s position
+  pub answer-refused : (answer e s .number ≡ accepted → ⊥) → refused (answer e s .number) (answer e s .place) ≡ verdictAnswer e s position
   unfolding verdictAnswer
   answer-refused some = rw (verdictAnswer, ne-eqb _ _ some)
 
-  module _ (accepted : answer e s .number ≡ 0) where
-    pub answer-missing : length (messages (tree 0 s)) ≤ position → refused 14 0 ≡ verdictAnswer e s position
+  module _ (accepted : answer e s .number ≡ accepted) where
+    pub answer-missing : length (messages (tree 0 s)) ≤ position → refused noSuchMessage 0 ≡ verdictAnswer e s position
     unfolding verdictAnswer
     answer-missing past = rw (verdictAnswer, eq-eqb _ _ accepted, le-ltb _ _ past)
 

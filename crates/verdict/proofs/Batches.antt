@@ -6,12 +6,13 @@ use mathlib.Core.List.{List, [], _∷_, _++_, map, List·Memᴰ, List·Memᴰ·h
 use lib.Dec.{eqb}
 use lib.ListN.{length, getD, take, drop, length-drop, take-append-drop, length-map, List·getD-map}
 use lib.Seq.{getD-drop, drop-cons}
+use Rattle.der.specs.Refusal.{accepted}
 use Rattle.der.specs.declared.reading.Element.{Element}
 use Rattle.der.specs.Octets.{Octets}
 use Rattle.der.specs.Tree.{WellFormed, Single, encode}
-use Rattle.der.specs.Walk.{depth, longest}
+use Rattle.der.specs.Bounds.{depth, longest}
 use Rattle.der.specs.Reading.{readAt, tree}
-use Rattle.der.proofs.Laws.{tree-end}
+use Rattle.der.proofs.Laws.{tree-end, single-none}
 use Rattle.crmf.specs.Notation.{Top}
 use Rattle.crmf.specs.Grammar.{content}
 use Rattle.crmf.specs.Language.{Matches}
@@ -47,12 +48,12 @@ in-tree {e} {s} g =
     }
 
 -- an accepted batch is one
-pub accepted-tree : (e : ℕ) (s : List ℕ) → Octets s → answer e s .number ≡ 0 → Accepted e s
+pub accepted-tree : (e : ℕ) (s : List ℕ) → Octets s → answer e s .number ≡ accepted → Accepted e s
 accepted-tree e s octets none = in-tree (accepted-in e s octets none .0)
 
 -- it has a byte
 accepted-some : {e : ℕ} (s : List ℕ) → Accepted e s → 0 < length s
-accepted-some [] a = absurd (subst Single (tree-end 0) (a .single))
+accepted-some [] a = absurd (single-none (subst Single (tree-end 0) (a .single)))
 accepted-some (b ∷ s) a = omega arith
 
 -- the first behind n of a list's elements is the one at that position

@@ -11,14 +11,14 @@ use lib.ListN.{length, length-map, length-append, length-set, take, set}
 use lib.Seq.{slice, length-slice, length-take-le, take-suc-set}
 use Rattle.der.specs.Octets.{Octets}
 use Rattle.der.specs.Tree.{Tree, WellFormed, Single, encode}
-use Rattle.der.specs.Walk.{depth, longest}
+use Rattle.der.specs.Bounds.{depth, longest}
 use Rattle.der.specs.Reading.{readAt, tree}
 use Rattle.der.proofs.Laws.{read-at-in-order}
 use Rattle.crmf.specs.Notation.{Top}
 use Rattle.crmf.specs.Grammar.{content}
 use Rattle.crmf.specs.Language.{Matches}
 use Rattle.crmf.specs.Rows.{batchRows, allShort}
-use Rattle.crmf.specs.Fields.{Field, fields}
+use Rattle.crmf.specs.Fields.{Field, fieldsBetween}
 use Rattle.crmf.specs.Messages.{Message, messageOf, messages}
 use Rattle.crmf.proofs.Laws.{MessageParts, batch-content, message-parts, fieldRead, fields-end, fields-at, id-read, batch-read, ids-some, ids-eight, messages-few}
 use Rattle.editions.proofs.Demand2.{nest-read, accepted-in}
@@ -27,7 +27,7 @@ use Rattle.verdict.specs.Collecting.{Accepted, most, Collected, idIn, Sh
 
 -- the messages from a place on
 abbrev pub messagesFrom : List ℕ → ℕ → List Message
-messagesFrom s p = map messageOf (fields (tree p (slice p (length s) s)))
+messagesFrom s p = map messageOf (fieldsBetween s p (length s))
 
 -- What is known of the messages of an accepted batch.
 pub record Known (s : List ℕ) : Type 0 where

@@ -13,14 +13,14 @@ use Rattle.der.proofs.Laws.{constructed-bit}
 use Rattle.crmf.specs.Notation.{among}
 use Rattle.crmf.specs.Fields.{Field, fields, seek, child}
 use Rattle.crmf.specs.Messages.{Message, proofs}
-use Rattle.crmf.proofs.Laws.{proof-cases}
+use Rattle.crmf.proofs.Laws.{proof-cases, child-seek}
 use Rattle.verdict.specs.declared.verdict.Part.{Part}
-use Rattle.verdict.specs.Verdict.{has, named, signatureVerdict, enciphermentVerdict, agreementVerdict, proofVerdict, verdictOf, inputOf, signedOf, judged}
+use Rattle.verdict.specs.Verdict.{keyAgreement, macMisplaced, noProof, raVerified, signatureNeither, signedInput, signedRequest, has, named, signatureVerdict, enciphermentVerdict, agreementVerdict, verdictOf, inputOf, signedOf, judged}
 use Rattle.verdict.specs.Steps.{partOf, holds, Found, told, bare, signatureAnswer, proofAnswer}
 
 -- by the identifier of what stands behind the certReq
 module _ (id : ℕ) (inside : List Field) (both : Bool) (request : Part) where
-  pub answer-verified : id ≡ 0x80 → bare 1 ≡ proofAnswer id inside both request
+  pub answer-verified : id ≡ 0x80 → bare raVerified ≡ proofAnswer id inside both request
   unfolding proofAnswer
   answer-verified is = rw is
 
@@ -36,46 +36,46 @@ module _ (id : ℕ) (inside : List Field) (both : Bool) (request : Part) where
   unfolding proofAnswer
   answer-agreement is = rw is
 
-  pub answer-none : (id ≡ 0x80 → ⊥) → (id ≡ 0xA1 → ⊥) → (id ≡ 0xA2 → ⊥) → (id ≡ 0xA3 → ⊥) → bare 0 ≡ proofAnswer id inside both request
+  pub answer-none : (id ≡ 0x80 → ⊥) → (id ≡ 0xA1 → ⊥) → (id ≡ 0xA2 → ⊥) → (id ≡ 0xA3 → ⊥) → bare noProof ≡ proofAnswer id inside both request
   unfolding proofAnswer
   answer-none a b c d = rw (proofAnswer, ne-eqb id 0x80 a, ne-eqb id 0xA1 b, ne-eqb id 0xA2 c, ne-eqb id 0xA3 d)
 
 -- the verdict on a signature, by the poposkInput that was found or not
 module _ (request : Part) where
   pub signature-request : {o : Option Field} {input : Part} {both : Bool} → Found o input → input .length ≡ 0 → both ≡ true
-      → told 2 request ≡ signatureAnswer o both request
+      → told signedRequest request ≡ signatureAnswer o both request
   unfolding signatureAnswer
   signature-request found empty named = sym (ap₂ (λ (o : Option Field) (b : Bool). signatureAnswer o b request) (found .none empty) named)
 
   pub signature-neither : {o : Option Field} {input : Part} {both : Bool} → Found o input → input .length ≡ 0 → both ≡ false
-      → bare 4 ≡ signatureAnswer o both request
+      → bare signatureNeither ≡ signatureAnswer o both request
   unfolding signatureAnswer
   signature-neither found empty unnamed = sym (ap₂ (λ (o : Option Field) (b : Bool). signatureAnswer o b request) (found .none empty) unnamed)
 
   pub signature-both : {o : Option Field} {input : Part} {both : Bool} → Found o input → (input .length ≡ 0 → ⊥) → both ≡ true
-      → bare 4 ≡ signatureAnswer o both request
+      → bare signatureNeither ≡ signatureAnswer o both request
   unfolding signatureAnswer
   signature-both {o = absent} found full named = absurd (full (ap (λ (p : Part). p .length) (found .part)))
   signature-both {o = some x} found full named = sym (ap (λ (b : Bool). signatureAnswer (some x) b request) named)
 
   pub signature-input : {o : Option Field} {input : Part} {both : Bool} → Found o input → (input .length ≡ 0 → ⊥) → both ≡ false
-      → told 3 input ≡ signatureAnswer o both request
+      → told signedInput input ≡ signatureAnswer o both request
   unfolding signatureAnswer
   signature-input {o = absent} found full unnamed = absurd (full (ap (λ (p : Part). p .length) (found .part)))
   signature-input {o = some x} found full unnamed =
-      ap (told 3) (found .part) ∙ sym (ap (λ (b : Bool). signatureAnswer (some x) b request) unnamed)
+      ap (told signedInput) (found .part) ∙ sym (ap (λ (b : Bool). signatureAnswer (some x) b request) unnamed)
 
 -- with verdict 2 the certReq is signed, with 3 the poposkInput, and else nothing
 module _ (m : Message) where
-  pub signed-request : verdictOf m ≡ 2 → signedOf m ≡ (m .certReq .place, m .certReq .whole)
+  pub signed-request : verdictOf m ≡ signedRequest → signedOf m ≡ (m .certReq .place, m .certReq .whole)
   unfolding signedOf
   signed-request is = rw (signedOf, is)
 
-  pub signed-input : verdictOf m ≡ 3 → signedOf m ≡ inputOf m
+  pub signed-input : verdictOf m ≡ signedInput → signedOf m ≡ inputOf m
   unfolding signedOf
   signed-input is = rw (signedOf, is) (ap (λ (v : ℕ). elim (eqb v 3) as (λ x. ℕ × ℕ) [ true ↦ inputOf m | false ↦ (0, 0) ]) is)
 
-  pub signed-nothing : (verdictOf m ≡ 2 → ⊥) → (verdictOf m ≡ 3 → ⊥) → signedOf m ≡ (0, 0)
+  pub signed-nothing : (verdictOf m ≡ signedRequest → ⊥) → (verdictOf m ≡ signedInput → ⊥) → signedOf m ≡ (0, 0)
   unfolding signedOf
   signed-nothing two three = rw (signedOf, ne-eqb _ _ two, ne-eqb _ _ three)
 
@@ -86,6 +86,10 @@ pub record SignedInput (m : Message) : Type 0 where
   pub signature : proof .identifier ≡ 0xA1
   pub input : Field
   pub found : child 0xA0 proof ≡ some input
+
+-- an element with the identifier stands in a field where one stands among the fields inside it
+pub has-seek : (id : ℕ) (f : Field) → has id f ≡ holds id (fields (f .inside))
+has-seek id f = ap (λ (o : Option Field). elim o as (λ y. Bool) [ absent ↦ false | some x ↦ true ]) (child-seek id f)
 
 -- it is the poposkInput
 pub input-is : (m : Message) (i : SignedInput m) → inputOf m ≡ (i .input .place, i .input .whole)
@@ -102,20 +106,27 @@ unfolding signedOf
 judged-for m v is = sym (ap (λ (w : ℕ). told w (record { from = signedFor m w .0; length = signedFor m w .1 })) is)
 
 -- without a proof
-pub judged-none : (m : Message) → m .proof ≡ absent → bare 0 ≡ judged m
+pub judged-none : (m : Message) → m .proof ≡ absent → bare noProof ≡ judged m
 unfolding verdictOf
 judged-none m lacks = judged-for m 0 (rw (lacks, verdictOf))
 
+-- the verdict on a proof, by an identifier
+abbrev verdictBy : Message → Field → ℕ → ℕ
+verdictBy m p id =
+    elim (eqb id 0x80) [
+      | true ↦ raVerified
+      | false ↦ elim (eqb id 0xA1) [
+        | true ↦ signatureVerdict (has 0xA0 p) (named m)
+        | false ↦ elim (eqb id 0xA2) [ true ↦ enciphermentVerdict (has 0x82 p) | false ↦ agreementVerdict (has 0x82 p) (named m) ]
+      ]
+    ]
+
 module _ (m : Message) (p : Field) (proven : m .proof ≡ some p) where
-  -- the proof, with its identifier as it is known
-  abbrev under : ℕ → Field
-  under id = record { identifier = id; place = p .place; whole = p .whole; content = p .content; inside = p .inside }
-
-  by-proof : {id : ℕ} → p .identifier ≡ id → verdictOf m ≡ proofVerdict m (under id)
+  by-proof : {id : ℕ} → p .identifier ≡ id → verdictOf m ≡ verdictBy m p id
   unfolding verdictOf
-  by-proof is = rw (proven, verdictOf) (ap (λ (n : ℕ). proofVerdict m (under n)) is)
+  by-proof is = rw (proven, verdictOf) (ap (verdictBy m p) is)
 
-  judged-verified : p .identifier ≡ 0x80 → bare 1 ≡ judged m
+  judged-verified : p .identifier ≡ 0x80 → bare raVerified ≡ judged m
   judged-verified is = judged-for m 1 (by-proof is)
 
   judged-signature : p .identifier ≡ 0xA1 → signatureAnswer (child 0xA0 p) (named m) (partOf (some (m .certReq))) ≡ judged m
@@ -133,7 +144,7 @@ module _ (m : Message) (p : Field) (proven : m .proof ≡ some p) where
       by-parts absent input false both = judged-for m 4 (verdict absent input false both)
       by-parts (some x) input true both = judged-for m 4 (verdict (some x) input true both)
       by-parts (some x) input false both =
-          ap (λ (q : ℕ × ℕ). told 3 (record { from = q .0; length = q .1 })) (sym (input-is m (record { proof = p; proven = proven; signature = is; input = x; found = input })))
+          ap (λ (q : ℕ × ℕ). told signedInput (record { from = q .0; length = q .1 })) (sym (input-is m (record { proof = p; proven = proven; signature = is; input = x; found = input })))
           ∙ judged-for m 3 (verdict (some x) input false both)
 
   judged-encipherment : p .identifier ≡ 0xA2 → bare (enciphermentVerdict (has 0x82 p)) ≡ judged m
@@ -146,9 +157,9 @@ module _ (m : Message) (p : Field) (proven : m .proof ≡ some p) where
   judged-agreement : p .identifier ≡ 0xA3 → bare (agreementVerdict (has 0x82 p) (named m)) ≡ judged m
   judged-agreement is = by-mac (has 0x82 p && not (named m)) refl
     where
-      by-mac : (b : Bool) → (has 0x82 p && not (named m)) ≡ b → bare (elim b [ true ↦ 7 | false ↦ 6 ]) ≡ judged m
-      by-mac true mac = judged-for m 7 (by-proof is ∙ ap (λ (b : Bool). elim b as (λ x. ℕ) [ true ↦ 7 | false ↦ 6 ]) mac)
-      by-mac false mac = judged-for m 6 (by-proof is ∙ ap (λ (b : Bool). elim b as (λ x. ℕ) [ true ↦ 7 | false ↦ 6 ]) mac)
+      by-mac : (b : Bool) → (has 0x82 p && not (named m)) ≡ b → bare (elim b [ true ↦ macMisplaced | false ↦ keyAgreement ]) ≡ judged m
+      by-mac true mac = judged-for m 7 (by-proof is ∙ ap (λ (b : Bool). elim b as (λ x. ℕ) [ true ↦ macMisplaced | false ↦ keyAgreement ]) mac)
+      by-mac false mac = judged-for m 6 (by-proof is ∙ ap (λ (b : Bool). elim b as (λ x. ℕ) [ true ↦ macMisplaced | false ↦ keyAgreement ]) mac)
 
   -- with a proof of one of the four identifiers, where the fields inside it are known if it is constructed
   pub judged-proof : among proofs (p .identifier) ≡ true → (inside : List Field) → (constructed (p .identifier) ≡ true → fields (p .inside) ≡ inside)
@@ -167,18 +178,21 @@ module _ (m : Message) (p : Field) (proven : m .proof ≡ some p) where
       by-identifier (inr (inl is)) =
           sym (answer-signature (p .identifier) inside (named m) request is)
           ∙ ap (λ (fs : List Field). signatureAnswer (seek (0xA0 ∷ []) fs) (named m) request) (held is refl)
+          ∙ ap (λ (o : Option Field). signatureAnswer o (named m) request) (sym (child-seek 0xA0 p))
           ∙ judged-signature is
       by-identifier (inr (inr (inl is))) =
           sym (answer-encipherment (p .identifier) inside (named m) request is)
           ∙ ap (λ (fs : List Field). bare (enciphermentVerdict (holds 0x82 fs))) (held is refl)
+          ∙ ap (λ (b : Bool). bare (enciphermentVerdict b)) (sym (has-seek 0x82 p))
           ∙ judged-encipherment is
       by-identifier (inr (inr (inr is))) =
           sym (answer-agreement (p .identifier) inside (named m) request is)
           ∙ ap (λ (fs : List Field). bare (agreementVerdict (holds 0x82 fs) (named m))) (held is refl)
+          ∙ ap (λ (b : Bool). bare (agreementVerdict b (named m))) (sym (has-seek 0x82 p))
           ∙ judged-agreement is
 
   -- with verdict 3 there is one
-  pub input-there : among proofs (p .identifier) ≡ true → verdictOf m ≡ 3 → SignedInput m
+  pub input-there : among proofs (p .identifier) ≡ true → verdictOf m ≡ signedInput → SignedInput m
   input-there one three = by-identifier (proof-cases (p .identifier) one)
     where
       by-input : p .identifier ≡ 0xA1 → (o : Option Field) → child 0xA0 p ≡ o → (b : Bool)

@@ -13,7 +13,7 @@ use lib.Seq.{take-suc, take-all}
 use borrow.Author.Tests.{leb-true, leb-false, le-ltb, lt-ltb}
 use Rattle.der.specs.Octets.{Octets}
 use Rattle.der.specs.Length.{valueFrom}
-use Rattle.der.proofs.Laws.{value-none, value-more, value-last, value-below, octets-take}
+use Rattle.der.proofs.Laws.{value-none, value-more, value-last, value-below, octets-take, octets-none, octets-more, octets-at, octets-rest}
 use Rattle.verdict.specs.Duplicates.{part, signed}
 
 -- whether the number is negative
@@ -30,9 +30,9 @@ part-octet true b h = omega arith
 part-octet false b h = h
 
 parts-octets : (n : Bool) (c : List ℕ) → Octets c → Octets (map (part n) c)
-parts-octets n [] o i = lit< tt
-parts-octets n (b ∷ c) o zero = part-octet n b (o 0)
-parts-octets n (b ∷ c) o (suc i) = parts-octets n c (λ j. o (suc j)) i
+parts-octets n [] o = octets-none
+parts-octets n (b ∷ c) o =
+    octets-more (part n b) (map (part n) c) (part-octet n b (octets-at (b ∷ c) o 0)) (parts-octets n c (octets-rest b c o))
 
 -- the first octet's part is below 128
 part-first : (b : ℕ) → b < 256 → part (leb 0x80 b) b < 128
@@ -56,7 +56,7 @@ prefix-fits [] (suc i) o short = rw (value-none 0) (lit< tt)
 prefix-fits (b ∷ c) (suc i) o short =
     let n = leb 0x80 b in
     let few : length (map (part n) (take i c)) ≤ 7 = simp (length-map, length-take) (omega arith) in
-    value-fits (part n b) (map (part n) (take i c)) (parts-octets n (take i c) (octets-take i c (λ j. o (suc j)))) (part-first b (o 0)) few
+    value-fits (part n b) (map (part n) (take i c)) (parts-octets n (take i c) (octets-take i c (octets-rest b c o))) (part-first b (octets-at (b ∷ c) o 0)) few
 
 -- one octet more
 pub prefix-more : (c : List ℕ) (i : ℕ) → i < length c → prefix c i * 256 + part (negative c) (getD c i 0) ≡ prefix c (i + 1)

@@ -2,7 +2,7 @@
 use Prim.Native.Nat.{ℕ, _<_}
 use native.Mathlib.Nat.{eq-or-lt-of-le}
 use native.Mathlib.Omega.{arith}
-use mathlib.Core.Path.{_≡_, refl, sym, ap, subst, _∙_}
+use mathlib.Core.Path.{_≡_, refl, sym, ap, ap₂, subst, _∙_}
 use mathlib.Core.Logic.{_⊎_, inl, inr}
 use mathlib.Core.Bool.{true}
 use mathlib.Core.List.{List, [], _∷_, _++_}
@@ -11,11 +11,11 @@ use lib.ListN.{length}
 use Rattle.der.specs.declared.reading.Element.{Element}
 use Rattle.der.specs.Identifier.{constructed}
 use Rattle.der.specs.Reading.{readAt}
-use Rattle.der.proofs.Laws.{read-at-end, sequence-constructed}
+use Rattle.der.proofs.Laws.{read-at-end, sequence-constructed, nothing-identifier}
 use Rattle.crmf.specs.Fields.{Field, fields, fieldsBetween, listed}
 use Rattle.crmf.specs.Notation.{among}
 use Rattle.crmf.specs.Messages.{proofs, Message}
-use Rattle.crmf.proofs.Laws.{fieldAt, fields-at, fields-begin, inside-fields, IfAny, MessageParts}
+use Rattle.crmf.proofs.Laws.{fieldAt, fields-at, fields-begin, inside-fields, IfAny, MessageParts, listed-none, listed-some}
 use Rattle.verdict.specs.declared.verdict.Verdict.{Verdict}
 use Rattle.verdict.specs.Verdict.{named, judged}
 use Rattle.verdict.specs.Steps.{Places, partOf, proofAnswer}
@@ -45,7 +45,7 @@ module _ (s : List ℕ) (at end : ℕ) (lent : Places s at end) (x : Element) (r
   none-read none = by-room (eq-or-lt-of-le (lent .order))
     where
       by-room : (at ≡ end) ⊎ (at < end) → x .identifier ≡ 0
-      by-room (inl past) = ap (λ (y : Element). y .identifier) (read ∙ read-at-end s at end (omega arith))
+      by-room (inl past) = ap (λ (y : Element). y .identifier) (read ∙ read-at-end s at end (omega arith)) ∙ nothing-identifier at
       by-room (inr room) =
           absurd (omega (arith, ap length (sym (fields-at s at end (lent .within) (lent .short) room) ∙ none)))
 
@@ -64,15 +64,17 @@ module _ (s : List ℕ) (m : Message) (parts : MessageParts m) (at end : ℕ) (l
   by-fields : (p q : Option Field) → m .proof ≡ p → m .regInfo ≡ q → fieldsBetween s at end ≡ listed p ++ listed q → judgedBy (x .identifier) ≡ judged m
   unfolding proofAnswer
   by-fields (some p) q proven also same =
-      let here = first-read s at end lent x read same .0 in
+      let here = first-read s at end lent x read (same ∙ ap (λ (fs : List Field). fs ++ listed q) (listed-some p)) .0 in
       let one : among proofs (p .identifier) ≡ true = subst (IfAny (λ f. among proofs (f .identifier) ≡ true)) proven (parts .proof) in
       ap (λ (f : Field). judgedBy (f .identifier)) here
       ∙ judged-proof m p proven one (fieldsBetween s (x .content) (x .end)) (λ made. sym (inside-read s at x p here made))
   by-fields absent (some q) lacks also same =
-      let here = first-read s at end lent x read same .0 in
+      let here = first-read s at end lent x read (same ∙ ap₂ (λ (fs gs : List Field). fs ++ gs) listed-none (listed-some q)) .0 in
       let thirty : q .identifier ≡ 0x30 = subst (IfAny (λ f. f .identifier ≡ 0x30)) also (parts .regInfo) in
       ap judgedBy (ap (λ (f : Field). f .identifier) here ∙ thirty) ∙ judged-none m lacks
-  by-fields absent absent lacks also same = ap judgedBy (none-read s at end lent x read same) ∙ judged-none m lacks
+  by-fields absent absent lacks also same =
+      let none = same ∙ ap₂ (λ (fs gs : List Field). fs ++ gs) listed-none listed-none in
+      ap judgedBy (none-read s at end lent x read none) ∙ judged-none m lacks
 
   pub proof-read : fieldsBetween s at end ≡ listed (m .proof) ++ listed (m .regInfo) → judgedBy (x .identifier) ≡ judged m
   proof-read same = by-fields (m .proof) (m .regInfo) refl refl same

@@ -3,19 +3,20 @@ use Prim.Native.Nat.{ℕ, suc}
 use mathlib.Core.Path.{_≡_, refl}
 use mathlib.Core.List.{List, [], _∷_}
 use Rattle.der.specs.Each.{Each, _&_}
+use Rattle.der.specs.Identifier.{tagNumber, constructed, allowed}
 use Rattle.der.specs.Length.{valueFrom, shortest, longForm, lengthOf}
 use Rattle.der.specs.Header.{sizedBy, headOf}
 use Rattle.der.specs.Content.{integer, lastOf, unpadded, objectIdentifier, holds}
-use Rattle.der.specs.Walk.{listOf, primitiveOf, elementOf, walkAt}
-use Rattle.der.specs.Reading.{given, read, treeOf, tree}
+use Rattle.der.specs.Explain.{listOf, primitiveOf, elementOf, walkAt}
+use Rattle.der.specs.Reading.{given, read, treeOf, tree, nothingAt}
 use Rattle.crmf.specs.Value.{same, isUpTo, keeps, typeNumber, selected}
 use Rattle.crmf.specs.Notation.{among, named, order}
 use Rattle.crmf.specs.Grammar.{content}
 use Rattle.crmf.specs.Table.{partSize, size, startsFrom, start, insideLine, passOf, formLines, nextLine, wayLine, partLines, containerLines, linesFrom, lines}
-use Rattle.crmf.specs.Walk.{line, seekIn, seek, closedIn, closed, judged, noted, lengthy, met, walk}
+use Rattle.crmf.specs.Walk.{line, seekIn, seek, closedIn, closed, judged, noted, lengthy, met, walk, fresh}
 use Rattle.crmf.specs.Rows.{firstLong}
 use Rattle.crmf.specs.Fill.{goes, rowsFrom, rowsOf}
-use Rattle.crmf.specs.Fields.{fields, nth}
+use Rattle.crmf.specs.Fields.{fields, missing, nth, child}
 use Rattle.crmf.specs.Fields
 use Rattle.crmf.specs.Messages.{messageOf, batch, messages}
 use Rattle.editions.specs.Reading.{batchAnswer, answer}
@@ -31,10 +32,10 @@ Judges x i (v ∷ vs) =
     (verdictAnswer (x .edition) (x .octets) i .number ≡ 0) × (verdictAnswer (x .edition) (x .octets) i .verdict ≡ v) × Judges x (suc i) vs
 
 judgings : Each (λ x. Judges x 0 (x .verdicts)) entries
-unfolding valueFrom shortest longForm lengthOf sizedBy headOf
-    integer lastOf unpadded objectIdentifier holds listOf primitiveOf elementOf walkAt given read treeOf tree same isUpTo keeps typeNumber selected
+unfolding tagNumber constructed allowed valueFrom shortest longForm lengthOf sizedBy headOf
+    integer lastOf unpadded objectIdentifier holds listOf primitiveOf elementOf walkAt nothingAt given read treeOf tree same isUpTo keeps typeNumber selected
     among named order content partSize size startsFrom start insideLine passOf formLines nextLine wayLine partLines containerLines linesFrom lines
-    line seekIn seek closedIn closed judged noted lengthy met walk firstLong goes rowsFrom rowsOf fields nth Fields.seek messageOf batch messages
+    line seekIn seek closedIn closed judged noted lengthy met walk fresh firstLong goes rowsFrom rowsOf fields missing nth Fields.seek child messageOf batch messages
     batchAnswer answer verdictOf signedOf verdictAnswer
 judgings =
     tt & tt & tt & tt & tt & tt & tt & tt & tt & tt & tt & tt & tt & tt

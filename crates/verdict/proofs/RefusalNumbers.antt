@@ -5,6 +5,7 @@ use mathlib.Core.Bool.{Bool, true, false}
 use mathlib.Core.List.{List}
 use lib.Dec.{eqb, ltb}
 use lib.ListN.{length}
+use Rattle.der.specs.Refusal.{noSuchMessage}
 use Rattle.der.specs.Octets.{Octets}
 use Rattle.der.specs.Reading.{tree}
 use Rattle.crmf.specs.Messages.{messages}
@@ -14,12 +15,12 @@ use Rattle.verdict.specs.declared.verdict.Verdict.{Verdict}
 use Rattle.verdict.specs.Verdict.{refused, judged, messageAt, verdictAnswer}
 
 -- the verdict answers a number up to 14
-pub verdict-number : (e : ℕ) (s : List ℕ) (position : ℕ) → Octets s → verdictAnswer e s position .number ≤ 14
+pub verdict-number : (e : ℕ) (s : List ℕ) (position : ℕ) → Octets s → verdictAnswer e s position .number ≤ noSuchMessage
 unfolding verdictAnswer
 verdict-number e s position o = by-tests (eqb (answer e s .number) 0) (ltb position (length (messages (tree 0 s))))
   where
     by-tests : (a b : Bool)
-        → (elim a as (λ x. Verdict) [ false ↦ refused (answer e s .number) (answer e s .place) | true ↦ elim b as (λ x. Verdict) [ false ↦ refused 14 0 | true ↦ judged (messageAt s position) ] ]) .number ≤ 14
+        → (elim a as (λ x. Verdict) [ false ↦ refused (answer e s .number) (answer e s .place) | true ↦ elim b as (λ x. Verdict) [ false ↦ refused noSuchMessage 0 | true ↦ judged (messageAt s position) ] ]) .number ≤ noSuchMessage
     by-tests false b = omega (arith, answer-number e s o)
     by-tests true false = omega arith
     by-tests true true = omega arith

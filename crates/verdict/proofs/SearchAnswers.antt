@@ -7,6 +7,7 @@ use mathlib.Core.Path.{_≡_, refl, sym, ap, ap₂, _∙_}
 use mathlib.Core.List.{List, map}
 use mathlib.Core.Option.{Option, some, none as absent}
 use borrow.Author.Tests.{eq-eqb, ne-eqb}
+use Rattle.der.specs.Refusal.{accepted}
 use Rattle.crmf.specs.Messages.{Message, messages}
 use Rattle.editions.specs.declared.reader.Answer.{Answer}
 use Rattle.editions.specs.Membership.{InGrammar}
@@ -17,7 +18,7 @@ use Rattle.verdict.specs.Duplicates.{signed, ids, Equal, FirstEqual, pai
 use Rattle.verdict.proofs.FirstPairs.{pair-found, pair-absent}
 
 -- a refusal is passed on
-pub answer-refused : (e : ℕ) (s : List ℕ) (a : Answer) → a ≡ answer e s → (a .number ≡ 0 → ⊥)
+pub answer-refused : (e : ℕ) (s : List ℕ) (a : Answer) → a ≡ answer e s → (a .number ≡ accepted → ⊥)
     → _≡_ {A = Duplicates} (record { number = a .number; place = a .place; found = 0; earlier = 0; later = 0 }) (duplicatesAnswer e s)
 unfolding duplicatesAnswer
 answer-refused e s a is not = rw (is, duplicatesAnswer, ne-eqb (answer e s .number) 0 (rw is at not))
@@ -30,7 +31,7 @@ same-pair (some o) absent e = absurd (omega (arith, ap (λ (d : Duplicates). d .
 same-pair (some o) (some p) e =
     ap₂ (λ (i j : ℕ). some (i, j)) (ap (λ (d : Duplicates). d .earlier) e) (ap (λ (d : Duplicates). d .later) e)
 
-module _ (e : ℕ) (s : List ℕ) (zero : answer e s .number ≡ 0) where
+module _ (e : ℕ) (s : List ℕ) (zero : answer e s .number ≡ accepted) where
   -- an accepted batch is searched
   pub answer-searched : duplicatesAnswer e s ≡ searched (pairOf (ids s))
   unfolding duplicatesAnswer

@@ -4,19 +4,20 @@ use mathlib.Core.Path.{_≡_, refl}
 use mathlib.Core.List.{List, [], _∷_, _++_}
 use lib.ListN.{length}
 use Rattle.der.specs.Each.{Each, _&_}
+use Rattle.der.specs.Identifier.{tagNumber, constructed, allowed}
 use Rattle.der.specs.Length.{valueFrom, shortest, longForm, lengthOf}
 use Rattle.der.specs.Header.{sizedBy, headOf}
 use Rattle.der.specs.Content.{integer, lastOf, unpadded, objectIdentifier, bitString, holds}
-use Rattle.der.specs.Walk.{listOf, primitiveOf, elementOf, walkAt}
-use Rattle.der.specs.Reading.{given, read, treeOf, tree}
+use Rattle.der.specs.Explain.{listOf, primitiveOf, elementOf, walkAt}
+use Rattle.der.specs.Reading.{given, read, treeOf, tree, nothingAt}
 use Rattle.crmf.specs.Value.{same, isUpTo, isEmpty, keeps, typeNumber, selected}
 use Rattle.crmf.specs.Notation.{among, named, order}
 use Rattle.crmf.specs.Grammar.{content}
 use Rattle.crmf.specs.Table.{partSize, size, startsFrom, start, insideLine, passOf, formLines, nextLine, wayLine, partLines, containerLines, linesFrom, lines}
-use Rattle.crmf.specs.Walk.{line, seekIn, seek, closedIn, closed, judged, noted, lengthy, met, walk}
+use Rattle.crmf.specs.Walk.{line, seekIn, seek, closedIn, closed, judged, noted, lengthy, met, walk, fresh}
 use Rattle.crmf.specs.Rows.{firstLong}
 use Rattle.crmf.specs.Fill.{goes, rowsFrom, rowsOf}
-use Rattle.crmf.specs.Fields.{fields, nth}
+use Rattle.crmf.specs.Fields.{fields, missing, nth, child}
 use Rattle.crmf.specs.Fields
 use Rattle.crmf.specs.Messages.{messageOf, batch, messages}
 use Rattle.editions.specs.Reading.{batchAnswer, answer}
@@ -101,10 +102,10 @@ Judges x =
 
 -- Every message of the list is judged as document 01 says, and there is none behind it.
 pub each-verdict : Each Judges cases
-unfolding valueFrom shortest longForm lengthOf sizedBy headOf
-    integer lastOf unpadded objectIdentifier bitString holds listOf primitiveOf elementOf walkAt given read treeOf tree same isEmpty isUpTo keeps typeNumber selected
+unfolding tagNumber constructed allowed valueFrom shortest longForm lengthOf sizedBy headOf
+    integer lastOf unpadded objectIdentifier bitString holds listOf primitiveOf elementOf walkAt nothingAt given read treeOf tree same isEmpty isUpTo keeps typeNumber selected
     among named order content partSize size startsFrom start insideLine passOf formLines nextLine wayLine partLines containerLines linesFrom lines
-    line seekIn seek closedIn closed judged noted lengthy met walk firstLong goes rowsFrom rowsOf fields nth Fields.seek messageOf batch messages
+    line seekIn seek closedIn closed judged noted lengthy met walk fresh firstLong goes rowsFrom rowsOf fields missing nth Fields.seek child messageOf batch messages
     batchAnswer answer verdictOf signedOf verdictAnswer
 each-verdict =
     (refl, refl) & (refl, refl) & (refl, refl) & (refl, refl)

@@ -11,18 +11,19 @@ use lib.Dec.{eqb, ltb}
 use lib.ListN.{length}
 use lib.Seq.{slice}
 use borrow.Author.Tests.{eqb-true, eqb-false, ltb-true, ltb-false}
+use Rattle.der.specs.Refusal.{accepted, noSuchMessage}
 use Rattle.der.specs.Octets.{Octets}
 use Rattle.der.specs.Reading.{tree}
 use Rattle.der.proofs.Laws.{constructed-bit}
 use Rattle.crmf.specs.Notation.{among}
-use Rattle.crmf.specs.Fields.{Field, octets, finish, StandsAt}
+use Rattle.crmf.specs.Fields.{Field, octets, StandsAt}
 use Rattle.crmf.specs.Messages.{proofs, Message, messages}
 use Rattle.crmf.proofs.Laws.{IfAny, MessageParts, message-parts, messages-stand, proof-child-stands, child-identified, stands-part}
 use Rattle.editions.specs.Membership.{InGrammar}
 use Rattle.editions.specs.Reading.{answer}
 use Rattle.editions.proofs.Demand2.{nest-read}
 use Rattle.verdict.specs.declared.verdict.Verdict.{Verdict}
-use Rattle.verdict.specs.Verdict.{verdictOf, signedOf, messageAt, refused, judged, verdictAnswer, signedOctets}
+use Rattle.verdict.specs.Verdict.{signedInput, signedRequest, verdictOf, signedOf, messageAt, refused, judged, verdictAnswer, signedOctets}
 use Rattle.verdict.proofs.Answers.{answer-refused, answer-missing, answer-judged}
 use Rattle.verdict.proofs.Batches.{Accepted, accepted-tree, position-member}
 use Rattle.verdict.proofs.Judging.{SignedInput, input-is, input-there, judged-none, signed-request, signed-input, signed-nothing}
@@ -33,7 +34,7 @@ batch-messages s g = ap messages (nest-read s g)
 
 -- A verdict, and no refusal: the batch is accepted, a message stands at the position, and the answer is that message's.
 pub record Judged (e : ℕ) (s : List ℕ) (position : ℕ) : Type 0 where
-  pub accepted : answer e s .number ≡ 0
+  pub accepted : answer e s .number ≡ accepted
   pub within : position < length (messages (tree 0 s))
   pub same : verdictAnswer e s position ≡ judged (messageAt s position)
 
@@ -45,12 +46,12 @@ pub record Refused (e : ℕ) (s : List ℕ) (position : ℕ) : Type 0 where
   pub same : verdictAnswer e s position ≡ refused number place
 
 module _ (e : ℕ) (s : List ℕ) (position : ℕ) where
-  by-position : answer e s .number ≡ 0 → (b : Bool) → ltb position (length (messages (tree 0 s))) ≡ b → Judged e s position ⊎ Refused e s position
+  by-position : answer e s .number ≡ accepted → (b : Bool) → ltb position (length (messages (tree 0 s))) ≡ b → Judged e s position ⊎ Refused e s position
   by-position zero true test =
       let within = ltb-true _ _ test in
       inl (record { accepted = zero; within = within; same = sym (answer-judged e s position zero within) })
   by-position zero false test =
-      inr (record { number = 14; place = 0; some = λ e. omega arith; same = sym (answer-missing e s position zero (ltb-false _ _ test)) })
+      inr (record { number = noSuchMessage; place = 0; some = λ e. omega arith; same = sym (answer-missing e s position zero (ltb-false _ _ test)) })
 
   by-number : (b : Bool) → eqb (answer e s .number) 0 ≡ b → Judged e s position ⊎ Refused e s position
   by-number true test = by-position (eqb-true _ _ test) (ltb position (length (messages (tree 0 s)))) refl
@@ -63,11 +64,11 @@ module _ (e : ℕ) (s : List ℕ) (position : ℕ) where
   verdict-ways = by-number (eqb (answer e s .number) 0) refl
 
   -- The answer's number is 0 exactly where the batch is accepted and has a message at the position.
-  pub judged-exactly : (verdictAnswer e s position .number ≡ 0) ↔ ((answer e s .number ≡ 0) × (position < length (messages (tree 0 s))))
+  pub judged-exactly : (verdictAnswer e s position .number ≡ accepted) ↔ ((answer e s .number ≡ accepted) × (position < length (messages (tree 0 s))))
   judged-exactly = (λ zero. there zero verdict-ways, λ (zero, within). ap (λ (v : Verdict). v .number) (sym (answer-judged e s position zero within)))
     where
-      there : verdictAnswer e s position .number ≡ 0 → Judged e s position ⊎ Refused e s position
-          → (answer e s .number ≡ 0) × (position < length (messages (tree 0 s)))
+      there : verdictAnswer e s position .number ≡ accepted → Judged e s position ⊎ Refused e s position
+          → (answer e s .number ≡ accepted) × (position < length (messages (tree 0 s)))
       there zero (inl j) = (j .accepted, j .within)
       there zero (inr r) = absurd (r .some (sym (ap (λ (v : Verdict). v .number) (r .same)) ∙ zero))
 
@@ -76,19 +77,19 @@ module _ {e : ℕ} (s : List ℕ) (a : Accepted e s) (m : Message) (n : List·Me
   parts : MessageParts m
   parts = message-parts (tree 0 s) (a .top) (a .formed) (a .single) m n
 
-  request-part : (finish (m .certReq) ≤ length s) × (slice (m .certReq .place) (finish (m .certReq)) s ≡ octets (m .certReq))
+  request-part : let f = m .certReq in (f .place + f .whole ≤ length s) × (slice (f .place) (f .place + f .whole) s ≡ octets f)
   request-part =
       let stands = messages-stand (tree 0 s) (a .top) (a .formed) (a .single) m n .certReq in
       stands-part s (m .certReq) (subst (λ (bs : List ℕ). StandsAt bs (m .certReq .place) (octets (m .certReq))) (a .encoded) stands) (parts .whole .placed .1)
 
-  input-part : (i : SignedInput m) → (finish (i .input) ≤ length s) × (slice (i .input .place) (finish (i .input)) s ≡ octets (i .input))
+  input-part : (i : SignedInput m) → let f = i .input in (f .place + f .whole ≤ length s) × (slice (f .place) (f .place + f .whole) s ≡ octets f)
   input-part i =
       let made = constructed-bit (i .proof .identifier) (ap (λ (id : ℕ). id / 32 % 2) (i .signature)) in
       let stands = proof-child-stands (tree 0 s) (a .top) (a .formed) (a .single) m n (i .proof) (i .proven) made 0xA0 (i .input) (i .found) in
       stands-part s (i .input) (subst (λ (bs : List ℕ). StandsAt bs (i .input .place) (octets (i .input))) (a .encoded) (stands .0)) (stands .1)
 
   -- with verdict 3 there is such a signature
-  input-read : verdictOf m ≡ 3 → SignedInput m
+  input-read : verdictOf m ≡ signedInput → SignedInput m
   input-read three = by-proof (m .proof) refl
     where
       by-proof : (o : Option Field) → m .proof ≡ o → SignedInput m
@@ -99,7 +100,7 @@ module _ {e : ℕ} (s : List ℕ) (a : Accepted e s) (m : Message) (n : List·Me
   part-fits : signedOf m .0 + signedOf m .1 ≤ length s
   part-fits = by-request (eqb (verdictOf m) 2) refl
     where
-      by-input : (verdictOf m ≡ 2 → ⊥) → (b : Bool) → eqb (verdictOf m) 3 ≡ b → signedOf m .0 + signedOf m .1 ≤ length s
+      by-input : (verdictOf m ≡ signedRequest → ⊥) → (b : Bool) → eqb (verdictOf m) 3 ≡ b → signedOf m .0 + signedOf m .1 ≤ length s
       by-input two true test =
           let three = eqb-true _ _ test in
           let i = input-read three in
@@ -135,7 +136,7 @@ module _ (e : ℕ) (s : List ℕ) (position : ℕ) (known : Octets s) where
   none-refused r is = sym is ∙ ap (λ (v : Verdict). v .verdict) (r .same)
 
   -- With verdict 2 it is the octets of the message's certReq.
-  pub request-signed : told .verdict ≡ 2 → signedOctets s told ≡ octets (message .certReq)
+  pub request-signed : told .verdict ≡ signedRequest → signedOctets s told ≡ octets (message .certReq)
   request-signed two = by-way (verdict-ways e s position)
     where
       by-way : Judged e s position ⊎ Refused e s position → signedOctets s told ≡ octets (message .certReq)
@@ -146,7 +147,7 @@ module _ (e : ℕ) (s : List ℕ) (position : ℕ) (known : Octets s) where
       by-way (inr r) = absurd (omega (arith, none-refused r two))
 
   -- With verdict 3 it is the octets of the poposkInput, from its A0 on.
-  pub input-signed : told .verdict ≡ 3 → (i : SignedInput message) × ((i .input .identifier ≡ 0xA0) × (signedOctets s told ≡ octets (i .input)))
+  pub input-signed : told .verdict ≡ signedInput → (i : SignedInput message) × ((i .input .identifier ≡ 0xA0) × (signedOctets s told ≡ octets (i .input)))
   input-signed three = by-way (verdict-ways e s position)
     where
       by-way : Judged e s position ⊎ Refused e s position → (i : SignedInput message) × ((i .input .identifier ≡ 0xA0) × (signedOctets s told ≡ octets (i .input)))
@@ -162,7 +163,7 @@ module _ (e : ℕ) (s : List ℕ) (position : ℕ) (known : Octets s) where
       by-way (inr r) = absurd (omega (arith, none-refused r three))
 
   -- With any other verdict, and with a refusal, it is empty.
-  pub nothing-signed : (told .verdict ≡ 2 → ⊥) → (told .verdict ≡ 3 → ⊥) → signedOctets s told ≡ []
+  pub nothing-signed : (told .verdict ≡ signedRequest → ⊥) → (told .verdict ≡ signedInput → ⊥) → signedOctets s told ≡ []
   nothing-signed two three = by-way (verdict-ways e s position)
     where
       by-way : Judged e s position ⊎ Refused e s position → signedOctets s told ≡ []

@@ -5,6 +5,7 @@ use mathlib.Core.List.{List}
 use lib.IntN.{ℤ}
 use lib.ListN.{length, take}
 use Rattle.der.specs.declared.reading.Element.{Element}
+use Rattle.der.specs.Refusal.{accepted}
 use Rattle.der.specs.Reading.{readAt}
 use Rattle.editions.specs.Reading.{answer}
 use Rattle.verdict.specs.Duplicates.{ids}
@@ -12,7 +13,7 @@ use Rattle.verdict.specs.Duplicates.{ids}
 -- The bytes of a batch that an edition accepts.
 pub record Accepted (s : List ℕ) : Type 0 where
   pub edition : ℕ
-  pub zero : answer edition s .number ≡ 0
+  pub zero : answer edition s .number ≡ accepted
 
 -- the most messages that a batch can have: each has at least 9 of its 65,535 octets
 abbrev pub most : ℕ

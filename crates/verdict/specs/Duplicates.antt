@@ -7,6 +7,7 @@ use mathlib.Core.Option.{Option, some, none as absent}
 use lib.Dec.{eqb, ltb}
 use lib.IntN.{ℤ, pos, negsuc}
 use lib.ListN.{length, getD, take}
+use Rattle.der.specs.Refusal.{accepted}
 use Rattle.der.specs.Length.{valueFrom}
 use Rattle.der.specs.Reading.{tree}
 use Rattle.crmf.specs.Messages.{Message, messages}
@@ -61,14 +62,14 @@ pairOf ns = pairFrom ns (length ns) 0
 
 -- what the search answers of a pair; where there is none, the positions are 0 and 0
 abbrev pub searched : Option (ℕ × ℕ) → Duplicates
-searched absent = record { number = 0; place = 0; found = 0; earlier = 0; later = 0 }
-searched (some p) = record { number = 0; place = 0; found = 1; earlier = p .0; later = p .1 }
+searched absent = record { number = accepted; place = 0; found = 0; earlier = 0; later = 0 }
+searched (some p) = record { number = accepted; place = 0; found = 1; earlier = p .0; later = p .1 }
 
 -- "Refusals: reading's without 11"
 unfoldable pub duplicatesAnswer : ℕ → List ℕ → Duplicates
 duplicatesAnswer e s =
     let a = answer e s in
-    elim (eqb (a .number) 0) [
+    elim (eqb (a .number) accepted) [
       | false ↦ record { number = a .number; place = a .place; found = 0; earlier = 0; later = 0 }
       | true ↦ searched (pairOf (ids s))
     ]

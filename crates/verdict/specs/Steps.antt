@@ -6,11 +6,12 @@ use mathlib.Core.Option.{Option, some, none as absent}
 use mathlib.Core.Path.{_≡_}
 use lib.Dec.{eqb}
 use lib.ListN.{length}
-use Rattle.der.specs.Walk.{longest}
+use Rattle.der.specs.Refusal.{accepted}
+use Rattle.der.specs.Bounds.{longest}
 use Rattle.crmf.specs.Fields.{Field, seek}
 use Rattle.verdict.specs.declared.verdict.Part.{Part}
 use Rattle.verdict.specs.declared.verdict.Verdict.{Verdict}
-use Rattle.verdict.specs.Verdict.{enciphermentVerdict, agreementVerdict}
+use Rattle.verdict.specs.Verdict.{noProof, raVerified, signedRequest, signedInput, signatureNeither, enciphermentVerdict, agreementVerdict}
 
 -- Two places of an input that is not too long, in order.
 pub record Places (s : List ℕ) (at end : ℕ) : Type 0 where
@@ -34,7 +35,7 @@ pub record Found (o : Option Field) (r : Part) : Type 0 where
 
 -- a verdict, with the signed part
 abbrev pub told : ℕ → Part → Verdict
-told v p = record { number = 0; place = 0; verdict = v; from = p .from; length = p .length }
+told v p = record { number = accepted; place = 0; verdict = v; from = p .from; length = p .length }
 
 -- a verdict without one
 abbrev pub bare : ℕ → Verdict
@@ -44,20 +45,20 @@ bare v = told v (partOf absent)
 unfoldable pub signatureAnswer : Option Field → (named : Bool) → Part → Verdict
 signatureAnswer input named request =
     elim input [
-      | absent ↦ elim named [ true ↦ told 2 request | false ↦ bare 4 ]
-      | some x ↦ elim named [ true ↦ bare 4 | false ↦ told 3 (partOf (some x)) ]
+      | absent ↦ elim named [ true ↦ told signedRequest request | false ↦ bare signatureNeither ]
+      | some x ↦ elim named [ true ↦ bare signatureNeither | false ↦ told signedInput (partOf (some x)) ]
     ]
 
--- the verdict by the identifier of what stands behind the certReq, and by the fields inside it
+-- the verdict by the identifier of what stands after the certReq, and by the fields inside it
 unfoldable pub proofAnswer : ℕ → List Field → (named : Bool) → Part → Verdict
 proofAnswer id inside named request =
     elim (eqb id 0x80) [
-      | true ↦ bare 1
+      | true ↦ bare raVerified
       | false ↦ elim (eqb id 0xA1) [
         | true ↦ signatureAnswer (seek (0xA0 ∷ []) inside) named request
         | false ↦ elim (eqb id 0xA2) [
           | true ↦ bare (enciphermentVerdict (holds 0x82 inside))
-          | false ↦ elim (eqb id 0xA3) [ true ↦ bare (agreementVerdict (holds 0x82 inside) named) | false ↦ bare 0 ]
+          | false ↦ elim (eqb id 0xA3) [ true ↦ bare (agreementVerdict (holds 0x82 inside) named) | false ↦ bare noProof ]
         ]
       ]
     ]

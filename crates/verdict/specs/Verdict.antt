@@ -8,12 +8,45 @@ use lib.Dec.{eqb, ltb}
 use lib.ListN.{length, getD}
 use lib.Seq.{slice}
 use denote.Ref.{RefT, ptr, now}
+use Rattle.der.specs.Refusal.{accepted, noSuchMessage}
 use Rattle.der.specs.Reading.{tree}
 use Rattle.crmf.specs.Fields.{Field, child, missing}
 use Rattle.crmf.specs.Messages.{Message, messageOf, batch, messages}
 use Rattle.editions.specs.declared.reader.Answer.{Answer}
 use Rattle.editions.specs.Reading.{answer}
 use Rattle.verdict.specs.declared.verdict.Verdict.{Verdict}
+
+-- "0 no proof."
+abbrev pub noProof : ℕ
+noProof = 0
+
+-- "1 raVerified."
+abbrev pub raVerified : ℕ
+raVerified = 1
+
+-- "2 signature over the certReq: no poposkInput, subject and publicKey both in the template."
+abbrev pub signedRequest : ℕ
+signedRequest = 2
+
+-- "3 signature over poposkInput: present, subject or publicKey missing."
+abbrev pub signedInput : ℕ
+signedInput = 3
+
+-- "4 signature otherwise."
+abbrev pub signatureNeither : ℕ
+signatureNeither = 4
+
+-- "5 other keyEncipherment"
+abbrev pub keyEncipherment : ℕ
+keyEncipherment = 5
+
+-- "6 other keyAgreement."
+abbrev pub keyAgreement : ℕ
+keyAgreement = 6
+
+-- "7 choice 82 under keyEncipherment, or without both subject and publicKey."
+abbrev pub macMisplaced : ℕ
+macMisplaced = 7
 
 -- whether an element with the identifier stands in a field
 abbrev pub has : ℕ → Field → Bool
@@ -23,32 +56,35 @@ has id f = elim (child id f) [ absent ↦ false | some x ↦ true ]
 abbrev pub named : Message → Bool
 named m = has 0xA5 (m .template) && has 0xA6 (m .template)
 
--- "signature A1": "2 signature over the certReq: no poposkInput, subject and publicKey both in the template. 3 signature over poposkInput:
--- present, subject or publicKey missing. 4 signature otherwise."
+-- "signature A1": by whether poposkInput is there, and whether the template has both
 abbrev pub signatureVerdict : (input named : Bool) → ℕ
-signatureVerdict input named = elim input [ true ↦ elim named [ true ↦ 4 | false ↦ 3 ] | false ↦ elim named [ true ↦ 2 | false ↦ 4 ] ]
+signatureVerdict input named =
+    elim input [
+      | true ↦ elim named [ true ↦ signatureNeither | false ↦ signedInput ]
+      | false ↦ elim named [ true ↦ signedRequest | false ↦ signatureNeither ]
+    ]
 
--- "7 choice 82 under keyEncipherment, or without both subject and publicKey. 5 other keyEncipherment, 6 other keyAgreement."
+-- "keyEncipherment A2" and "keyAgreement A3": by whether the choice is 82, and whether the template has both
 abbrev pub enciphermentVerdict : (mac : Bool) → ℕ
-enciphermentVerdict mac = elim mac [ true ↦ 7 | false ↦ 5 ]
+enciphermentVerdict mac = elim mac [ true ↦ macMisplaced | false ↦ keyEncipherment ]
 
 abbrev pub agreementVerdict : (mac named : Bool) → ℕ
-agreementVerdict mac named = elim (mac && not named) [ true ↦ 7 | false ↦ 6 ]
+agreementVerdict mac named = elim (mac && not named) [ true ↦ macMisplaced | false ↦ keyAgreement ]
 
 -- the verdict on a proof, by its identifier: "raVerified 80", "signature A1", "keyEncipherment A2 or keyAgreement A3"
 abbrev pub proofVerdict : Message → Field → ℕ
 proofVerdict m p =
     elim (eqb (p .identifier) 0x80) [
-      | true ↦ 1
+      | true ↦ raVerified
       | false ↦ elim (eqb (p .identifier) 0xA1) [
         | true ↦ signatureVerdict (has 0xA0 p) (named m)
         | false ↦ elim (eqb (p .identifier) 0xA2) [ true ↦ enciphermentVerdict (has 0x82 p) | false ↦ agreementVerdict (has 0x82 p) (named m) ]
       ]
     ]
 
--- "Verdicts: 0 no proof."
+-- the verdict on a message
 unfoldable pub verdictOf : Message → ℕ
-verdictOf m = elim (m .proof) [ absent ↦ 0 | some p ↦ proofVerdict m p ]
+verdictOf m = elim (m .proof) [ absent ↦ noProof | some p ↦ proofVerdict m p ]
 
 -- "Verdicts 2 and 3 hand back the signed element's bytes as they stand: the certReq, or poposkInput from its A0": its place and length; "Other
 -- verdicts and refusals hand back an empty part", from place 0
@@ -57,9 +93,9 @@ inputOf m = elim (m .proof) [ absent ↦ (0, 0) | some p ↦ elim (child 0xA0 p)
 
 unfoldable pub signedOf : Message → ℕ × ℕ
 signedOf m =
-    elim (eqb (verdictOf m) 2) [
+    elim (eqb (verdictOf m) signedRequest) [
       | true ↦ (m .certReq .place, m .certReq .whole)
-      | false ↦ elim (eqb (verdictOf m) 3) [ true ↦ inputOf m | false ↦ (0, 0) ]
+      | false ↦ elim (eqb (verdictOf m) signedInput) [ true ↦ inputOf m | false ↦ (0, 0) ]
     ]
 
 -- no message
@@ -72,19 +108,19 @@ messageAt s position = getD (messages (tree 0 s)) position (noMessage s)
 
 -- a refusal, with the numbers that the papers leave free
 abbrev pub refused : ℕ → ℕ → Verdict
-refused n p = record { number = n; place = p; verdict = 0; from = 0; length = 0 }
+refused n p = record { number = n; place = p; verdict = noProof; from = 0; length = 0 }
 
 -- what a message's verdict answers
 abbrev pub judged : Message → Verdict
-judged m = record { number = 0; place = 0; verdict = verdictOf m; from = signedOf m .0; length = signedOf m .1 }
+judged m = record { number = accepted; place = 0; verdict = verdictOf m; from = signedOf m .0; length = signedOf m .1 }
 
 -- "Refusals: as reading without 11, then 14"
 unfoldable pub verdictAnswer : ℕ → List ℕ → ℕ → Verdict
 verdictAnswer e s position =
     let a = answer e s in
-    elim (eqb (a .number) 0) [
+    elim (eqb (a .number) accepted) [
       | false ↦ refused (a .number) (a .place)
-      | true ↦ elim (ltb position (length (messages (tree 0 s)))) [ false ↦ refused 14 0 | true ↦ judged (messageAt s position) ]
+      | true ↦ elim (ltb position (length (messages (tree 0 s)))) [ false ↦ refused noSuchMessage 0 | true ↦ judged (messageAt s position) ]
     ]
 
 -- the octets of the signed part, as a verdict gives its place and length

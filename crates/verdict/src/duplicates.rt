@@ -1,5 +1,6 @@
 // The search for two messages with the same certReqId.
 use der::reading;
+use der::refusal::ACCEPTED;
 ghost use Prim.Native.Nat.{_≤_};
 ghost use mathlib.Core.Path.{_≡_};
 ghost use lib.ListN.{length};
@@ -10,7 +11,7 @@ ghost use Rattle.verdict.specs.Collecting.{Accepted, most, Collected, id
 // A message's certReqId, a signed whole number. It is never a position.
 pub struct ReqId(pub i64);
 
-// What the search answers: document 01's number (0: searched), its place, whether a pair was found (1), and the pair's positions.
+// What the search answers: document 01's number (`der::refusal`; ACCEPTED where it searched), its place, whether a pair was found (1), and the pair's positions.
 #[repr(C)]
 pub struct Duplicates {
     pub number: usize,
@@ -28,7 +29,7 @@ pub fn search(edition: usize, bytes: &[u8]) -> Duplicates
     ensures { λ r. ⌜ r ≡ duplicatesAnswer edition (now (bytes .entry)) ⌝ }
 {
     let judged = editions::reader::accept(edition, bytes);
-    if judged.number != 0 {
+    if judged.number != ACCEPTED {
         return Duplicates {
             number: judged.number,
             place: judged.place,
@@ -117,7 +118,7 @@ fn first_pair(numbers: &[i64]) -> Duplicates
     }
     if later < numbers.len() {
         return Duplicates {
-            number: 0,
+            number: ACCEPTED,
             place: 0,
             found: 1,
             earlier,
@@ -125,7 +126,7 @@ fn first_pair(numbers: &[i64]) -> Duplicates
         };
     }
     Duplicates {
-        number: 0,
+        number: ACCEPTED,
         place: 0,
         found: 0,
         earlier: 0,

@@ -1,6 +1,8 @@
 // The verdict on a message's proof, and the part that its signature covers.
 use der::reading::Element;
 use der::reading::read_at;
+use der::refusal::ACCEPTED;
+use der::refusal::NO_SUCH_MESSAGE;
 use editions::reader::accept;
 ghost use mathlib.Core.Path.{_≡_};
 ghost use mathlib.Core.List.{List, [], _∷_};
@@ -12,10 +14,36 @@ ghost use Rattle.crmf.proofs.Laws.{MessageParts};
 ghost use Rattle.verdict.specs.Verdict.{named, enciphermentVerdict, agreementVerdict, refused, judged, verdictAnswer, HandedBack};
 ghost use Rattle.verdict.specs.Steps.{Places, holds, Found, told, bare, signatureAnswer, proofAnswer};
 
+// The verdicts.
+
+// The message has no proof.
+pub const NO_PROOF: usize = 0;
+
+// raVerified.
+pub const RA_VERIFIED: usize = 1;
+
+// A signature over the certReq: no poposkInput, and subject and publicKey both in the template.
+pub const SIGNED_REQUEST: usize = 2;
+
+// A signature over poposkInput: it is present, and subject or publicKey is missing.
+pub const SIGNED_INPUT: usize = 3;
+
+// Any other signature.
+pub const SIGNATURE_NEITHER: usize = 4;
+
+// Any other keyEncipherment.
+pub const KEY_ENCIPHERMENT: usize = 5;
+
+// Any other keyAgreement.
+pub const KEY_AGREEMENT: usize = 6;
+
+// Choice 82 under keyEncipherment, or without both subject and publicKey.
+pub const MAC_MISPLACED: usize = 7;
+
 // A message's position in its batch, from 0. It is never a certReqId.
 pub struct Position(pub usize);
 
-// What the verdict answers: document 01's number (0: a verdict), its place, the verdict, and where the signed part stands.
+// What the verdict answers: document 01's number (`der::refusal`; ACCEPTED with a verdict), its place, the verdict, and where the signed part stands.
 #[repr(C)]
 pub struct Verdict {
     pub number: usize,
@@ -32,25 +60,25 @@ struct Part {
 }
 
 // Judges the proof of the message at a position: the verdict, and where its signed part stands, if it has one. The refusals are those of
-// reading without 11, then 14.
+// reading without NO_ROOM, then NO_SUCH_MESSAGE.
 pub fn judge(edition: usize, bytes: &[u8], position: Position) -> Verdict
     ensures { λ r. ⌜ r ≡ verdictAnswer edition (now (bytes .entry)) (position .0) ⌝ }
 {
     let found = accept(edition, bytes);
-    if found.number != 0 {
+    if found.number != ACCEPTED {
         return refuse(found.number, found.place);
     }
     let batch = read_at(bytes, 0, bytes.len());
     let end = batch.end;
     let at = skip(bytes, batch.content, end, position.0);
     if end <= at {
-        return refuse(14, 0);
+        return refuse(NO_SUCH_MESSAGE, 0);
     }
     message(bytes, at, end)
 }
 
-// The part of the bytes that the signature of the message at a position covers: the certReq with verdict 2, the poposkInput with verdict
-// 3, and an empty part with any other verdict or a refusal.
+// The part of the bytes that the signature of the message at a position covers: the certReq with
+// SIGNED_REQUEST, the poposkInput with SIGNED_INPUT, and an empty part with any other verdict or a refusal.
 pub fn signed_part(edition: usize, bytes: &[u8], position: Position) -> &[u8]
     ensures { λ r. ⌜ HandedBack (bytes .entry) r (verdictAnswer edition (now (bytes .entry)) (position .0)) ⌝ }
 {
@@ -125,16 +153,16 @@ fn message(bytes: &[u8], at: usize, end: usize) -> Verdict
     let first = own.content;
     let last = own.end;
     let request = read_at(bytes, first, last);
-    let behind = request.end;
-    let both = is_named(bytes, request.content, behind);
+    let after = request.end;
+    let both = is_named(bytes, request.content, after);
     let part = Part {
         from: first,
-        length: behind - first,
+        length: after - first,
     };
-    proof_verdict(bytes, read_at(bytes, behind, last), both, part)
+    proof_verdict(bytes, read_at(bytes, after, last), both, part)
 }
 
-// The verdict by what stands behind the certReq.
+// The verdict by what stands after the certReq.
 fn proof_verdict(bytes: &[u8], proof: Element, both: bool, request: Part) -> Verdict
     requires { ⌜ Places (now bytes) (proof .content) (proof .end) ⌝ }
     ensures { λ r. ⌜ r ≡ proofAnswer (proof .identifier) (fieldsBetween (now (bytes .entry)) (proof .content) (proof .end)) both request ⌝ }
@@ -143,11 +171,11 @@ fn proof_verdict(bytes: &[u8], proof: Element, both: bool, request: Part) -> Ver
     let from = proof.content;
     let to = proof.end;
     match id {
-        0x80 => plain(1),
+        0x80 => plain(RA_VERIFIED),
         0xA1 => signature(find(bytes, from, to, 0xA0), both, request),
         0xA2 => plain(encipherment(has(bytes, from, to, 0x82))),
         0xA3 => plain(agreement(has(bytes, from, to, 0x82), both)),
-        _ => plain(0),
+        _ => plain(NO_PROOF),
     }
 }
 
@@ -157,28 +185,32 @@ fn signature(input: Part, both: bool, request: Part) -> Verdict
 {
     if input.length == 0 {
         if both {
-            return tell(2, request);
+            return tell(SIGNED_REQUEST, request);
         }
-        return plain(4);
+        return plain(SIGNATURE_NEITHER);
     }
     if both {
-        return plain(4);
+        return plain(SIGNATURE_NEITHER);
     }
-    tell(3, input)
+    tell(SIGNED_INPUT, input)
 }
 
 // The verdict on keyEncipherment, by whether its choice is 82.
 fn encipherment(mac: bool) -> usize
     ensures { λ r. ⌜ r ≡ enciphermentVerdict mac ⌝ }
 {
-    if mac { 7 } else { 5 }
+    if mac { MAC_MISPLACED } else { KEY_ENCIPHERMENT }
 }
 
 // The verdict on keyAgreement.
 fn agreement(mac: bool, both: bool) -> usize
     ensures { λ r. ⌜ r ≡ agreementVerdict mac both ⌝ }
 {
-    if mac & !both { 7 } else { 6 }
+    if mac & !both {
+        MAC_MISPLACED
+    } else {
+        KEY_AGREEMENT
+    }
 }
 
 // A verdict with the part that is signed.
@@ -186,7 +218,7 @@ fn tell(verdict: usize, part: Part) -> Verdict
     ensures { λ r. ⌜ r ≡ told verdict part ⌝ }
 {
     Verdict {
-        number: 0,
+        number: ACCEPTED,
         place: 0,
         verdict,
         from: part.from,
@@ -199,7 +231,7 @@ fn plain(verdict: usize) -> Verdict
     ensures { λ r. ⌜ r ≡ bare verdict ⌝ }
 {
     Verdict {
-        number: 0,
+        number: ACCEPTED,
         place: 0,
         verdict,
         from: 0,
@@ -214,7 +246,7 @@ fn refuse(number: usize, place: usize) -> Verdict
     Verdict {
         number,
         place,
-        verdict: 0,
+        verdict: NO_PROOF,
         from: 0,
         length: 0,
     }

@@ -9,21 +9,16 @@ use lib.Dec.{eqb, leb}
 use lib.ListN.{length, getD, drop, set, length-drop}
 use lib.Seq.{drop-length, getD-set-same, getD-set-other}
 use borrow.Author.Tests.{lt-leb, le-leb, eqb-true, eqb-false, ne-eqb}
-use Rattle.der.specs.Walk.{longest}
+use Rattle.der.specs.Bounds.{longest}
 use Rattle.crmf.specs.Rows.{Row}
 use Rattle.crmf.specs.Pieces.{pieceOf, piecesOf, wholeOf, childrenOf, within}
-use Rattle.crmf.proofs.Laws.{pieces-none, pieces-row, children-none, children-piece, within-none, within-piece, children-bound}
+use Rattle.crmf.proofs.Laws.{pieces-none, pieces-row, children-none, children-piece, within-none, within-piece, children-bound, pieces-length}
 use Rattle.writer.specs.Draft.{inside}
 use Rattle.writer.specs.Writing.{most}
 use Rattle.writer.specs.Steps.{lies, Whole, sound, children, Summed, Blank, Added}
 
--- as many pieces as rows
-pub pieces-length : (bytes : List ℕ) (rs : List Row) → length (piecesOf bytes rs) ≡ length rs
-pieces-length bytes [] = ap length (pieces-none bytes)
-pieces-length bytes (r ∷ rs) = ap length (pieces-row bytes r rs) ∙ ap suc (pieces-length bytes rs)
-
 module _ (bytes : List ℕ) where
-  -- no rows are sound, and so are a row and those behind it where each is
+  -- no rows are sound, and so are a row and those after it where each is
   sound-none : (n : ℕ) → sound bytes n [] ≡ true
   unfolding inside
   sound-none n = ap (within longest n) (pieces-none bytes) ∙ within-none longest n
@@ -31,7 +26,7 @@ module _ (bytes : List ℕ) where
   abbrev whole : ℕ → Row → List Row → ℕ
   whole n r rs = wholeOf (pieceOf bytes r) (childrenOf n (suc n) (piecesOf bytes rs))
 
-  -- the tests of a row and of those behind it, in the definition's order and row by row
+  -- the tests of a row and of those after it, in the definition's order and row by row
   regroup : (a b c d : Bool) → ((a && b) && (c && d)) ≡ ((a && c) && (b && d))
   regroup true true c d = refl
   regroup true false true d = refl
@@ -49,8 +44,8 @@ module _ (bytes : List ℕ) where
   sound-rest n rs ok zero = rw add-zero ok
   sound-rest n [] ok (suc j) = sound-none (n + suc j)
   sound-rest n (r ∷ rs) ok (suc j) =
-      let behind = and-eq-true-iff (lies bytes r && leb (whole n r rs) longest) (sound bytes (suc n) rs) .0 (sym (sound-row n r rs) ∙ ok) .1 in
-      subst (λ (k : ℕ). sound bytes k (drop j rs) ≡ true) (suc-add n j ∙ sym (add-suc n j)) (sound-rest (suc n) rs behind j)
+      let after = and-eq-true-iff (lies bytes r && leb (whole n r rs) longest) (sound bytes (suc n) rs) .0 (sym (sound-row n r rs) ∙ ok) .1 in
+      subst (λ (k : ℕ). sound bytes k (drop j rs) ≡ true) (suc-add n j ∙ sym (add-suc n j)) (sound-rest (suc n) rs after j)
 
 -- What the rows from number i on have settled: each is sound, and a table has the sums of the rows before i so far, and of the others whole.
 pub record Settled (bytes : List ℕ) (rs : List Row) (i : ℕ) (old table : List ℕ) : Type 0 where
@@ -63,7 +58,7 @@ pub record Settled (bytes : List ℕ) (rs : List Row) (i : ℕ) (old table : Lis
   pub whole-sums : (k : ℕ) → i ≤ k → k < length rs → getD table k 0 ≡ children bytes rs k
 
 module _ (bytes : List ℕ) (rs : List Row) where
-  -- behind the last row nothing is to be added
+  -- after the last row nothing is to be added
   pub settled-last : (table : List ℕ) → Blank rs table → Settled bytes rs (length rs) table table
   settled-last table blank =
       record {
@@ -73,7 +68,7 @@ module _ (bytes : List ℕ) (rs : List Row) where
         below = omega arith;
         sounds = rw (drop-length rs) (sound-none bytes (length rs));
         open-sums = λ k before. blank .zero k before ∙ sym (rw (drop-length rs, pieces-none bytes) (children-none k (length rs)));
-        whole-sums = λ k behind there. absurd (omega arith);
+        whole-sums = λ k after there. absurd (omega arith);
       }
 
   -- before the first, every sum is whole
@@ -130,12 +125,12 @@ module _ (bytes : List ℕ) (rs : List Row) where
                 ∙ ap₂ (λ (x y : ℕ). elim (eqb (r .parent) k) as (λ b. ℕ) [ true ↦ x | false ↦ 0 ] + y) (w .same short ∙ ap (wholeOf (pieceOf bytes r)) own-sum) (s .open-sums k (omega arith))
                 ∙ sym (children-piece k j (pieceOf bytes r) (piecesOf bytes (drop (suc j) rs)))
                 ∙ ap (childrenOf k j) (sym (ap (piecesOf bytes) cut ∙ pieces-row bytes r (drop (suc j) rs)));
-            whole-sums = λ k behind there. added .others k behind ∙ go k behind there (eqb j k) refl;
+            whole-sums = λ k after there. added .others k after ∙ go k after there (eqb j k) refl;
           }
         where
           go : (k : ℕ) → j ≤ k → k < length rs → (b : Bool) → eqb j k ≡ b → getD table k 0 ≡ children bytes rs k
-          go k behind there true is = subst (λ (x : ℕ). getD table x 0 ≡ children bytes rs x) (eqb-true j k is) own-sum
-          go k behind there false other = s .whole-sums k (omega (arith, eqb-false j k other)) there
+          go k after there true is = subst (λ (x : ℕ). getD table x 0 ≡ children bytes rs x) (eqb-true j k is) own-sum
+          go k after there false other = s .whole-sums k (omega (arith, eqb-false j k other)) there
 
 -- a number added at the parent's place
 module _ (old : List ℕ) (parent limit n : ℕ) where
@@ -143,11 +138,11 @@ module _ (old : List ℕ) (parent limit n : ℕ) where
   added-past past =
       record {
         below = λ k before. rw (ne-eqb parent k (λ is. omega arith)) (sym (zero-add (getD old k 0)));
-        others = λ k behind. refl;
+        others = λ k after. refl;
       }
 
   pub added-at : parent < limit → limit ≤ length old → Added old parent limit n (set old parent (getD old parent 0 + n))
-  added-at before room = record { below = λ k there. go k (eqb parent k) refl; others = λ k behind. getD-set-other old parent k _ 0 (λ is. omega arith) }
+  added-at before room = record { below = λ k there. go k (eqb parent k) refl; others = λ k after. getD-set-other old parent k _ 0 (λ is. omega arith) }
     where
       go : (k : ℕ) (b : Bool) → eqb parent k ≡ b
           → getD (set old parent (getD old parent 0 + n)) k 0 ≡ elim b as (λ x. ℕ) [ true ↦ n | false ↦ 0 ] + getD old k 0

@@ -7,7 +7,8 @@ use mathlib.Core.List.{List}
 use lib.Dec.{eqb, leb}
 use lib.ListN.{length, replicate, length-replicate, getD-replicate}
 use borrow.Author.Tests.{leb-true, le-leb, lt-leb}
-use Rattle.der.specs.Walk.{longest}
+use Rattle.der.specs.Refusal.{noRoom, noSuchBatch, unknownEdition}
+use Rattle.der.specs.Bounds.{longest}
 use Rattle.crmf.specs.Rows.{width}
 use Rattle.crmf.specs.Fill.{over}
 use Rattle.editions.specs.declared.reader.Answer.{Answer}
@@ -70,18 +71,18 @@ module _ (e : ℕ) (draft bytes old : List ℕ) where
   unfolding outputAfter
   refused a is other = (is, rw (outputAfter, ← is, other))
 
-  pub no-edition : (not (eqb e 1) && not (eqb e 2)) ≡ true → (a : Answer) → a ≡ refusal 13 0 → Answers a old
+  pub no-edition : (not (eqb e 1) && not (eqb e 2)) ≡ true → (a : Answer) → a ≡ refusal unknownEdition 0 → Answers a old
   unfolding writeAnswer
   no-edition none a is = refused a (is ∙ sym (rw (writeAnswer, neither (eqb e 1) (eqb e 2) none))) (ap (λ (x : Answer). eqb (x .number) 0) is)
 
   module _ (known : (not (eqb e 1) && not (eqb e 2)) ≡ false) where
-    pub no-batch : described e draft bytes ≡ false → (a : Answer) → a ≡ refusal 12 0 → Answers a old
+    pub no-batch : described e draft bytes ≡ false → (a : Answer) → a ≡ refusal noSuchBatch 0 → Answers a old
     unfolding writeAnswer
     no-batch nothing a is =
         refused a (is ∙ sym (rw (writeAnswer, either (eqb e 1) (eqb e 2) known, nothing))) (ap (λ (x : Answer). eqb (x .number) 0) is)
 
     module _ (describes : described e draft bytes ≡ true) where
-      pub no-room : length old < length (candidate draft bytes) → (a : Answer) → a ≡ refusal 11 0 → Answers a old
+      pub no-room : length old < length (candidate draft bytes) → (a : Answer) → a ≡ refusal noRoom 0 → Answers a old
       unfolding writeAnswer
       no-room short a is =
           refused a (is ∙ sym (rw (writeAnswer, either (eqb e 1) (eqb e 2) known, describes, lt-leb (length (candidate draft bytes)) (length old) short)))

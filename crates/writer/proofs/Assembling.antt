@@ -9,14 +9,14 @@ use lib.Dec.{leb}
 use lib.ListN.{length, take, drop, length-append}
 use lib.Seq.{drop-length, length-take-le}
 use borrow.Author.Tests.{leb-true}
-use Rattle.der.specs.Walk.{longest}
+use Rattle.der.specs.Bounds.{longest}
 use Rattle.crmf.specs.Rows.{Row}
 use Rattle.crmf.specs.Pieces.{pieceOf, piecesOf, own, wholeOf, assembled, within}
 use Rattle.crmf.proofs.Laws.{pieces-none, pieces-row, assembled-none, assembled-piece, within-piece}
 use Rattle.writer.specs.Steps.{children, Appended, Begins}
 use Rattle.writer.proofs.WholeLengths.{stands-same, stands-past}
 
--- The octets of the rows before number i stand in the scratch's first ones, and the others' come behind them.
+-- The octets of the rows before number i stand in the scratch's first ones, and the others' come after them.
 pub record Joined (bytes : List ℕ) (rs : List Row) (i at : ℕ) (old scratch : List ℕ) : Type 0 where
   pub room : longest ≤ length old
   pub sized : length scratch ≡ length old
@@ -34,7 +34,7 @@ module _ (bytes : List ℕ) (rs : List Row) where
     before : length (take at scratch) ≡ at
     before = length-take-le at scratch (omega (arith, j .room, j .sized, j .short))
 
-    -- behind the last row the whole stands there
+    -- after the last row the whole stands there
     pub joined-last : length rs ≤ i → Begins (assembled 0 (piecesOf bytes rs)) at scratch
     joined-last last =
         let end : i ≡ length rs = omega (arith, j .below) in
@@ -52,7 +52,7 @@ module _ (bytes : List ℕ) (rs : List Row) where
       pieces : piecesOf bytes (drop i rs) ≡ pieceOf bytes r ∷ piecesOf bytes (drop (suc i) rs)
       pieces = ap (piecesOf bytes) cut ∙ pieces-row bytes r (drop (suc i) rs)
 
-      -- the row's whole length isn't too long, and neither is that of one behind it
+      -- the row's whole length isn't too long, and neither is that of one after it
       fits : (leb (wholeOf (pieceOf bytes r) inner) longest ≡ true) × (within longest (suc i) (piecesOf bytes (drop (suc i) rs)) ≡ true)
       fits =
           rw sum

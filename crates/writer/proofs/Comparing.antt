@@ -12,10 +12,9 @@ use borrow.Author.Tests.{eq-eqb, ne-eqb}
 use Rattle.crmf.specs.Value.{same}
 use Rattle.crmf.specs.Rows.{Row, container}
 use Rattle.crmf.specs.Pieces.{Piece, pieceOf, piecesOf}
-use Rattle.crmf.proofs.Laws.{pieces-none, pieces-row, same-none, same-more}
+use Rattle.crmf.proofs.Laws.{pieces-none, pieces-row, same-none, same-more, pieces-length}
 use Rattle.writer.specs.Writing.{samePieces}
 use Rattle.writer.specs.Steps.{samePiece}
-use Rattle.writer.proofs.AddingUp.{pieces-length}
 use Rattle.writer.proofs.WholeLengths.{leaf-octets}
 
 -- octets of one length, compared as far as a place
@@ -84,7 +83,7 @@ module _ (bytes octets : List ℕ) (rs ss : List Row) where
   other-rows other =
       sym (other-count (piecesOf bytes rs) (piecesOf octets ss) (λ is. other (sym (sym (pieces-length bytes rs) ∙ is ∙ pieces-length octets ss))))
 
-  -- behind the last row nothing is compared
+  -- after the last row nothing is compared
   pub from-end : (i : ℕ) → i ≡ length rs → i ≡ length ss → from i ≡ true
   unfolding samePieces
   from-end i one other = ap₂ samePieces (none bytes rs one) (none octets ss other)
@@ -92,7 +91,7 @@ module _ (bytes octets : List ℕ) (rs ss : List Row) where
       none : (l : List ℕ) (qs : List Row) → i ≡ length qs → piecesOf l (drop i qs) ≡ []
       none l qs end = ap (λ (n : ℕ). piecesOf l (drop n qs)) end ∙ ap (piecesOf l) (drop-length qs) ∙ pieces-none l
 
-  -- a row is compared before those behind it
+  -- a row is compared before those after it
   pub from-row : (i : ℕ) (r s : Row) → drop i rs ≡ r ∷ drop (suc i) rs → drop i ss ≡ s ∷ drop (suc i) ss
       → from i ≡ (samePiece (pieceOf bytes r) (pieceOf octets s) && from (i + 1))
   unfolding samePieces

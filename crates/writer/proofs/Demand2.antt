@@ -9,8 +9,9 @@ use mathlib.Core.List.{List, [], _∷_}
 use lib.Dec.{eqb, leb}
 use lib.ListN.{length, getD, take}
 use borrow.Author.Tests.{le-leb}
+use Rattle.der.specs.Refusal.{accepted as acceptance, noRoom, noSuchBatch}
 use Rattle.der.specs.Octets.{Octets}
-use Rattle.der.specs.Walk.{depth}
+use Rattle.der.specs.Bounds.{depth}
 use Rattle.crmf.specs.Rows.{Row, width, container, numbers, batchRows, allShort}
 use Rattle.crmf.specs.Fill.{over}
 use Rattle.crmf.specs.Pieces.{piecesOf}
@@ -31,7 +32,7 @@ known second-edition = refl
 
 module _ {e : ℕ} (ed : Edition e) (draft bytes old : List ℕ) where
   -- what isn't described is refused with 12
-  refused : described e draft bytes ≡ false → writeAnswer e draft bytes old ≡ refusal 12 0
+  refused : described e draft bytes ≡ false → writeAnswer e draft bytes old ≡ refusal noSuchBatch 0
   unfolding writeAnswer
   refused not-one = rw (writeAnswer, known ed, not-one)
 
@@ -40,7 +41,7 @@ module _ {e : ℕ} (ed : Edition e) (draft bytes old : List ℕ) where
   unfolding writeAnswer
   room-or-not one twelve = go (leb (length (candidate draft bytes)) (length old)) (rw (writeAnswer, known ed, one) at twelve)
     where
-      go : (b : Bool) → elim b as (λ x. Answer) [ false ↦ refusal 11 0 | true ↦ accepted (length (candidate draft bytes)) ] .number ≡ 12 → ⊥
+      go : (b : Bool) → elim b as (λ x. Answer) [ false ↦ refusal noRoom 0 | true ↦ accepted (length (candidate draft bytes)) ] .number ≡ 12 → ⊥
       go true is = omega arith
       go false is = omega arith
 
@@ -73,7 +74,7 @@ module _ {e : ℕ} (ed : Edition e) (draft bytes old : List ℕ) where
 
 -- "and reading it shows the draft's fields": given room it accepts, with the draft's kinds and parents and, in each leaf, its bytes
 pub reads-back : {e : ℕ} → Edition e → (draft bytes s table : List ℕ) → HasRows e draft bytes s → length draft ≤ length table
-    → (readAnswer e s table .number ≡ 0)
+    → (readAnswer e s table .number ≡ acceptance)
     × ((rs : List Row) × (Holds rs (readAnswer e s table .count) table (tableAfter e s table) × (piecesOf s rs ≡ drafted draft bytes)))
 reads-back {e} ed draft bytes s table h room =
     let rs = batchRows (h .batch .batch) in
@@ -107,7 +108,7 @@ own-rows s octets g fit = record {
 }
 
 -- "Writing the rows of an accepted batch into enough room gives its bytes again"
-pub writes-again : {e : ℕ} → Edition e → (s table old : List ℕ) → Octets s → readAnswer e s table .number ≡ 0 → length s ≤ length old
+pub writes-again : {e : ℕ} → Edition e → (s table old : List ℕ) → Octets s → readAnswer e s table .number ≡ acceptance → length s ≤ length old
     → (writeAnswer e (take (width * readAnswer e s table .count) (tableAfter e s table)) s old ≡ accepted (length s))
     × (outputAfter e (take (width * readAnswer e s table .count) (tableAfter e s table)) s old ≡ over old 0 s)
 writes-again {e} ed s table old octets zero room =

@@ -7,8 +7,9 @@ use mathlib.Core.List.{List, [], _∷_}
 use lib.Dec.{eqb, leb}
 use lib.ListN.{length}
 use borrow.Author.Tests.{eqb-true, eq-eqb, le-leb}
+use Rattle.der.specs.Refusal.{accepted as acceptance}
 use Rattle.der.specs.Octets.{Octets}
-use Rattle.der.specs.Walk.{depth, longest}
+use Rattle.der.specs.Bounds.{depth, longest}
 use Rattle.crmf.specs.Value.{same}
 use Rattle.crmf.specs.Rows.{Row, width, batchRows}
 use Rattle.crmf.specs.Fill.{rowsOf}
@@ -87,7 +88,7 @@ module _ {e : ℕ} (ed : Edition e) (draft bytes s : List ℕ) (h : HasRows e dr
 
   has-shown : shows e draft bytes ≡ true
   has-shown =
-      let zero : answer e s .number ≡ 0 = ap (λ (a : Answer). a .number) (in-accepted s g ed (h .octets) (h .fit)) in
+      let zero : answer e s .number ≡ acceptance = ap (λ (a : Answer). a .number) (in-accepted s g ed (h .octets) (h .fit)) in
       let alike : samePieces (drafted draft bytes) (piecesOf s (rowsOf s)) ≡ true =
       ap₂ samePieces pieces-are (ap (piecesOf s) (nest-rows s g)) ∙ pieces-themselves (piecesOf s own) in
       ap (λ (c : List ℕ). eqb (answer e c .number) 0 && samePieces (drafted draft bytes) (piecesOf c (rowsOf c))) has-candidate

@@ -7,19 +7,19 @@ use mathlib.Core.List.{List}
 use lib.Dec.{eqb, leb}
 use lib.ListN.{length, take}
 use borrow.Author.Tests.{leb-true, leb-false, eq-eqb, eqb-true}
+use Rattle.der.specs.Refusal.{accepted as acceptance}
 use Rattle.der.specs.Octets.{Octets}
-use Rattle.der.specs.Walk.{longest}
+use Rattle.der.specs.Bounds.{longest}
 use Rattle.crmf.specs.Rows.{Row, width, numbers}
 use Rattle.crmf.specs.Fill.{fits, rowsOf}
 use Rattle.crmf.specs.Pieces.{piecesOf, within}
-use Rattle.crmf.proofs.Laws.{over-holds}
+use Rattle.crmf.proofs.Laws.{over-holds, pieces-length, fits-room}
 use Rattle.editions.specs.declared.reader.Answer.{Answer}
 use Rattle.editions.specs.Reading.{answer, readAnswer, tableAfter}
 use Rattle.editions.proofs.Tables.{answer-counts, shown, with-room, shown-table}
 use Rattle.writer.specs.Draft.{inside}
 use Rattle.writer.specs.Writing.{rowsIn, shaped, drafted, candidate, samePieces, shows, described}
 use Rattle.writer.specs.Steps.{sound}
-use Rattle.writer.proofs.AddingUp.{pieces-length}
 use Rattle.writer.proofs.Comparing.{other-count}
 use Rattle.writer.proofs.DraftRows.{rows-back}
 
@@ -60,8 +60,8 @@ module _ (e : ℕ) (draft bytes : List ℕ) where
   -- the candidate of a draft that describes a batch isn't too long
   pub described-short : described e draft bytes ≡ true → length (candidate draft bytes) ≤ longest
   described-short is =
-      let behind = and-eq-true-iff (shaped draft) _ .0 (sym in-order ∙ is) .1 in
-      let last = and-eq-true-iff (sound bytes 0 (rowsIn draft)) _ .0 behind .1 in
+      let after = and-eq-true-iff (shaped draft) _ .0 (sym in-order ∙ is) .1 in
+      let last = and-eq-true-iff (sound bytes 0 (rowsIn draft)) _ .0 after .1 in
       leb-true (length (candidate draft bytes)) longest (and-eq-true-iff (leb (length (candidate draft bytes)) longest) (shows e draft bytes) .0 last .0)
 
   module _ (s : List ℕ) (is : s ≡ candidate draft bytes) (octets : Octets s) (old : List ℕ) where
@@ -72,14 +72,14 @@ module _ (e : ℕ) (draft bytes : List ℕ) where
         ∙ ap (λ (x : Bool). x && samePieces (drafted draft bytes) (piecesOf s (rowsOf s))) test
 
     -- Where reading it is refused, with room for as many rows as the draft has, it doesn't show the draft's pieces.
-    pub read-refuses : width * length (rowsIn draft) ≤ length old → (readAnswer e s old .number ≡ 0 → ⊥) → shows e draft bytes ≡ false
+    pub read-refuses : width * length (rowsIn draft) ≤ length old → (readAnswer e s old .number ≡ acceptance → ⊥) → shows e draft bytes ≡ false
     read-refuses room some = by-number (eqb (answer e s .number) 0) refl
       where
-        by-room : answer e s .number ≡ 0 → (b : Bool) → fits (answer e s .count) old ≡ b → samePieces (drafted draft bytes) (piecesOf s (rowsOf s)) ≡ false
+        by-room : answer e s .number ≡ acceptance → (b : Bool) → fits (answer e s .count) old ≡ b → samePieces (drafted draft bytes) (piecesOf s (rowsOf s)) ≡ false
         by-room zero true enough = absurd (some (ap (λ (a : Answer). a .number) (with-room e s old zero enough) ∙ zero))
         by-room zero false few =
             let count = answer-counts e s octets zero in
-            let short = leb-false (width * answer e s .count) (length old) few in
+            let short = leb-false (width * answer e s .count) (length old) (sym (fits-room (answer e s .count) old) ∙ few) in
             other-count (drafted draft bytes) (piecesOf s (rowsOf s))
             (λ alike. omega (arith, alike, count, short, pieces-length bytes (rowsIn draft), pieces-length s (rowsOf s)))
 
@@ -87,13 +87,13 @@ module _ (e : ℕ) (draft bytes : List ℕ) where
         by-number true test = by-answer true test ∙ by-room (eqb-true _ 0 test) (fits (answer e s .count) old) refl
         by-number false test = by-answer false test
 
-    module _ (zero : readAnswer e s old .number ≡ 0) where
+    module _ (zero : readAnswer e s old .number ≡ acceptance) where
       -- Where it is accepted, there was room for its rows,
       pub read-room : width * readAnswer e s old .count ≤ length old
       read-room =
           let found = shown e s old zero in
           let same = ap (λ (a : Answer). a .count) (found .same) in
-          omega (arith, same, leb-true (width * answer e s .count) (length old) (found .room))
+          omega (arith, same, leb-true (width * answer e s .count) (length old) (sym (fits-room (answer e s .count) old) ∙ found .room))
 
       -- and what the table then holds decides.
       pub read-shows : shows e draft bytes

@@ -1,4 +1,4 @@
--- Octets written behind the first of a scratch: none, one, a copy, and two runs. Assumes nothing.
+-- Octets written after the first of a scratch: none, one, a copy, and two runs. Assumes nothing.
 use Prim.Native.Nat.{ℕ, _+_, _-_, _≤_, _<_}
 use native.Mathlib.Nat.{add-zero}
 use native.Mathlib.Numerals.{add-one}
@@ -9,6 +9,7 @@ use lib.ListN.{length, take, drop, set, length-append, length-take, drop-of-leng
 use lib.Seq.{take-all, take-at, take-suc-set, length-take-le}
 use borrow.Rule.Slice.PartMut.{putMid, post-is}
 use Rattle.crmf.specs.Fill.{over}
+use Rattle.crmf.proofs.Laws.{over-parts}
 use Rattle.writer.specs.Steps.{Appended}
 
 -- a part that is a copy, put back into its place
@@ -21,7 +22,7 @@ copied old at octets part fits is =
     let short : length lent ≤ n = rw length-take (omega arith) in
     let whole : part ≡ octets =
     is ∙ ap₂ (λ (x y : List ℕ). x ++ y) (take-all n octets (omega arith)) (drop-of-length-le lent short) ∙ append-nil octets in
-    ap₂ (λ (x y : List ℕ). take at old ++ (x ++ y)) whole (post-is at (at + n) old (omega arith))
+    ap₂ (λ (x y : List ℕ). take at old ++ (x ++ y)) whole (post-is at (at + n) old (omega arith)) ∙ sym (over-parts old at octets)
 
 module _ (old : List ℕ) (at : ℕ) where
   -- with no room nothing is said of the scratch
@@ -42,11 +43,11 @@ module _ (old : List ℕ) (at : ℕ) where
       record {
         place = refl;
         kept = λ fits.
-            ap (take (at + length octets)) (is ∙ sym (append-assoc (take at old) octets rest))
+            ap (take (at + length octets)) (is ∙ over-parts old at octets ∙ sym (append-assoc (take at old) octets rest))
             ∙ take-at (take at old ++ octets) rest (at + length octets) size;
       }
 
-  -- two runs, the second behind the first
+  -- two runs, the second after the first
   pub append-two : (mid new : List ℕ) (next end : ℕ) (p q : List ℕ) → length mid ≡ length old → Appended old at p next mid
       → Appended mid next q end new → Appended old at (p ++ q) end new
   append-two mid new next end p q sized one two =

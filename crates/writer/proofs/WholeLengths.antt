@@ -10,7 +10,7 @@ use lib.ListN.{length}
 use lib.Seq.{slice, length-slice}
 use borrow.Author.Tests.{lt-leb, le-leb, eqb-true, eqb-false}
 use Rattle.der.specs.Length.{lengthOctets}
-use Rattle.der.specs.Walk.{longest}
+use Rattle.der.specs.Bounds.{longest}
 use Rattle.crmf.specs.Rows.{Row, container}
 use Rattle.crmf.specs.Pieces.{pieceOf, wholeOf, implied}
 use Rattle.crmf.proofs.Laws.{whole-container, whole-leaf, implied-type, implied-none}

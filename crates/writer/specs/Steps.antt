@@ -1,4 +1,4 @@
--- What the inner functions of writing promise: rows as the code has them, whole lengths, and octets written one run behind another.
+-- What the inner functions of writing promise: rows as the code has them, whole lengths, and octets written one run after another.
 -- Assumes nothing.
 use Prim.Native.Nat.{ℕ, suc, _+_, _*_, _≤_, _<_}
 use mathlib.Core.Path.{_≡_}
@@ -6,7 +6,7 @@ use mathlib.Core.Bool.{Bool, true, false, _&&_, _||_}
 use mathlib.Core.List.{List, _++_}
 use lib.Dec.{eqb, leb}
 use lib.ListN.{length, getD, take, drop}
-use Rattle.der.specs.Walk.{longest}
+use Rattle.der.specs.Bounds.{longest}
 use Rattle.crmf.specs.Value.{same}
 use Rattle.crmf.specs.Rows.{Row, container, width}
 use Rattle.crmf.specs.Pieces.{Piece, pieceOf, piecesOf, wholeOf, childrenOf, within}
@@ -46,7 +46,7 @@ children bytes rs k = childrenOf k (suc k) (piecesOf bytes (drop (suc k) rs))
 abbrev pub Summed : List ℕ → List Row → List ℕ → Type 0
 Summed bytes rs table = (k : ℕ) → k < length rs → getD table k 0 ≡ children bytes rs k
 
--- Octets are written behind the first so many of a scratch, if there is room for them, and `next` is the place behind them.
+-- Octets are written after the first `at` of a scratch, if there is room for them, and `next` is the place after them.
 pub record Appended (old : List ℕ) (at : ℕ) (octets : List ℕ) (next : ℕ) (new : List ℕ) : Type 0 where
   pub place : next ≡ at + length octets
   pub kept : next ≤ length old → take next new ≡ take at old ++ octets
@@ -90,7 +90,15 @@ pub record Room (draft scratch table : List ℕ) : Type 0 where
   pub rows : width * length (rowsIn draft) ≤ length table
   pub blank : Blank (rowsIn draft) table
 
--- A draft is found to describe a batch of so many octets, with which a scratch begins, or none.
+-- what building goes on with: a sound draft and its sums, a scratch with room for the longest batch, and room for the draft's rows
+pub record AddedUp (draft bytes scratch table : List ℕ) : Type 0 where
+  pub shape : shaped draft ≡ true
+  pub sounds : sound bytes 0 (rowsIn draft) ≡ true
+  pub summed : Summed bytes (rowsIn draft) table
+  pub octets : longest ≤ length scratch
+  pub rows : width * length (rowsIn draft) ≤ length table
+
+-- A draft is found to describe a batch, with whose octets a scratch begins, or nothing.
 abbrev pub Built : ℕ → List ℕ → List ℕ → List ℕ → Found → Type 0
 Built e draft bytes scratch (Batch n) = (described e draft bytes ≡ true) × (take n scratch ≡ candidate draft bytes) × (n ≤ longest)
 Built e draft bytes scratch Nothing = described e draft bytes ≡ false

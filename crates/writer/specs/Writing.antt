@@ -4,16 +4,18 @@ use mathlib.Core.Bool.{Bool, true, false, _&&_, _||_}
 use mathlib.Core.List.{List, [], _∷_}
 use lib.Dec.{eqb, leb}
 use lib.ListN.{length}
-use Rattle.der.specs.Walk.{longest}
+use Rattle.der.specs.Refusal.{accepted as acceptance, noRoom, noSuchBatch, unknownEdition}
+use Rattle.der.specs.Bounds.{longest}
 use Rattle.crmf.specs.Value.{same}
 use Rattle.crmf.specs.Rows.{Row, width}
 use Rattle.crmf.specs.Fill.{over, rowsOf}
 use Rattle.crmf.specs.Pieces.{Piece, piecesOf, assembled, within}
 use Rattle.editions.specs.declared.reader.Answer.{Answer}
+use Rattle.editions.specs.Edition.{rfc2511, rfc4211}
 use Rattle.editions.specs.Reading.{refusal, accepted, answer}
 use Rattle.writer.specs.Draft.{inside}
 
--- the rows of a draft, each four of its numbers; what is left behind them is none
+-- the rows of a draft, each four of its numbers; fewer than four after the last row are ignored
 unfoldable pub rowsIn : List ℕ → List Row
 rowsIn [] = []
 rowsIn (k ∷ []) = []
@@ -25,7 +27,7 @@ rowsIn (k ∷ p ∷ w ∷ u ∷ more) = record { kind = k; first = p; whole = w;
 abbrev pub most : ℕ
 most = 32767
 
--- "12 also if the row numbers aren't a multiple of four"; more rows than any batch has are none's
+-- "12 also if the row numbers aren't a multiple of four"; no batch has more rows than `most`
 abbrev pub shaped : List ℕ → Bool
 shaped draft = eqb (width * length (rowsIn draft)) (length draft) && leb (length (rowsIn draft)) most
 
@@ -53,7 +55,7 @@ assembles draft bytes =
 abbrev pub shows : ℕ → List ℕ → List ℕ → Bool
 shows e draft bytes =
     let s = candidate draft bytes in
-    eqb (answer e s .number) 0 && samePieces (drafted draft bytes) (piecesOf s (rowsOf s))
+    eqb (answer e s .number) acceptance && samePieces (drafted draft bytes) (piecesOf s (rowsOf s))
 
 -- Whether a draft describes a batch.
 unfoldable pub described : ℕ → List ℕ → List ℕ → Bool
@@ -62,12 +64,12 @@ described e draft bytes = shaped draft && (assembles draft bytes && shows e draf
 -- "Order of writing refusals: 13, 12, 11"; "Writing answers 0 and the batch's length"
 unfoldable pub writeAnswer : ℕ → List ℕ → List ℕ → List ℕ → Answer
 writeAnswer e draft bytes old =
-    elim (eqb e 1 || eqb e 2) [
-      | false ↦ refusal 13 0
+    elim (eqb e rfc2511 || eqb e rfc4211) [
+      | false ↦ refusal unknownEdition 0
       | true ↦ elim (described e draft bytes) [
-        | false ↦ refusal 12 0
+        | false ↦ refusal noSuchBatch 0
         | true ↦ elim (leb (length (candidate draft bytes)) (length old)) [
-          | false ↦ refusal 11 0
+          | false ↦ refusal noRoom 0
           | true ↦ accepted (length (candidate draft bytes))
         ]
       ]
@@ -76,4 +78,4 @@ writeAnswer e draft bytes old =
 -- "Output past the batch stays", and a refusal changes nothing
 unfoldable pub outputAfter : ℕ → List ℕ → List ℕ → List ℕ → List ℕ
 outputAfter e draft bytes old =
-    elim (eqb (writeAnswer e draft bytes old .number) 0) [ true ↦ over old 0 (candidate draft bytes) | false ↦ old ]
+    elim (eqb (writeAnswer e draft bytes old .number) acceptance) [ true ↦ over old 0 (candidate draft bytes) | false ↦ old ]

@@ -2,11 +2,11 @@
 use crate::draft::row_at;
 use crate::draft::rows;
 use crate::octets::put;
-use der::input::LONGEST;
+use der::bounds::LONGEST;
 ghost use Rattle.writer.specs.Writing.{candidate};
 ghost use Rattle.writer.specs.Steps.{Lent, Begins};
 
-// Writes the candidate into a scratch; answers its length, or a number past the longest where it is longer.
+// Writes the candidate into a scratch; answers its length, or some number above LONGEST where it is too long.
 pub(crate) fn assemble(draft: &[usize], bytes: &[u8], sums: &[usize], scratch: &mut [u8]) -> usize
     requires { ⌜ Lent (now draft) (now bytes) (now sums) (now scratch) ⌝ }
     ensures { λ r. ⌜ Begins (candidate (now (draft .entry)) (now (bytes .entry))) r (now (scratch .exit)) ⌝ }

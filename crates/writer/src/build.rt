@@ -1,20 +1,22 @@
-// A draft's candidate is assembled in a scratch, read, and compared with the draft.
+// Whether a draft describes a batch: its candidate is assembled in a scratch, read, and compared with the draft.
 use crate::assemble::assemble;
 use crate::compare::same_pieces;
 use crate::draft::rows;
-use crate::sums::sums;
+use crate::sums::add_up;
 use crmf::fill::WIDTH;
-use der::input::LONGEST;
+use der::bounds::LONGEST;
+use der::refusal::ACCEPTED;
 use editions::reader::read;
-ghost use Prim.Native.Nat.{_≤_};
+ghost use Prim.Native.Nat.{_*_, _≤_};
 ghost use mathlib.Core.Path.{_≡_};
 ghost use mathlib.Core.Bool.{true};
 ghost use lib.ListN.{length};
-ghost use Rattle.der.specs.Walk.{longest};
-ghost use Rattle.writer.specs.Writing.{rowsIn, shaped};
-ghost use Rattle.writer.specs.Steps.{few, Room, Built};
+ghost use Rattle.der.specs.Bounds.{longest};
+ghost use Rattle.crmf.specs.Rows.{width};
+ghost use Rattle.writer.specs.Writing.{rowsIn, shaped, candidate, shows};
+ghost use Rattle.writer.specs.Steps.{few, Room, AddedUp, Built};
 
-// What a draft is found to describe: a batch of so many octets, or none.
+// What a draft is found to describe: a batch, by its length, or nothing.
 pub(crate) enum Found {
     Batch(usize),
     Nothing,
@@ -23,10 +25,10 @@ pub(crate) enum Found {
 // The most rows that a batch can have.
 pub(crate) const MOST: usize = 32767;
 
-// Rows for which a small table is enough. A table is made with zeros, which for the largest takes longer than all else.
+// The most rows for which a small table is made. Clearing the largest table takes longer than the rest of a small draft.
 const FEW: usize = 256;
 
-// Finds what a draft describes; a scratch then begins with the batch.
+// Finds what a draft describes; the scratch then begins with the batch.
 pub(crate) fn build(edition: usize, draft: &[usize], bytes: &[u8], scratch: &mut [u8]) -> Found
     requires { ⌜ (shaped (now draft) ≡ true) × (longest ≤ length (now scratch)) ⌝ }
     ensures { λ r. ⌜ Built edition (now (draft .entry)) (now (bytes .entry)) (now (scratch .exit)) r ⌝ }
@@ -37,7 +39,7 @@ pub(crate) fn build(edition: usize, draft: &[usize], bytes: &[u8], scratch: &mut
     build_many(edition, draft, bytes, scratch)
 }
 
-// The same of few rows.
+// The same for a draft of few rows.
 fn build_few(edition: usize, draft: &[usize], bytes: &[u8], scratch: &mut [u8]) -> Found
     requires { ⌜ (shaped (now draft) ≡ true) × (longest ≤ length (now scratch)) × (length (rowsIn (now draft)) ≤ few) ⌝ }
     ensures { λ r. ⌜ Built edition (now (draft .entry)) (now (bytes .entry)) (now (scratch .exit)) r ⌝ }
@@ -46,7 +48,7 @@ fn build_few(edition: usize, draft: &[usize], bytes: &[u8], scratch: &mut [u8]) 
     build_in(edition, draft, bytes, scratch, &mut table)
 }
 
-// The same of as many as a batch can have.
+// The same for a draft of as many rows as a batch can have.
 fn build_many(edition: usize, draft: &[usize], bytes: &[u8], scratch: &mut [u8]) -> Found
     requires { ⌜ (shaped (now draft) ≡ true) × (longest ≤ length (now scratch)) ⌝ }
     ensures { λ r. ⌜ Built edition (now (draft .entry)) (now (bytes .entry)) (now (scratch .exit)) r ⌝ }
@@ -55,7 +57,7 @@ fn build_many(edition: usize, draft: &[usize], bytes: &[u8], scratch: &mut [u8])
     build_in(edition, draft, bytes, scratch, &mut table)
 }
 
-// The same with a table that is lent.
+// The same with a table that is lent: it takes the sums, and then the rows that reading the candidate shows.
 fn build_in(
     edition: usize,
     draft: &[usize],
@@ -66,20 +68,48 @@ fn build_in(
     requires { ⌜ Room (now draft) (now scratch) (now table) ⌝ }
     ensures { λ r. ⌜ Built edition (now (draft .entry)) (now (bytes .entry)) (now (scratch .exit)) r ⌝ }
 {
-    if !sums(draft, bytes, table) {
+    if !add_up(draft, bytes, table) {
         return Found::Nothing;
     }
+    build_summed(edition, draft, bytes, scratch, table)
+}
+
+// The same for a draft whose sums stand in the table.
+fn build_summed(
+    edition: usize,
+    draft: &[usize],
+    bytes: &[u8],
+    scratch: &mut [u8],
+    table: &mut [usize],
+) -> Found
+    requires { ⌜ AddedUp (now draft) (now bytes) (now scratch) (now table) ⌝ }
+    ensures { λ r. ⌜ Built edition (now (draft .entry)) (now (bytes .entry)) (now (scratch .exit)) r ⌝ }
+{
     let length = assemble(draft, bytes, table, scratch);
     if LONGEST < length {
         return Found::Nothing;
     }
-    let answer = read(edition, &scratch[..length], table);
-    if answer.number != 0 {
-        return Found::Nothing;
-    }
-    let end = WIDTH * answer.count;
-    if same_pieces(draft, bytes, &table[..end], &scratch[..length]) {
+    if is_shown(edition, draft, bytes, &scratch[..length], table) {
         return Found::Batch(length);
     }
     Found::Nothing
+}
+
+// Whether reading the candidate accepts it and shows the draft's pieces.
+fn is_shown(
+    edition: usize,
+    draft: &[usize],
+    bytes: &[u8],
+    batch: &[u8],
+    table: &mut [usize],
+) -> bool
+    requires { ⌜ (now batch ≡ candidate (now draft) (now bytes)) × (width * length (rowsIn (now draft)) ≤ length (now table)) ⌝ }
+    ensures { λ r. ⌜ r ≡ shows edition (now (draft .entry)) (now (bytes .entry)) ⌝ }
+{
+    let answer = read(edition, batch, table);
+    if answer.number != ACCEPTED {
+        return false;
+    }
+    let end = WIDTH * answer.count;
+    same_pieces(draft, bytes, &table[..end], batch)
 }

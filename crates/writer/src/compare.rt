@@ -10,7 +10,7 @@ ghost use Rattle.crmf.specs.Pieces.{pieceOf};
 ghost use Rattle.writer.specs.Writing.{drafted, samePieces};
 ghost use Rattle.writer.specs.Steps.{rowOf, samePiece};
 
-// Whether the pieces are the same, one by one.
+// Whether a draft's pieces are the same as another's, row by row.
 pub(crate) fn same_pieces(draft: &[usize], bytes: &[u8], other: &[usize], octets: &[u8]) -> bool
     ensures { λ r. ⌜ r ≡ samePieces (drafted (now (draft .entry)) (now (bytes .entry))) (drafted (now (other .entry)) (now (octets .entry))) ⌝ }
 {
@@ -47,7 +47,7 @@ fn same_piece(row: Row, bytes: &[u8], other: Row, octets: &[u8]) -> bool
     )
 }
 
-// Whether octets are the same.
+// Whether two runs of octets are the same.
 fn same_octets(a: &[u8], b: &[u8]) -> bool
     ensures { λ r. ⌜ r ≡ same (now (a .entry)) (now (b .entry)) ⌝ }
 {

@@ -24,7 +24,7 @@ pub(crate) fn rows(draft: &[usize]) -> usize
     draft.len() / WIDTH
 }
 
-// The row of a number: the rows from there on begin with it.
+// The row with the number `i`.
 pub(crate) fn row_at(draft: &[usize], i: usize) -> Row
     requires { ⌜ i < length (rowsIn (now draft)) ⌝ }
     ensures { λ r. ⌜ drop i (rowsIn (now (draft .entry))) ≡ rowOf r ∷ drop (suc i) (rowsIn (now (draft .entry))) ⌝ }
@@ -38,7 +38,7 @@ pub(crate) fn row_at(draft: &[usize], i: usize) -> Row
     }
 }
 
-// The octets that a leaf shows of some bytes, as far as there are any.
+// The octets of a leaf, `whole` of them from the place `first` on, as far as the bytes have them.
 pub(crate) fn leaf(bytes: &[u8], first: usize, whole: usize) -> &[u8]
     ensures { λ r. ⌜ now r ≡ slice first (first + whole) (now (bytes .entry)) ⌝ }
 {

@@ -1,17 +1,18 @@
 // The whole lengths of rows.
 use crate::draft::Row;
 use crate::draft::container;
-use der::input::LONGEST;
+use der::bounds::LONGEST;
 ghost use Prim.Native.Nat.{suc, _+_, _*_, _≤_};
 ghost use mathlib.Core.Path.{_≡_};
 ghost use lib.ListN.{length};
 ghost use Rattle.der.specs.Length.{lengthOctets};
-ghost use Rattle.der.specs.Walk.{longest};
+ghost use Rattle.der.specs.Bounds.{longest};
 ghost use Rattle.crmf.specs.Pieces.{implied};
 ghost use Rattle.writer.specs.Writing.{most};
 ghost use Rattle.writer.specs.Steps.{rowOf, Stands, Whole};
 
-// The whole length of a row around so many octets; past the longest where it is longer, or is a leaf that leaves the slice.
+// The whole length of a row whose children have `inner` octets together; more than LONGEST where it is too long, or is a leaf that leaves
+// the slice.
 pub(crate) fn whole_of(row: Row, bytes: &[u8], inner: usize) -> usize
     requires { ⌜ inner ≤ longest * most ⌝ }
     ensures { λ r. ⌜ Whole (now (bytes .entry)) (rowOf row) inner r ⌝ }
@@ -30,7 +31,7 @@ pub(crate) fn whole_of(row: Row, bytes: &[u8], inner: usize) -> usize
     whole
 }
 
-// The whole length of a container around so many octets.
+// The whole length of a container whose children have `inner` octets together; more than LONGEST where it is too long.
 fn whole_around(kind: usize, inner: usize) -> usize
     requires { ⌜ inner ≤ longest * most ⌝ }
     ensures { λ r. ⌜ Stands r (suc (length (lengthOctets (length (implied kind) + inner)) + (length (implied kind) + inner))) ⌝ }
@@ -39,18 +40,18 @@ fn whole_around(kind: usize, inner: usize) -> usize
     if LONGEST < content {
         return content;
     }
-    1 + octets_of(content) + content
+    1 + length_octets(content) + content
 }
 
-// How many octets the implied type of a container has.
+// How many octets the type has that a container implies.
 pub(crate) fn implied_length(kind: usize) -> usize
     ensures { λ r. ⌜ r ≡ length (implied kind) ⌝ }
 {
     if kind == 74 { 11 } else { 0 }
 }
 
-// How many length octets a content of so many octets has.
-fn octets_of(content: usize) -> usize
+// How many length octets stand before `content` content octets.
+fn length_octets(content: usize) -> usize
     requires { ⌜ content ≤ longest ⌝ }
     ensures { λ r. ⌜ (r ≡ length (lengthOctets content)) × (r ≤ 3) ⌝ }
 {

@@ -1,4 +1,4 @@
-// The octets that a row adds to a batch, written into a scratch one run behind another.
+// The octets that a row adds to a batch, written into a scratch one run after another.
 use crate::draft::Row;
 use crate::draft::container;
 use crate::draft::leaf;
@@ -8,12 +8,12 @@ ghost use mathlib.Core.Path.{_≡_};
 ghost use mathlib.Core.List.{[], _∷_, _++_};
 ghost use lib.ListN.{length};
 ghost use Rattle.der.specs.Length.{lengthOctets};
-ghost use Rattle.der.specs.Walk.{longest};
+ghost use Rattle.der.specs.Bounds.{longest};
 ghost use Rattle.crmf.specs.Fill.{over};
 ghost use Rattle.crmf.specs.Pieces.{pieceOf, identifierOf, implied, own, wholeOf};
 ghost use Rattle.writer.specs.Steps.{rowOf, Appended};
 
-// Writes a row's own octets from the place `at` on, where its children have so many together; answers the place behind them.
+// Writes a row's own octets from the place `at` on, where its children have `inner` octets together; answers the place after them.
 pub(crate) fn put(row: Row, inner: usize, bytes: &[u8], at: usize, scratch: &mut [u8]) -> usize
     requires { ⌜ (wholeOf (pieceOf (now bytes) (rowOf row)) inner ≤ longest) × (at ≤ longest) ⌝ }
     ensures { λ r. ⌜ Appended (now (scratch .entry)) at (own (pieceOf (now (bytes .entry)) (rowOf row)) inner) r (now (scratch .exit)) ⌝ }
@@ -49,7 +49,7 @@ fn identifier(kind: usize) -> u8
     }
 }
 
-// Writes the shortest length octets of a content of so many octets.
+// Writes the length octets of `content` content octets, in the shortest form.
 fn put_length(content: usize, at: usize, scratch: &mut [u8]) -> usize
     requires { ⌜ (content ≤ longest) × (at ≤ 2 * longest) ⌝ }
     ensures { λ r. ⌜ Appended (now (scratch .entry)) at (lengthOctets content) r (now (scratch .exit)) ⌝ }
@@ -66,7 +66,7 @@ fn put_length(content: usize, at: usize, scratch: &mut [u8]) -> usize
     push((content % 256) as u8, last, scratch)
 }
 
-// Writes the type that a container implies, if it does.
+// Writes the type that a container implies, if it implies one.
 fn put_type(kind: usize, at: usize, scratch: &mut [u8]) -> usize
     requires { ⌜ at ≤ 2 * longest ⌝ }
     ensures { λ r. ⌜ Appended (now (scratch .entry)) at (implied kind) r (now (scratch .exit)) ⌝ }

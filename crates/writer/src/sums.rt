@@ -1,18 +1,18 @@
-// What the children of each row have together, added up from the last row to the first.
+// How many octets each row's children have together, added up from the last row to the first.
 use crate::draft::row_at;
 use crate::draft::rows;
 use crate::lengths::whole_of;
-use der::input::LONGEST;
+use der::bounds::LONGEST;
 ghost use Prim.Native.Nat.{ℕ, _*_, _≤_, _<_};
 ghost use mathlib.Core.Path.{_≡_};
 ghost use mathlib.Core.Bool.{true};
 ghost use lib.ListN.{length, getD};
-ghost use Rattle.der.specs.Walk.{longest};
+ghost use Rattle.der.specs.Bounds.{longest};
 ghost use Rattle.writer.specs.Writing.{rowsIn, most};
 ghost use Rattle.writer.specs.Steps.{sound, Summed, Blank, Added};
 
-// Adds the sums up in a table; answers whether every leaf lies in the slice and no row is too long.
-pub(crate) fn sums(draft: &[usize], bytes: &[u8], table: &mut [usize]) -> bool
+// Adds up the sums in a table; answers whether every leaf lies in the slice and no row is too long.
+pub(crate) fn add_up(draft: &[usize], bytes: &[u8], table: &mut [usize]) -> bool
     requires { ⌜ Blank (rowsIn (now draft)) (now table) ⌝ }
     ensures { λ r. ⌜ (r ≡ sound (now (bytes .entry)) 0 (rowsIn (now (draft .entry))))
         × (r ≡ true → Summed (now (bytes .entry)) (rowsIn (now (draft .entry))) (now (table .exit))) ⌝ }
@@ -30,7 +30,7 @@ pub(crate) fn sums(draft: &[usize], bytes: &[u8], table: &mut [usize]) -> bool
     true
 }
 
-// Adds a whole length to the parent's sum, if the parent is before the row i.
+// Adds the whole length of row `i` to its parent's sum, if the parent is an earlier row.
 fn add(table: &mut [usize], parent: usize, i: usize, whole: usize)
     requires { ⌜ (i ≤ length (now table)) × (whole ≤ longest) × ((k : ℕ) → k < i → getD (now table) k 0 ≤ longest * most) ⌝ }
     ensures { λ _. ⌜ Added (now (table .entry)) parent i whole (now (table .exit)) ⌝ }

@@ -5,7 +5,13 @@ use crate::build::build;
 use crate::draft::rows;
 use crate::octets::copy;
 use crmf::fill::WIDTH;
-use der::input::LONGEST;
+use der::bounds::LONGEST;
+use der::refusal::ACCEPTED;
+use der::refusal::NO_ROOM;
+use der::refusal::NO_SUCH_BATCH;
+use der::refusal::UNKNOWN_EDITION;
+use editions::edition::RFC2511;
+use editions::edition::RFC4211;
 use editions::reader::Answer;
 ghost use mathlib.Core.Path.{_≡_};
 ghost use Rattle.editions.specs.Reading.{refusal};
@@ -17,23 +23,23 @@ pub fn write(edition: usize, draft: &[usize], bytes: &[u8], output: &mut [u8]) -
     ensures { λ r. ⌜ (r ≡ spec.writeAnswer edition (now (draft .entry)) (now (bytes .entry)) (now (output .entry)))
         × (now (output .exit) ≡ spec.outputAfter edition (now (draft .entry)) (now (bytes .entry)) (now (output .entry))) ⌝ }
 {
-    if (edition != 1) & (edition != 2) {
-        return refuse(13);
+    if (edition != RFC2511) & (edition != RFC4211) {
+        return refuse(UNKNOWN_EDITION);
     }
     if !shaped(draft) {
-        return refuse(12);
+        return refuse(NO_SUCH_BATCH);
     }
     let mut scratch = [0u8; LONGEST];
     let found = build(edition, draft, bytes, &mut scratch);
     let Found::Batch(length) = found else {
-        return refuse(12);
+        return refuse(NO_SUCH_BATCH);
     };
     if output.len() < length {
-        return refuse(11);
+        return refuse(NO_ROOM);
     }
     copy(&scratch[..length], 0, output);
     Answer {
-        number: 0,
+        number: ACCEPTED,
         place: 0,
         count: length,
     }

@@ -4,18 +4,20 @@ use borrow.Author.Needs.{needs}
 use borrow.Author.Tests.{eq-eqb, ne-eqb}
 use native.Mathlib.Omega.{arith}
 use mathlib.Core.Path.{_≡_, ap, _∙_}
+use Rattle.der.specs.Refusal.{accepted}
+use Rattle.der.proofs.Laws.{octets-each}
 use Rattle.verdict.specs.declared.verdict.Verdict.{Verdict}
 use Rattle.verdict.proofs.RefusalNumbers.{verdict-number}
-use Rattle.capi.specs.OneNumber.{oneNumber}
+use Rattle.capi.specs.OneNumber.{refusedBy, oneNumber}
 use Rattle.capi.proofs.phagundro_verdict_number.Statement.{statement}
 use Rattle.capi.proofs.phagundro_verdict_number.Tie as tie
 
 -- one number, by the ways of the code
 module _ (v : Verdict) where
-  told : v .number ≡ 0 → v .verdict ≡ oneNumber v
+  told : v .number ≡ accepted → v .verdict ≡ oneNumber v
   told zero = rw (oneNumber, eq-eqb (v .number) 0 zero)
 
-  refused : (v .number ≡ 0 → ⊥) → 256 + v .number ≡ oneNumber v
+  refused : (v .number ≡ accepted → ⊥) → refusedBy + v .number ≡ oneNumber v
   refused some = rw (oneNumber, ne-eqb (v .number) 0 some)
 
 judge-requires : tie.Need-judge-requires
@@ -26,7 +28,7 @@ add-result c =
     let judged = c .before .before .before in
     let known = judged .before in
     let a = known .before .args in
-    let small = verdict-number (a .edition) (a .bytes .now) (a .position) (λ i. known .shared-slice-known .given i .fits) in
+    let small = verdict-number (a .edition) (a .bytes .now) (a .position) (octets-each (a .bytes .now) (λ i. known .shared-slice-known .given i .fits)) in
     omega (arith, small, ap (λ (v : Verdict). v .number) (judged .judge .ensures))
 
 returns : tie.Need-returns

@@ -4,12 +4,12 @@ use Prim.Native.Nat.{ℕ, _+_, _-_}
 use mathlib.Core.Path.{_≡_, sym, ap, _∙_}
 use lib.ListN.{getD, take, drop}
 use lib.Seq.{slice}
+use Rattle.der.proofs.Laws.{take-slice}
 use Rattle.crmf.specs.Packed.{packed, judgeCode, judgeField, nextField}
 use Rattle.crmf.specs.Walk.{line}
 use Rattle.crmf.specs.Fill.{goes}
 use Rattle.crmf.proofs.Fields.{judge-at, next-at}
 use Rattle.crmf.proofs.Judging.{goes-on, goes-by}
-use Rattle.crmf.proofs.Slices.{take-slice}
 use Rattle.crmf.proofs.fill.onward.Statement.{statement}
 use Rattle.crmf.proofs.fill.onward.Tie as tie
 
@@ -25,7 +25,7 @@ returns c = λ k e.
     let coded : judgeCode j ≡ c .before .before .judge-of .result = sym (judge-at k) ∙ ap judgeField (sym e) ∙ sym (c .before .before .judge-of .ensures) in
     let next : c .before .next-of .result ≡ line k .next = c .before .next-of .ensures ∙ ap nextField e ∙ next-at k in
     let a = c .before .before .before .before .args in
-    let content = slice (a .from) (a .to) (a .bytes .now) in
+    let content = slice (a .fit .content) (a .fit .end) (a .bytes .now) in
     next ∙ goes-on (line k .next) _ content (c .if1 .taken) j coded
 
 sub-selected : tie.Need-sub-selected
@@ -56,11 +56,11 @@ returns-2 c = λ k e.
     let a = given .before .before .before .args in
     let coded : judgeCode j ≡ given .before .judge-of .result = sym (judge-at k) ∙ ap judgeField (sym e) ∙ sym (given .before .judge-of .ensures) in
     let next : given .next-of .result ≡ line k .next = given .next-of .ensures ∙ ap nextField e ∙ next-at k in
-    let part = take-slice (a .from) (a .to) (a .bytes .now) (given .before .before .before .pre .1) in
+    let part = take-slice (a .fit .content) (a .fit .end) (a .bytes .now) (given .before .before .before .pre .1) in
     c .next-of2 .ensures
     ∙ ap nextField (c .before .word .ensures ∙ ap (λ (n : ℕ). getD packed (n + c .before .before .selected .result) 0) next)
     ∙ next-at (line k .next + c .before .before .selected .result)
-    ∙ goes-by (line k .next) _ (take (a .to - a .from) (drop (a .from) (a .bytes .now))) (c .before .before .before .before .if1 .left) _ (c .before .before .selected .ensures .0) j coded
+    ∙ goes-by (line k .next) _ (take (a .fit .end - a .fit .content) (drop (a .fit .content) (a .bytes .now))) (c .before .before .before .before .if1 .left) _ (c .before .before .selected .ensures .0) j coded
     ∙ ap (goes j (line k .next)) part
 
 pub onward-spec : {M : Type 1} → statement M

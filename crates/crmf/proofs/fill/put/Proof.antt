@@ -8,16 +8,16 @@ use Rattle.crmf.proofs.fill.put.Tie as tie
 
 returns : tie.Need-returns
 returns c =
-    let a = c .before .args in
-    put-none (a .out .now) (a .row) (a .limit) (a .kind) (a .first) (a .whole) (a .parent) (c .if1 .taken)
+    let a = c .before .before .args in
+    put-none (a .out .now) (a .row) (a .limit) (a .new) (c .if1 .taken)
 
 add-result : tie.Need-add-result
 add-result c = search needs
 
 returns-2 : tie.Need-returns-2
 returns-2 c =
-    let a = c .before .before .args in
-    put-past (a .out .now) (a .row) (a .limit) (a .kind) (a .first) (a .whole) (a .parent) (c .before .if1 .left) (c .if2 .taken)
+    let a = c .before .before .before .args in
+    put-past (a .out .now) (a .row) (a .limit) (a .new) (c .before .if1 .left) (c .if2 .taken)
 
 mul-at : tie.Need-mul-at
 mul-at c = search needs
@@ -63,8 +63,9 @@ same-length c = search needs
 
 returns-3 : tie.Need-returns-3
 returns-3 c =
-    let a = c .before .before .args in
-    put-row (a .out .now) (a .row) (a .limit) (a .kind) (a .first) (a .whole) (a .parent) (c .before .if1 .left) (c .if2 .left) (c .before .before .pre .1)
+    let start = c .before .before .before in
+    let a = start .args in
+    put-row (a .out .now) (a .row) (a .limit) (a .new) (c .before .if1 .left) (c .if2 .left) (start .pre .1)
 
 pub put-spec : {M : Type 1} → statement M
 put-spec =

@@ -11,19 +11,23 @@ use denote.Ref.{now}
 use lib.ListN.{length, take, drop, getD, length-take, length-drop}
 use lib.Seq.{slice, length-slice}
 use Rattle.der.specs.declared.span.Span.{Span}
-use Rattle.der.specs.Walk.{longest}
+use Rattle.der.specs.Bounds.{longest}
 use Rattle.der.specs.Span.{spanOf}
 use Rattle.crmf.specs.Quick.{countsAt}
 use Rattle.crmf.specs.declared.table.Found.the-variants.{At}
 use Rattle.crmf.specs.declared.judge.Onward.the-variants.{To}
-use Rattle.crmf.specs.declared.step.Step.{Step}
+use Rattle.crmf.specs.declared.quick.Advance.the-variants.{Past}
+use Rattle.crmf.specs.declared.quick.Recognition.{Recognition}
+use Rattle.crmf.specs.declared.quick.Recognition.the-variants.{Rows, Unrecognised}
+use Rattle.crmf.specs.declared.step.Visit.{Visit}
+use Rattle.crmf.specs.declared.step.Visit.the-variants.{Descend}
 use Rattle.crmf.specs.Walk.{line, seek, judged, rowsBy}
-use Rattle.crmf.specs.QuickSteps.{inner, Counting, Counted, Sized, Taken, Went}
+use Rattle.crmf.specs.QuickSteps.{contentCount, decode, Countable, ListCounted, Sized, VisitJustified, ElementCounted, countAfter}
 use Rattle.crmf.specs.Packed.{insideField}
 use Rattle.crmf.proofs.Fields.{inside-at as inside-field}
 use Rattle.crmf.proofs.Search.{found-names}
-use Rattle.crmf.proofs.Slices.{take-slice, take-from}
-use Rattle.crmf.proofs.QuickSpots.{went-nowhere, went-on, ends-closed, ends-open, gives-up, spot-fits, spot-nowhere, spot-stop, spot-on, spot-sized}
+use Rattle.der.proofs.Laws.{take-slice, take-from}
+use Rattle.crmf.proofs.QuickSpots.{stops, advances, advance-stopped, advance-past, decode-rows, decode-more, place-fits, place-nowhere, place-refused, place-nothing, place-past, place-sized, ends-closed, ends-open}
 use Rattle.crmf.proofs.QuickWays.{at-lost, at-deep}
 use Rattle.crmf.proofs.quick.element.Reads as element
 use Rattle.crmf.proofs.quick.element.Kinds as element-kinds
@@ -31,9 +35,10 @@ use Rattle.crmf.proofs.quick.+element+list.Lts-element as element-lts
 use Rattle.crmf.proofs.quick.list.Reads as list
 use Rattle.crmf.proofs.quick.list.Kinds as list-kinds
 use Rattle.crmf.proofs.quick.+element+list.Lts-list as list-lts
-use Rattle.crmf.proofs.quick.lost.Reads as lost-reads
+use Rattle.crmf.proofs.quick.decoded.Reads as decoded-reads
 use Rattle.crmf.proofs.step.take.Reads as take-reads
 use Rattle.der.proofs.span.measure.Reads as measure-reads
+use Rattle.der.proofs.Laws.{take-slice, take-from}
 use Rattle.crmf.proofs.table.rows_of.Reads as rows-of-reads
 use Rattle.crmf.proofs.table.closed.Reads as closed-reads
 use Rattle.crmf.proofs.table.inside_of.Reads as inside-of-reads
@@ -53,7 +58,6 @@ abbrev μ-list : Measures 2 list-kinds.ps ℕ
 abbrev list-Inv-loop : list-lts.InvT-loop
 list-Inv-loop bytes state left before edition table at₀ line₀ count₀ at line count =
     (at ≤ length bytes)
-    × (1 ≤ count)
     × (count + (length bytes - at) ≤ before + length bytes)
     × ((p : ℕ) → countsAt edition left line count (p + at) (drop at bytes) ≡ countsAt edition left state before p bytes)
 
@@ -64,9 +68,9 @@ list-μ-loop bytes state left before edition table at₀ line₀ count₀ at lin
 part-short : (at : ℕ) (s : List ℕ) (n : ℕ) → length s ≤ longest → length (take n (drop at s)) ≤ longest
 part-short at s n short = simp (length-take, length-drop) (omega arith)
 
--- what comes to a list's count comes to the answer for that list, as it was lent
-listed : (e l p : ℕ) {r m s s′ n n′ : ℕ} {b b′ : List ℕ} → r ≡ countsAt e l s′ n′ p b′ → m ≡ countsAt e l s n p b → s ≡ s′ → n ≡ n′ → b ≡ b′ → r ≡ m
-listed e l p comes same start rows part = cc
+-- the count inside an element is the answer for its bytes, as they were lent
+inside-same : (e l p : ℕ) {r m : Recognition} {s s′ n n′ : ℕ} {b b′ : List ℕ} → r ≡ countsAt e l s′ n′ p b′ → m ≡ countsAt e l s n p b → s ≡ s′ → n ≡ n′ → b ≡ b′ → r ≡ m
+inside-same e l p counted same start rows part = cc
 
 -- With the measure t: what holds before a call of that measure, and before one of a lower.
 module _ (t : ℕ) where
@@ -87,8 +91,6 @@ module _ (t : ℕ) where
   element-calls = (
     measure-reads.Asked,
     measure-reads.Learnt,
-    lost-reads.Asked,
-    lost-reads.Learnt,
     seek-reads.Asked,
     seek-reads.Learnt,
     word-reads.Asked,
@@ -101,6 +103,8 @@ module _ (t : ℕ) where
     inside-of-reads.Learnt,
     list-below,
     list.Post,
+    decoded-reads.Asked,
+    decoded-reads.Learnt,
   )
 
   -- what `list` knows of the functions that it calls
@@ -127,38 +131,32 @@ module _ (t : ℕ) where
     abbrev x : Span
     x = c .measure .result
 
-    lent : Counting (drop (start .args .at) (start .args .bytes .now)) (start .args .before) (start .args .table .now)
+    lent : Countable (drop (start .args .at) (start .args .bytes .now)) (start .args .before) (start .args .table .now)
     lent = start .pre .1 .0
 
     measured : x ≡ spanOf (drop (start .args .at) (start .args .bytes .now))
     measured = c .measure .ensures ∙ ap spanOf (take-from (start .args .at) (start .args .bytes .now))
 
     short : length (drop (start .args .at) (start .args .bytes .now)) ≤ longest
-    short = omega (arith, lent .some, lent .room)
+    short = omega (arith, lent .room)
 
     more : 0 < length (drop (start .args .at) (start .args .bytes .now))
     more = simp length-drop (omega (arith, start .pre .1 .1))
 
-  element-lost-requires : element-lts.Need-lost-requires element-calls element-at element.Post
-  element-lost-requires c κs = tt
-
   element-returns : element-lts.Need-returns element-calls element-at element.Post
   element-returns c =
-      let m = c .before .before .before in
+      let m = c .before .before in
       let a = start m .args in
-      gives-up (a .edition) (a .left) (a .line) (a .before) (a .at) (a .bytes .now) (c .lost .result) (c .lost .ensures)
+      stops (a .edition) (a .left) (a .line) (a .before) (a .at) (a .bytes .now)
       (λ p. at-lost (a .edition) (a .left) (a .line) (a .before) p (drop (a .at) (a .bytes .now)) (more m)
-      (ap (λ (y : Span). y .octets) (sym (measured m)) ∙ c .before .if1 .taken))
-
-  element-lost-requires-2 : element-lts.Need-lost-requires-2 element-calls element-at element.Post
-  element-lost-requires-2 c κs = tt
+      (ap (λ (y : Span). y .octets) (sym (measured m)) ∙ c .if1 .taken))
 
   element-returns-2 : element-lts.Need-returns-2 element-calls element-at element.Post
   element-returns-2 c =
-      let m = c .before .before .before .before in
+      let m = c .before .before .before in
       let a = start m .args in
-      gives-up (a .edition) (a .left) (a .line) (a .before) (a .at) (a .bytes .now) (c .lost2 .result) (c .lost2 .ensures)
-      (λ p. subst (λ (l : ℕ). countsAt (a .edition) l (a .line) (a .before) p (drop (a .at) (a .bytes .now)) ≡ 0) (sym (c .before .if2 .taken))
+      stops (a .edition) (a .left) (a .line) (a .before) (a .at) (a .bytes .now)
+      (λ p. subst (λ (l : ℕ). countsAt (a .edition) l (a .line) (a .before) p (drop (a .at) (a .bytes .now)) ≡ Unrecognised) (sym (c .if2 .taken))
       (at-deep (a .edition) (a .line) (a .before) p (drop (a .at) (a .bytes .now)) (more m)))
 
   -- the element has a span, and a level of depth is left
@@ -177,11 +175,11 @@ module _ (t : ℕ) where
 
     fits : (2 ≤ x measuring .octets) × (begun .args .at + (x measuring .octets + x measuring .length) ≤ length (begun .args .bytes .now))
     fits =
-        spot-fits (begun .args .edition) (begun .args .left) (begun .args .line) (begun .args .before) (begun .args .at) (begun .args .bytes .now) (x measuring)
+        place-fits (begun .args .edition) (begun .args .left) (begun .args .line) (begun .args .before) (begun .args .at) (begun .args .bytes .now) (x measuring)
         (short measuring) (measured measuring) some deep
 
     -- with as many bytes as there are rows for
-    room : begun .args .before + (length (begun .args .bytes .now) - begun .args .at) ≤ suc longest
+    room : begun .args .before + (length (begun .args .bytes .now) - begun .args .at) ≤ longest
     room = omega (arith, lent measuring .room, length-drop (begun .args .at) (begun .args .bytes .now))
 
   element-add-from : element-lts.Need-add-from element-calls element-at element.Post
@@ -202,17 +200,14 @@ module _ (t : ℕ) where
   element-enum-told : element-lts.Need-enum-told element-calls element-at element.Post
   element-enum-told c = search needs
 
-  element-lost-requires-3 : element-lts.Need-lost-requires-3 element-calls element-at element.Post
-  element-lost-requires-3 c κs = tt
-
   element-returns-3 : element-lts.Need-returns-3 element-calls element-at element.Post
   element-returns-3 c =
-      let d = c .before .before .before .before .before .before in
+      let d = c .before .before .before .before .before in
       let m = measuring d in
       let a = begun d .args in
-      gives-up (a .edition) (a .left) (a .line) (a .before) (a .at) (a .bytes .now) (c .lost3 .result) (c .lost3 .ensures)
-      (spot-nowhere (a .edition) (a .left) (a .line) (a .before) (a .at) (a .bytes .now) (x m) (short m) (measured m) (some d) (deep d)
-      (sym (c .before .before .before .seek .ensures) ∙ c .before .enum-told .given .1))
+      stops (a .edition) (a .left) (a .line) (a .before) (a .at) (a .bytes .now)
+      (place-nowhere (a .edition) (a .left) (a .line) (a .before) (a .at) (a .bytes .now) (x m) (short m) (measured m) (some d) (deep d)
+      (sym (c .before .before .seek .ensures) ∙ c .enum-told .given .1))
 
   element-word-requires : element-lts.Need-word-requires element-calls element-at element.Post
   element-word-requires c κs = lent (measuring (c .before .before .before .before .before .before)) .right
@@ -274,9 +269,9 @@ module _ (t : ℕ) where
         length-slice (begin .args .at + span .octets) (begin .args .at + span .octets + span .length) (begin .args .bytes .now) (omega (arith, fits at-element))
         ∙ omega arith
 
-    -- what a step says of the element
-    abbrev Says : Step → Type 0
-    Says = Taken (begin .args .edition) j (span .octets + span .length) (begin .args .left - 1) (getD (begin .args .bytes .now) (begin .args .at) 0) content
+    -- how the element may be visited
+    abbrev Says : Visit → Type 0
+    Says = VisitJustified (begin .args .edition) j (span .octets + span .length) (begin .args .left - 1) (getD (begin .args .bytes .now) (begin .args .at) 0) content
 
     -- the rows before what is inside it
     rows : begin .args .before + c .before .before .before .rows-of .result ≡ begin .args .before + rowsBy (line j)
@@ -284,36 +279,32 @@ module _ (t : ℕ) where
 
     taken : Says (c .take .result)
     taken =
-        subst (λ (l : List ℕ). Taken (begin .args .edition) j (span .octets + span .length) (begin .args .left - 1) (getD (begin .args .bytes .now) (begin .args .at) 0) l (c .take .result)) part
+        subst (λ (l : List ℕ). VisitJustified (begin .args .edition) j (span .octets + span .length) (begin .args .left - 1) (getD (begin .args .bytes .now) (begin .args .at) 0) l (c .take .result)) part
         (c .take .ensures j (span .octets + span .length) (c .before .before .before .before .word .ensures) (found-names _ _ j found)
         (subst (Sized (span .octets + span .length)) (sym part) sized))
       where
         sized : Sized (span .octets + span .length) content
         sized =
-            spot-sized (begin .args .edition) (begin .args .left) (begin .args .line) (begin .args .before) (begin .args .at) (begin .args .bytes .now) span
+            place-sized (begin .args .edition) (begin .args .left) (begin .args .line) (begin .args .before) (begin .args .at) (begin .args .bytes .now) span
             (short (measuring at-element)) (measured (measuring at-element)) (some at-element) (deep at-element)
 
-  -- it goes on behind an element that comes to so much
+  -- it goes on after an element that has its rows
   goes-on : (c : element-lts.After-take element-calls element-at element.Post) (next m : ℕ)
       → judged (line (j c) .judge) (line (j c) .next) (content c) ≡ To next
-      → ((p : ℕ) → inner (begin c .args .edition) (j c) (span c .octets + span c .length) (begin c .args .left - 1) (begin c .args .before + rowsBy (line (j c))) p (getD (begin c .args .bytes .now) (begin c .args .at) 0) (content c) ≡ m)
+      → ((p : ℕ) → contentCount (begin c .args .edition) (j c) (span c .octets + span c .length) (begin c .args .left - 1) (begin c .args .before + rowsBy (line (j c))) p (getD (begin c .args .bytes .now) (begin c .args .at) 0) (content c) ≡ Rows m)
       → m ≤ begin c .args .before + (span c .octets + span c .length)
       → let a = begin c .args in
-      Went (a .edition) (a .left) (a .line) (a .before) (a .at) (a .bytes .now) (record { line = next; at = a .at + span c .octets + span c .length; count = m })
-  goes-on c next m on comes few =
+      ElementCounted (a .edition) (a .left) (a .line) (a .before) (a .at) (a .bytes .now) (Past next (a .at + span c .octets + span c .length) m)
+  goes-on c next m on counted few =
       let a = begin c .args in
       let d = at-element c in
       let y = measuring d in
-      record {
-        same = spot-on (a .edition) (a .left) (a .line) (a .before) (a .at) (a .bytes .now) (span c) (short y) (measured y) (some d) (deep d) (j c) (found c) next m on comes;
-        forward = λ counted. omega (arith, fits d);
-      }
+      advances
+      (place-past (a .edition) (a .left) (a .line) (a .before) (a .at) (a .bytes .now) (span c) (short y) (measured y) (some d) (deep d) (j c) (found c) next m on counted)
+      (omega (arith, fits d, few))
 
   element-enum-told-2 : element-lts.Need-enum-told-2 element-calls element-at element.Post
   element-enum-told-2 c = search needs
-
-  element-lost-requires-4 : element-lts.Need-lost-requires-4 element-calls element-at element.Post
-  element-lost-requires-4 c κs = tt
 
   element-enum-known-next : element-lts.Need-enum-known-next element-calls element-at element.Post
   element-enum-known-next c = search needs
@@ -343,41 +334,76 @@ module _ (t : ℕ) where
       let f = fits d in
       let size = ap length (part k) ∙ content-size k in (
         omega (arith, begin k .pre .0, f, size),
-        record { some = omega (arith, lent (measuring d) .some); room = omega (arith, size, f, room d, k .before .before .before .rows-of .ensures (j k) (k .before .before .before .before .word .ensures) .1); right = lent (measuring d) .right },
+        record { room = omega (arith, size, f, room d, k .before .before .before .rows-of .ensures (j k) (k .before .before .before .before .word .ensures) .1); right = lent (measuring d) .right },
       )
+
+  element-decoded-requires : element-lts.Need-decoded-requires element-calls element-at element.Post
+  element-decoded-requires c κs = tt
+
+  element-enum-known-inside : element-lts.Need-enum-known-inside element-calls element-at element.Post
+  element-enum-known-inside c = search needs
+
+  element-enum-told-3 : element-lts.Need-enum-told-3 element-calls element-at element.Post
+  element-enum-told-3 c = search needs
+
+  -- what the list inside the element answers
+  module _ (c : element-lts.After-decoded element-calls element-at element.Post) where
+    abbrev visited : element-lts.After-take element-calls element-at element.Post
+    visited = c .before .before .before .before .before .before .before
+
+    descends : Says visited (Descend (c .before .before .before .before .before .next2 .given .0 .0))
+    descends = subst (Says visited) (c .before .before .before .before .before .next2 .given .1) (taken visited)
+
+    -- the rows up to its end are the content's
+    inside-counted : (p : ℕ)
+        → contentCount (begin visited .args .edition) (j visited) (span visited .octets + span visited .length) (begin visited .args .left - 1) (begin visited .args .before + rowsBy (line (j visited))) p (getD (begin visited .args .bytes .now) (begin visited .args .at) 0) (content visited)
+        ≡ c .decoded .result
+    inside-counted p =
+        let starts : c .before .before .inside-of .result ≡ line (j visited) .inside =
+        c .before .before .inside-of .ensures ∙ ap insideField (visited .before .before .before .before .word .ensures) ∙ inside-field (j visited) in
+        inside-same (begin visited .args .edition) (begin visited .args .left - 1) p (descends .1 _ p) (c .decoded .ensures ∙ c .before .list .ensures .same p)
+        starts (rows visited) (part visited)
 
   element-returns-4 : element-lts.Need-returns-4 element-calls element-at element.Post
   element-returns-4 c =
-      let k = c .before .before .before in
+      let k = visited (c .before .before) in
       let a = begin k .args in
       let d = at-element k in
       let y = measuring d in
-      gives-up (a .edition) (a .left) (a .line) (a .before) (a .at) (a .bytes .now) (c .lost4 .result) (c .lost4 .ensures)
-      (spot-stop (a .edition) (a .left) (a .line) (a .before) (a .at) (a .bytes .now) (span k) (short y) (measured y) (some d) (deep d) (j k) (found k)
-      (subst (Says k) (c .before .enum-told2 .given .1) (taken k)))
+      stops (a .edition) (a .left) (a .line) (a .before) (a .at) (a .bytes .now)
+      (place-nothing (a .edition) (a .left) (a .line) (a .before) (a .at) (a .bytes .now) (span k) (short y) (measured y) (some d) (deep d) (j k) (found k)
+      (λ p. inside-counted (c .before .before) p ∙ c .enum-told3 .given .1))
 
   element-returns-5 : element-lts.Need-returns-5 element-calls element-at element.Post
   element-returns-5 c =
-      let k = c .before .before .before in
-      let told = subst (Says k) (c .before .next .given .1) (taken k) in
-      goes-on k _ _ (told .0) (λ p. told .1 _ p (omega (arith, lent (measuring (at-element k)) .some)) ∙ sym (rows k))
-      (omega (arith, fits (at-element k), k .before .before .before .rows-of .ensures (j k) (k .before .before .before .before .word .ensures) .1))
+      let k = c .before .before in
+      let a = begin k .args in
+      let d = at-element k in
+      let y = measuring d in
+      stops (a .edition) (a .left) (a .line) (a .before) (a .at) (a .bytes .now)
+      (place-refused (a .edition) (a .left) (a .line) (a .before) (a .at) (a .bytes .now) (span k) (short y) (measured y) (some d) (deep d) (j k) (found k)
+      (subst (Says k) (c .enum-told2 .given .1) (taken k)))
 
   element-returns-6 : element-lts.Need-returns-6 element-calls element-at element.Post
   element-returns-6 c =
-      let k = c .before .before .before .before .before .before in
-      let told = subst (Says k) (c .before .before .before .before .next2 .given .1) (taken k) in
-      let start : c .before .inside-of .result ≡ line (j k) .inside =
-      c .before .inside-of .ensures ∙ ap insideField (k .before .before .before .before .word .ensures) ∙ inside-field (j k) in
+      let k = c .before .before .before in
+      let told = subst (Says k) (c .before .next .given .1) (taken k) in
+      goes-on k _ _ (told .0) (λ p. told .1 _ p ∙ ap Rows (sym (rows k)))
+      (omega (arith, fits (at-element k), k .before .before .before .rows-of .ensures (j k) (k .before .before .before .before .word .ensures) .1))
+
+  element-returns-7 : element-lts.Need-returns-7 element-calls element-at element.Post
+  element-returns-7 c =
+      let d = c .before .before .before in
+      let k = visited d in
       let size = ap length (part k) ∙ content-size k in
-      goes-on k _ (c .list .result) (told .0)
-      (λ p. listed (begin k .args .edition) (begin k .args .left - 1) p (told .1 _ p (omega (arith, lent (measuring (at-element k)) .some))) (c .list .ensures .same p) start (rows k) (part k))
-      (omega (arith, fits (at-element k), size, c .list .ensures .few, k .before .before .before .rows-of .ensures (j k) (k .before .before .before .before .word .ensures) .1))
+      let total = decode-rows (d .before .list .result) (c .before .inside .given .0 .0) (sym (d .decoded .ensures) ∙ c .before .inside .given .1) in
+      goes-on k _ _ (descends d .0) (λ p. inside-counted d p ∙ c .before .inside .given .1)
+      (omega (arith, fits (at-element k), size, total, d .before .list .ensures .few, k .before .before .before .rows-of .ensures (j k) (k .before .before .before .before .word .ensures) .1))
 
   list-loop-holds : list-lts.Need-loop-holds list-calls list-at list.Post list-Inv-loop list-μ-loop
   list-loop-holds c =
       let a = c .before .args in
-      (omega arith, c .before .pre .1 .some, omega arith, λ p. ap (λ (q : ℕ). countsAt (a .edition) (a .left) (a .state) (a .before) q (a .bytes .now)) (omega arith))
+      (omega arith, omega arith, λ p. ap (λ (q : ℕ). countsAt (a .edition) (a .left) (a .state) (a .before) q (a .bytes .now)) (omega arith))
 
   list-element-requires : list-lts.Need-element-requires list-calls list-at list.Post list-Inv-loop list-μ-loop
   list-element-requires c κs =
@@ -385,45 +411,51 @@ module _ (t : ℕ) where
       let i = c .before .loop .inv in
       let s = c .before .before .before .args .bytes .now in (
         omega (arith, c .before .before .before .pre .0, i .0),
-        (record { some = i .1; room = simp length-drop (omega (arith, i .2, l .room)); right = l .right }, c .loop-test .taken, omega (arith, l .some, l .room)),
+        (record { room = simp length-drop (omega (arith, i .1, l .room)); right = l .right }, c .loop-test .taken, omega (arith, l .room)),
       )
+
+  list-enum-known-advance : list-lts.Need-enum-known-advance list-calls list-at list.Post list-Inv-loop list-μ-loop
+  list-enum-known-advance c = search needs
+
+  list-enum-told : list-lts.Need-enum-told list-calls list-at list.Post list-Inv-loop list-μ-loop
+  list-enum-told c = search needs
 
   list-returns : list-lts.Need-returns list-calls list-at list.Post list-Inv-loop list-μ-loop
   list-returns c =
-      let a = c .before .before .before .before .before .before .args in
       let i = c .before .before .before .before .loop in
       record {
-        same = λ p. sym (went-nowhere (a .edition) (a .left) (i .line) (i .count) (i .at) (a .bytes .now) _ (c .before .before .element .ensures) (c .if1 .taken) p) ∙ i .inv .3 p;
+        same = λ p. sym (advance-stopped (c .before .before .element .ensures) p (c .enum-told .given .1)) ∙ i .inv .2 p;
         few = omega arith;
       }
 
   list-loop-less : list-lts.Need-loop-less list-calls list-at list.Post list-Inv-loop list-μ-loop
   list-loop-less c =
-      let w = c .before .before .element .ensures .forward (c .if1 .left) in
-      omega (arith, w, c .before .before .before .loop-test .taken)
+      let w = c .before .before .before .element .ensures .forward _ _ _ (c .before .advance .given .1) in
+      omega (arith, w, c .before .before .before .before .loop-test .taken)
 
   list-loop-again : list-lts.Need-loop-again list-calls list-at list.Post list-Inv-loop list-μ-loop
   list-loop-again c =
-      let a = c .before .before .before .before .before .before .args in
-      let i = c .before .before .before .before .loop in
-      let w = c .before .before .element .ensures in
-      let f = w .forward (c .if1 .left) in (
+      let i = c .before .before .before .before .before .loop in
+      let w = c .before .before .before .element .ensures in
+      let f = w .forward _ _ _ (c .before .advance .given .1) in (
         f .1,
-        omega (arith, c .if1 .left),
-        omega (arith, f .2, i .inv .2),
-        λ p. sym (went-on (a .edition) (a .left) (i .line) (i .count) (i .at) (a .bytes .now) _ w (c .if1 .left) p) ∙ i .inv .3 p,
+        omega (arith, f .2, i .inv .1),
+        λ p. sym (advance-past w p _ _ _ (c .before .advance .given .1)) ∙ i .inv .2 p,
       )
 
   list-closed-requires : list-lts.Need-closed-requires list-calls list-at list.Post list-Inv-loop list-μ-loop
   list-closed-requires c κs = c .before .before .before .pre .1 .right
+
+  list-add-result : list-lts.Need-add-result list-calls list-at list.Post list-Inv-loop list-μ-loop
+  list-add-result c = omega (arith, c .before .before .before .loop .inv .1, c .before .before .before .before .before .pre .1 .room)
 
   list-returns-2 : list-lts.Need-returns-2 list-calls list-at list.Post list-Inv-loop list-μ-loop
   list-returns-2 c =
       let a = c .before .before .before .before .before .args in
       let i = c .before .before .before .loop in
       record {
-        same = λ p. sym (ends-closed (a .edition) (a .left) (i .line) (i .count) (i .at) (a .bytes .now) (omega (arith, c .before .before .loop-test .left)) (p + i .at) (sym (c .before .closed .ensures) ∙ c .if2 .taken)) ∙ i .inv .3 p;
-        few = omega (arith, i .inv .2);
+        same = λ p. decode-more (i .count) ∙ sym (ends-closed (a .edition) (a .left) (i .line) (i .count) (i .at) (a .bytes .now) (omega (arith, c .before .before .loop-test .left)) (p + i .at) (sym (c .before .closed .ensures) ∙ c .if1 .taken)) ∙ i .inv .2 p;
+        few = omega (arith, i .inv .1);
       }
 
   list-returns-3 : list-lts.Need-returns-3 list-calls list-at list.Post list-Inv-loop list-μ-loop
@@ -431,7 +463,7 @@ module _ (t : ℕ) where
       let a = c .before .before .before .before .before .args in
       let i = c .before .before .before .loop in
       record {
-        same = λ p. sym (ends-open (a .edition) (a .left) (i .line) (i .count) (i .at) (a .bytes .now) (omega (arith, c .before .before .loop-test .left)) (p + i .at) (sym (c .before .closed .ensures) ∙ c .if2 .left)) ∙ i .inv .3 p;
+        same = λ p. sym (ends-open (a .edition) (a .left) (i .line) (i .count) (i .at) (a .bytes .now) (omega (arith, c .before .before .loop-test .left)) (p + i .at) (sym (c .before .closed .ensures) ∙ c .if1 .left)) ∙ i .inv .2 p;
         few = omega arith;
       }
 
@@ -443,9 +475,7 @@ pub +element+list-spec : {M : Type 1} → statement M
     (element-part-measure-start t)
     (element-part-measure-end t)
     (element-measure-requires t)
-    (element-lost-requires t)
     (element-returns t)
-    (element-lost-requires-2 t)
     (element-returns-2 t)
     (element-add-from t)
     (element-add-to t)
@@ -453,7 +483,6 @@ pub +element+list-spec : {M : Type 1} → statement M
     (element-seek-requires t)
     (element-enum-known-found t)
     (element-enum-told t)
-    (element-lost-requires-3 t)
     (element-returns-3 t)
     (element-word-requires t)
     (element-rows-of-requires t)
@@ -465,7 +494,6 @@ pub +element+list-spec : {M : Type 1} → statement M
     (element-sub-take-2 t)
     (element-take-requires t)
     (element-enum-told-2 t)
-    (element-lost-requires-4 t)
     (element-enum-known-next t)
     (element-enum-known-next-2 t)
     (element-sub-list t)
@@ -474,15 +502,22 @@ pub +element+list-spec : {M : Type 1} → statement M
     (element-inside-of-requires t)
     (element-sub-list-2 t)
     (element-list-requires t)
+    (element-decoded-requires t)
+    (element-enum-known-inside t)
+    (element-enum-told-3 t)
     (element-returns-4 t)
     (element-returns-5 t)
-    (element-returns-6 t))
+    (element-returns-6 t)
+    (element-returns-7 t))
     (λ t. list-lts.spec (list-calls t) (list-at t) list.Post list-Inv-loop list-μ-loop
     (list-loop-holds t)
     (list-element-requires t)
+    (list-enum-known-advance t)
+    (list-enum-told t)
     (list-returns t)
     (list-loop-less t)
     (list-loop-again t)
     (list-closed-requires t)
+    (list-add-result t)
     (list-returns-2 t)
     (list-returns-3 t))

@@ -14,9 +14,12 @@ returns c = sym (too-long (c .before .before .args .edition) (c .before .before 
 list-requires : tie.Need-list-requires
 list-requires c κs = search needs
 
+decoded-requires : tie.Need-decoded-requires
+decoded-requires c κs = search needs
+
 returns-2 : tie.Need-returns-2
 unfolding quickCount start startsFrom order
-returns-2 c = c .list .ensures .same 0
+returns-2 c = c .decoded .ensures ∙ c .before .list .ensures .same 0
 
 pub count-by-spec : {M : Type 1} → statement M
-count-by-spec = tie.close (tie.spec returns list-requires returns-2)
+count-by-spec = tie.close (tie.spec returns list-requires decoded-requires returns-2)

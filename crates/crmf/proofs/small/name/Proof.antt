@@ -1,64 +1,36 @@
--- `crmf::small::name` meets its contract: one element that holds parts of a name is a name. Assumes nothing.
+-- `crmf::small::name` meets its contract: one SEQUENCE of RDNs is a Name. Assumes nothing.
 use borrow.Author.Needs.{needs}
-use mathlib.Core.Bool.{false≢true}
-use Rattle.crmf.proofs.FineInsides.{reaches, fine-name}
+use borrow.Author.Tests.{eq-eqb}
+use mathlib.Core.Bool.{not, false≢true}
+use mathlib.Core.Path.{sym, ap, _∙_}
+use Rattle.crmf.proofs.FineInsides.{sole-starts, rowless-name}
 use Rattle.crmf.proofs.small.name.Statement.{statement}
 use Rattle.crmf.proofs.small.name.Tie as tie
 
-measure-requires : tie.Need-measure-requires
-measure-requires c κs = search needs
+sole-requires : tie.Need-sole-requires
+sole-requires c κs = search needs
+
+sub-rdn-sequence : tie.Need-sub-rdn-sequence
+sub-rdn-sequence c = sole-starts (c .before .sole .ensures (c .if1 .taken))
+
+part-rdn-sequence-start : tie.Need-part-rdn-sequence-start
+part-rdn-sequence-start c = sole-starts (c .before .sole .ensures (c .if1 .taken))
+
+part-rdn-sequence-end : tie.Need-part-rdn-sequence-end
+part-rdn-sequence-end c = search needs
+
+rdn-sequence-requires : tie.Need-rdn-sequence-requires
+rdn-sequence-requires c κs = search needs
 
 returns : tie.Need-returns
-returns c = λ e. absurd (false≢true e)
-
-add-if2 : tie.Need-add-if2
-add-if2 c =
-    let a = c .before .before .before .before in
-    let m = c .before .before .measure in
-    search (needs, reaches (a .args .bytes .now) (a .pre) (m .result) (m .ensures) (c .before .if1 .left))
+returns c = λ yes.
+    let one = c .before .before in
+    let start = one .before .before .before in
+    rowless-name (start .args .bytes .now) (start .pre) (one .before .sole .ensures (one .if1 .taken)) (c .rdn-sequence .ensures yes)
 
 returns-2 : tie.Need-returns-2
-returns-2 c = λ e. absurd (false≢true e)
-
-shared-slice-read-if3 : tie.Need-shared-slice-read-if3
-shared-slice-read-if3 c = search needs
-
-returns-3 : tie.Need-returns-3
-returns-3 c = λ e. absurd (false≢true e)
-
-sub-parts : tie.Need-sub-parts
-sub-parts c = search needs
-
-part-parts-start : tie.Need-part-parts-start
-part-parts-start c = search needs
-
-part-parts-end : tie.Need-part-parts-end
-part-parts-end c = search needs
-
-parts-requires : tie.Need-parts-requires
-parts-requires c κs = search needs
-
-returns-4 : tie.Need-returns-4
-returns-4 c = λ yes.
-    let read = c .before .before in
-    let one = read .before .before in
-    let told = one .before .before .before in
-    let a = told .before .before in
-    fine-name (a .args .bytes .now) (a .pre) (told .measure .result) (told .measure .ensures) (one .before .before .if1 .left) (one .if2 .left)
-    (read .if3 .left) (c .parts .ensures yes)
+returns-2 c = λ yes. absurd (false≢true (sym (ap not (eq-eqb _ 0 (c .if1 .left))) ∙ yes))
 
 pub name-spec : {M : Type 1} → statement M
 name-spec =
-    tie.close
-    (tie.spec
-    measure-requires
-    returns
-    add-if2
-    returns-2
-    shared-slice-read-if3
-    returns-3
-    sub-parts
-    part-parts-start
-    part-parts-end
-    parts-requires
-    returns-4)
+    tie.close (tie.spec sole-requires sub-rdn-sequence part-rdn-sequence-start part-rdn-sequence-end rdn-sequence-requires returns returns-2)

@@ -9,19 +9,19 @@ use lib.Arith.{lt-of-le-ne}
 use lib.Dec.{eqb, ltb, lit≤}
 use lib.ListN.{getD}
 use Rattle.der.proofs.Laws.{holds-integer, holds-bit-string, holds-object-identifier, holds-utf8}
-use Rattle.crmf.specs.declared.step.Step.{Step}
-use Rattle.crmf.specs.declared.step.Step.the-variants.{On, Into}
+use Rattle.crmf.specs.declared.step.Visit.{Visit}
+use Rattle.crmf.specs.declared.step.Visit.the-variants.{Skip, Descend}
 use Rattle.crmf.specs.Codes as codes
 use Rattle.crmf.specs.Value.{keeps}
 use Rattle.crmf.specs.Notation.{Identifiers, named, Name, AlgId, Attribute, Rdn, Spki, OneName}
 use Rattle.crmf.specs.Table.{start}
 use Rattle.crmf.specs.Packed.{packed, nextField, actionOf}
 use Rattle.crmf.specs.Walk.{line}
-use Rattle.crmf.specs.QuickSteps.{Taken, Fine}
+use Rattle.crmf.specs.QuickSteps.{VisitJustified, RowlessFrom}
 use Rattle.crmf.proofs.Fields.{next-at, action-small}
 use Rattle.crmf.proofs.Actions.{nothing-line, free-line, object-line, integer-line, id-line, id-kind, bits-line, text-line, any-line, inside-line}
 use Rattle.crmf.proofs.Actions.{Opens, algorithm-line, attribute-line, part-line, key-line, name-line}
-use Rattle.crmf.proofs.StepWays.{asked-mark, stands-at, on-untyped, on-typed, on-asked, on-id, on-any, into-lines, past}
+use Rattle.crmf.proofs.StepWays.{asked-mark, stands-at, skip-untyped, skip-typed, skip-asked, skip-id, skip-any, descend-lines, skip-small}
 use Rattle.crmf.proofs.step.take.Statement.{statement}
 use Rattle.crmf.proofs.step.take.Tie as tie
 
@@ -34,73 +34,73 @@ action-of-requires c κs = search needs
 object-identifier-requires : tie.Need-object-identifier-requires
 object-identifier-requires c κs = search needs
 
-on-if-requires : tie.Need-on-if-requires
-on-if-requires c κs = search needs
+skip-or-refuse-requires : tie.Need-skip-or-refuse-requires
+skip-or-refuse-requires c κs = search needs
 
 integer-requires : tie.Need-integer-requires
 integer-requires c κs = search needs
 
-on-if-requires-2 : tie.Need-on-if-requires-2
-on-if-requires-2 c κs = search needs
+skip-or-refuse-requires-2 : tie.Need-skip-or-refuse-requires-2
+skip-or-refuse-requires-2 c κs = search needs
 
 integer-requires-2 : tie.Need-integer-requires-2
 integer-requires-2 c κs = search needs
 
-on-if-requires-3 : tie.Need-on-if-requires-3
-on-if-requires-3 c κs = search needs
+skip-or-refuse-requires-3 : tie.Need-skip-or-refuse-requires-3
+skip-or-refuse-requires-3 c κs = search needs
 
 bit-string-requires : tie.Need-bit-string-requires
 bit-string-requires c κs = search needs
 
-on-if-requires-4 : tie.Need-on-if-requires-4
-on-if-requires-4 c κs = search needs
+skip-or-refuse-requires-4 : tie.Need-skip-or-refuse-requires-4
+skip-or-refuse-requires-4 c κs = search needs
 
 is-text-requires : tie.Need-is-text-requires
 is-text-requires c κs = search needs
 
-on-if-requires-5 : tie.Need-on-if-requires-5
-on-if-requires-5 c κs = search needs
+skip-or-refuse-requires-5 : tie.Need-skip-or-refuse-requires-5
+skip-or-refuse-requires-5 c κs = search needs
 
-whole-requires : tie.Need-whole-requires
-whole-requires c κs = search needs
+is-element-requires : tie.Need-is-element-requires
+is-element-requires c κs = search needs
 
-on-if-requires-6 : tie.Need-on-if-requires-6
-on-if-requires-6 c κs = search needs
+skip-or-refuse-requires-6 : tie.Need-skip-or-refuse-requires-6
+skip-or-refuse-requires-6 c κs = search needs
 
-pair-requires : tie.Need-pair-requires
-pair-requires c κs = search needs
+type-and-value-requires : tie.Need-type-and-value-requires
+type-and-value-requires c κs = search needs
 
-past-if-requires : tie.Need-past-if-requires
-past-if-requires c κs = search needs
+skip-or-descend-requires : tie.Need-skip-or-descend-requires
+skip-or-descend-requires c κs = search needs
 
-pair-requires-2 : tie.Need-pair-requires-2
-pair-requires-2 c κs = search needs
+type-and-value-requires-2 : tie.Need-type-and-value-requires-2
+type-and-value-requires-2 c κs = search needs
 
-past-if-requires-2 : tie.Need-past-if-requires-2
-past-if-requires-2 c κs = search needs
+skip-or-descend-requires-2 : tie.Need-skip-or-descend-requires-2
+skip-or-descend-requires-2 c κs = search needs
 
-attribute-requires : tie.Need-attribute-requires
-attribute-requires c κs = search needs
+rdn-requires : tie.Need-rdn-requires
+rdn-requires c κs = search needs
 
-past-if-requires-3 : tie.Need-past-if-requires-3
-past-if-requires-3 c κs = search needs
+skip-or-descend-requires-3 : tie.Need-skip-or-descend-requires-3
+skip-or-descend-requires-3 c κs = search needs
 
-any-requires : tie.Need-any-requires
-any-requires c κs = search needs
+take-by-fields-requires : tie.Need-take-by-fields-requires
+take-by-fields-requires c κs = search needs
 
-key-requires : tie.Need-key-requires
-key-requires c κs = search needs
+subject-public-key-info-requires : tie.Need-subject-public-key-info-requires
+subject-public-key-info-requires c κs = search needs
 
-past-if-requires-4 : tie.Need-past-if-requires-4
-past-if-requires-4 c κs = search needs
+skip-or-descend-requires-4 : tie.Need-skip-or-descend-requires-4
+skip-or-descend-requires-4 c κs = search needs
 
 name-requires : tie.Need-name-requires
 name-requires c κs = search needs
 
-past-if-requires-5 : tie.Need-past-if-requires-5
-past-if-requires-5 c κs = search needs
+skip-or-descend-requires-5 : tie.Need-skip-or-descend-requires-5
+skip-or-descend-requires-5 c κs = search needs
 
--- behind the reading of the action
+-- after the reading of the action
 module _ (c : tie.After-action-of) where
   abbrev word : ℕ
   word = c .before .before .before .args .word
@@ -118,30 +118,30 @@ module _ (c : tie.After-action-of) where
   next : (k : ℕ) → word ≡ getD packed k 0 → c .before .next-of .result ≡ line k .next
   next k e = c .before .next-of .ensures ∙ ap nextField e ∙ next-at k
 
-  -- an element with the lines of a container inside, where these may be seen to be fine
+  -- an element with the lines of a container inside, where its content may have been checked
   passed : (k whole a : ℕ) → word ≡ getD packed k 0 → c .action-of .result ≡ a → eqb a codes.takeCertReqId ≡ false
-      → (n : Name) → (actionOf (line k) ≡ a → Opens k n) → (levels least : ℕ) → levels ≤ least + 1 → (r : Bool) → (r ≡ true → Fine (start n) levels content)
-      → (s : Step) → s ≡ elim (ltb least left && r) [ true ↦ On (c .before .next-of .result) | false ↦ Into (c .before .next-of .result) ]
-      → Taken (c .before .before .before .args .edition) k whole left (c .before .before .before .args .id) content s
-  passed k whole a e is other n line-opens levels least enough r fine s same =
+      → (n : Name) → (actionOf (line k) ≡ a → Opens k n) → (levels least : ℕ) → levels ≤ least + 1 → (r : Bool) → (r ≡ true → RowlessFrom (start n) levels content)
+      → (s : Visit) → s ≡ elim (ltb least left && r) [ true ↦ Skip (c .before .next-of .result) | false ↦ Descend (c .before .next-of .result) ]
+      → VisitJustified (c .before .before .before .args .edition) k whole left (c .before .before .before .args .id) content s
+  passed k whole a e is other n line-opens levels least enough r checked s same =
       let acts = action k a e is in
       let x = line-opens acts in
-      subst (Taken _ k whole left _ content) (sym same)
-      (past _ k whole left _ content (stands-at _ k whole a (x .1 .mark) acts other) _ (next k e) n levels least x enough r fine)
+      subst (VisitJustified _ k whole left _ content) (sym same)
+      (skip-small _ k whole left _ content (stands-at _ k whole a (x .1 .mark) acts other) _ (next k e) n levels least x enough r checked)
 
 returns : tie.Need-returns
 returns c k whole e fits sized =
     let a = action (c .before) k codes.takeUnseen e (c .match .keys1) in
     let (i, x, free) = free-line k a in
-    on-untyped _ k whole _ _ _ (stands-at _ k whole codes.takeUnseen (x .mark) a refl) _ (next (c .before) k e) fits x free
+    skip-untyped _ k whole _ _ _ (stands-at _ k whole codes.takeUnseen (x .mark) a refl) _ (next (c .before) k e) fits x free
 
 returns-2 : tie.Need-returns-2
 returns-2 c k whole e fits sized =
     let d = c .before .before .before in
     let a = action d k codes.takeObjectIdentifier e (c .before .before .match .keys2) in
     let x = object-line k a in
-    subst (Taken _ k whole _ _ _) (sym (c .on-if .ensures))
-    (on-typed _ k whole _ _ _ (stands-at _ k whole codes.takeObjectIdentifier (x .mark) a refl) _ (next d k e) fits x _ (holds-object-identifier _ ∙ sym (c .before .object-identifier .ensures)))
+    subst (VisitJustified _ k whole _ _ _) (sym (c .skip-or-refuse .ensures))
+    (skip-typed _ k whole _ _ _ (stands-at _ k whole codes.takeObjectIdentifier (x .mark) a refl) _ (next d k e) fits x _ (holds-object-identifier _ ∙ sym (c .before .object-identifier .ensures)))
 
 returns-3 : tie.Need-returns-3
 unfolding keeps
@@ -150,15 +150,15 @@ returns-3 c k whole e fits sized =
     let a = action d k codes.takeInteger e (c .before .before .match .keys3) in
     let x = integer-line k a in
     let kept = sym (c .before .integer .ensures) in
-    subst (Taken _ k whole _ _ _) (sym (c .on-if2 .ensures))
-    (on-asked _ k whole _ _ _ (stands-at _ k whole codes.takeInteger (asked-mark x) a refl) _ (next d k e) fits x _ (holds-integer _ ∙ kept) kept)
+    subst (VisitJustified _ k whole _ _ _) (sym (c .skip-or-refuse2 .ensures))
+    (skip-asked _ k whole _ _ _ (stands-at _ k whole codes.takeInteger (asked-mark x) a refl) _ (next d k e) fits x _ (holds-integer _ ∙ kept) kept)
 
 returns-4 : tie.Need-returns-4
 returns-4 c k whole e fits sized =
     let d = c .before .before .before in
     let a = action d k codes.takeCertReqId e (c .before .before .match .keys4) in
-    subst (Taken _ k whole _ _ _) (sym (c .on-if3 .ensures))
-    (on-id _ k whole _ _ _ _ (next d k e) a (id-line k a) fits sized _ _ refl (sym (c .before .integer2 .ensures)))
+    subst (VisitJustified _ k whole _ _ _) (sym (c .skip-or-refuse3 .ensures))
+    (skip-id _ k whole _ _ _ _ (next d k e) a (id-line k a) fits sized _ _ refl (sym (c .before .integer2 .ensures)))
 
 returns-5 : tie.Need-returns-5
 unfolding keeps
@@ -167,62 +167,62 @@ returns-5 c k whole e fits sized =
     let a = action d k codes.takeBitString e (c .before .before .match .keys5) in
     let x = bits-line k a in
     let kept = sym (c .before .bit-string .ensures) in
-    subst (Taken _ k whole _ _ _) (sym (c .on-if4 .ensures))
-    (on-asked _ k whole _ _ _ (stands-at _ k whole codes.takeBitString (asked-mark x) a refl) _ (next d k e) fits x _ (holds-bit-string _ ∙ kept) kept)
+    subst (VisitJustified _ k whole _ _ _) (sym (c .skip-or-refuse4 .ensures))
+    (skip-asked _ k whole _ _ _ (stands-at _ k whole codes.takeBitString (asked-mark x) a refl) _ (next d k e) fits x _ (holds-bit-string _ ∙ kept) kept)
 
 returns-6 : tie.Need-returns-6
 returns-6 c k whole e fits sized =
     let d = c .before .before .before in
     let a = action d k codes.takeUtf8String e (c .before .before .match .keys6) in
     let x = text-line k a in
-    subst (Taken _ k whole _ _ _) (sym (c .on-if5 .ensures))
-    (on-typed _ k whole _ _ _ (stands-at _ k whole codes.takeUtf8String (x .mark) a refl) _ (next d k e) fits x _ (holds-utf8 _ ∙ sym (c .before .is-text .ensures)))
+    subst (VisitJustified _ k whole _ _ _) (sym (c .skip-or-refuse5 .ensures))
+    (skip-typed _ k whole _ _ _ (stands-at _ k whole codes.takeUtf8String (x .mark) a refl) _ (next d k e) fits x _ (holds-utf8 _ ∙ sym (c .before .is-text .ensures)))
 
 returns-7 : tie.Need-returns-7
 returns-7 c k whole e fits sized =
     let d = c .before .before .before in
     let a = action d k codes.takeNest e (c .before .before .match .keys7) in
     let x = any-line k a in
-    subst (Taken _ k whole _ _ _) (sym (c .on-if6 .ensures))
-    (on-any _ k whole _ _ _ (stands-at _ k whole codes.takeNest (x .mark) a refl) _ (next d k e) (x .judge) (x .free) _ (sym (c .before .whole .ensures)))
+    subst (VisitJustified _ k whole _ _ _) (sym (c .skip-or-refuse6 .ensures))
+    (skip-any _ k whole _ _ _ (stands-at _ k whole codes.takeNest (x .mark) a refl) _ (next d k e) (x .judge) (x .free) _ (sym (c .before .is-element .ensures)))
 
 returns-8 : tie.Need-returns-8
 returns-8 c k whole e fits sized =
     let d = c .before in
     let a = action d k codes.takeInside e (c .match .keys8) in
     let (i, x) = inside-line k a in
-    into-lines _ k whole _ _ _ (stands-at _ k whole codes.takeInside (x .mark) a refl) _ (next d k e) x
+    descend-lines _ k whole _ _ _ (stands-at _ k whole codes.takeInside (x .mark) a refl) _ (next d k e) x
 
 returns-9 : tie.Need-returns-9
 returns-9 c k whole e fits sized =
     passed (c .before .before .before) k whole codes.takeAlgId e (c .before .before .match .keys9) refl AlgId (algorithm-line k) 1 1 (lit≤ tt) _
-    (λ t. c .before .pair .ensures t .0 refl) _ (c .past-if .ensures)
+    (λ t. c .before .type-and-value .ensures t .0 refl) _ (c .skip-or-descend .ensures)
 
 returns-10 : tie.Need-returns-10
 returns-10 c k whole e fits sized =
     passed (c .before .before .before) k whole codes.takeAttribute e (c .before .before .match .keys10) refl Attribute (attribute-line k) 1 1 (lit≤ tt) _
-    (λ t. c .before .pair2 .ensures t .1 refl) _ (c .past-if2 .ensures)
+    (λ t. c .before .type-and-value2 .ensures t .1 refl) _ (c .skip-or-descend2 .ensures)
 
 returns-11 : tie.Need-returns-11
 returns-11 c k whole e fits sized =
     passed (c .before .before .before) k whole codes.takeRdn e (c .before .before .match .keys11) refl Rdn (part-line k) 2 1 (lit≤ tt) _
-    (c .before .attribute .ensures) _ (c .past-if3 .ensures)
+    (c .before .rdn .ensures) _ (c .skip-or-descend3 .ensures)
 
 returns-12 : tie.Need-returns-12
 returns-12 c k whole e fits sized =
     let d = c .before .before in
     let a = action d k codes.takeByLine e (c .before .match .keys12) in
-    c .any .ensures k whole e (id-kind k ∙ ap (λ (x : ℕ). eqb x codes.takeCertReqId) a)
+    c .take-by-fields .ensures k whole e (id-kind k ∙ ap (λ (x : ℕ). eqb x codes.takeCertReqId) a)
 
 returns-13 : tie.Need-returns-13
 returns-13 c k whole e fits sized =
     passed (c .before .before .before) k whole codes.takeSpki e (c .before .before .match .keys13) refl Spki (key-line k) 2 1 (lit≤ tt) _
-    (c .before .key .ensures) _ (c .past-if4 .ensures)
+    (c .before .subject-public-key-info .ensures) _ (c .skip-or-descend4 .ensures)
 
 returns-14 : tie.Need-returns-14
 returns-14 c k whole e fits sized =
     passed (c .before .before .before) k whole codes.takeName e (c .before .before .match .keys14) refl OneName (name-line k) 4 3 (lit≤ tt) _
-    (c .before .name .ensures) _ (c .past-if5 .ensures)
+    (c .before .name .ensures) _ (c .skip-or-descend5 .ensures)
 
 -- what is below n + 1 and not n is below n
 down : (n : ℕ) {a : ℕ} → a < n + 1 → (a ≡ n → ⊥) → a < n
@@ -251,28 +251,28 @@ take-spec =
     next-of-requires
     action-of-requires
     object-identifier-requires
-    on-if-requires
+    skip-or-refuse-requires
     integer-requires
-    on-if-requires-2
+    skip-or-refuse-requires-2
     integer-requires-2
-    on-if-requires-3
+    skip-or-refuse-requires-3
     bit-string-requires
-    on-if-requires-4
+    skip-or-refuse-requires-4
     is-text-requires
-    on-if-requires-5
-    whole-requires
-    on-if-requires-6
-    pair-requires
-    past-if-requires
-    pair-requires-2
-    past-if-requires-2
-    attribute-requires
-    past-if-requires-3
-    any-requires
-    key-requires
-    past-if-requires-4
+    skip-or-refuse-requires-5
+    is-element-requires
+    skip-or-refuse-requires-6
+    type-and-value-requires
+    skip-or-descend-requires
+    type-and-value-requires-2
+    skip-or-descend-requires-2
+    rdn-requires
+    skip-or-descend-requires-3
+    take-by-fields-requires
+    subject-public-key-info-requires
+    skip-or-descend-requires-4
     name-requires
-    past-if-requires-5
+    skip-or-descend-requires-5
     returns
     returns-2
     returns-3

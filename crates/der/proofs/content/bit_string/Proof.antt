@@ -13,18 +13,19 @@ use lib.ListN.{length, getD}
 use Rattle.der.specs.Octets.{Octets}
 use Rattle.der.specs.Content.{lastOf, bitString}
 use Rattle.der.proofs.Ends.{none, one, last}
+use Rattle.der.proofs.Parts.{octets-each}
 use Rattle.der.proofs.TrailingZeros.{divides}
 use Rattle.der.proofs.content.bit_string.Statement.{statement}
 use Rattle.der.proofs.content.bit_string.Tie as tie
 
--- two tests that are equal where a third passes are equal behind it
+-- two tests that are equal where a third passes are equal after it
 behind : (t a b : Bool) → (t ≡ true → a ≡ b) → t && a ≡ t && b
 behind true a b h = h refl
 behind false a b h = refl
 
 long : (xs : List ℕ) → Octets xs → 1 < length xs
     → leb (getD xs 0 0) 7 && leb (getD xs 0 0) (trailingZeros 8 (getD xs (length xs - 1) 0)) ≡ bitString xs
-unfolding bitString lastOf
+unfolding bitString lastOf Octets
 long [] o h = absurd (omega arith)
 long (u ∷ []) o h = absurd (omega arith)
 long (u ∷ b ∷ bs) o h =
@@ -51,7 +52,9 @@ cast-result : tie.Need-cast-result
 cast-result c = omega (arith, c .shared-slice-known2 .given 0)
 
 returns-3 : tie.Need-returns-3
-returns-3 c = long (c .before .before .before .before .args .content .now) (λ i. c .shared-slice-known2 .given i .fits) (omega arith)
+returns-3 c =
+    let content = c .before .before .before .before .args .content .now in
+    long content (octets-each content (λ i. c .shared-slice-known2 .given i .fits)) (omega arith)
 
 pub bit-string-spec : {M : Type 1} → statement M
 bit-string-spec =

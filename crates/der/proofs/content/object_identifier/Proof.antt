@@ -3,7 +3,7 @@ use mathlib.Core.Path.{sym, ap}
 use borrow.Author.Needs.{needs}
 use native.Mathlib.Omega.{arith}
 use Rattle.der.specs.Content.{objectIdentifier}
-use Rattle.der.proofs.ContentRules.{identifier-plain}
+use Rattle.der.proofs.ContentRules.{identifier-without-80}
 use Rattle.der.proofs.Ends.{none}
 use Rattle.der.proofs.content.object_identifier.Statement.{statement}
 use Rattle.der.proofs.content.object_identifier.Tie as tie
@@ -12,8 +12,8 @@ returns : tie.Need-returns
 unfolding objectIdentifier
 returns c = sym (ap objectIdentifier (none (c .before .before .args .content .now) (c .if1 .taken)))
 
-plain-requires : tie.Need-plain-requires
-plain-requires c κs = search needs
+lacks-80-requires : tie.Need-lacks-80-requires
+lacks-80-requires c κs = search needs
 
 sub-result : tie.Need-sub-result
 sub-result c = search needs
@@ -24,10 +24,10 @@ shared-slice-read-result c = search needs
 returns-2 : tie.Need-returns-2
 returns-2 c =
     let p = c .before .before in
-    identifier-plain (p .before .before .before .args .content .now) (omega arith) (p .plain .ensures (c .before .if2 .taken))
+    identifier-without-80 (p .before .before .before .args .content .now) (omega arith) (p .lacks-80 .ensures (c .before .if2 .taken))
 
-parted-requires : tie.Need-parted-requires
-parted-requires c κs = search needs
+are-subidentifiers-requires : tie.Need-are-subidentifiers-requires
+are-subidentifiers-requires c κs = search needs
 
 returns-3 : tie.Need-returns-3
 returns-3 c = search needs
@@ -37,9 +37,9 @@ object-identifier-spec =
     tie.close
     (tie.spec
     returns
-    plain-requires
+    lacks-80-requires
     sub-result
     shared-slice-read-result
     returns-2
-    parted-requires
+    are-subidentifiers-requires
     returns-3)

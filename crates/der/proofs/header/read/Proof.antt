@@ -1,97 +1,84 @@
--- `der::header::read` meets its contract: each way out is a law of the header. Assumes nothing.
+-- `der::header::read` meets its contract: with an identifier that is allowed a span is the header, and without either the header is broken
+-- for the cause that is told. Assumes nothing.
 use borrow.Author.Needs.{needs}
-use borrow.Author.Tests.{not-true, not-false}
-use mathlib.Core.Bool.{true}
-use mathlib.Core.Path.{_≡_, sym, ap₂, _∙_}
+use mathlib.Core.Bool.{true, false}
+use mathlib.Core.Path.{_≡_, sym, ap, _∙_}
+use mathlib.Core.List.{List}
+use mathlib.Core.Logic.{⊎-elim}
 use native.Mathlib.Omega.{arith}
-use lib.ListN.{getD, length-drop}
+use Prim.Native.Nat.{ℕ, _+_, _≤_}
+use lib.ListN.{length, getD}
+use Rattle.der.specs.declared.span.Span.{Span}
+use Rattle.der.specs.declared.header.Head.the-variants.{Stands, Broken}
+use Rattle.der.specs.Bounds.{longest}
 use Rattle.der.specs.Identifier.{allowed}
-use Rattle.der.proofs.Parts.{rest}
-use Rattle.der.proofs.HeaderWays.{LongHead, headless, refused, unsized, short, long}
+use Rattle.der.specs.Header.{headOf, causeOf}
+use Rattle.der.specs.Span.{spanOf}
+use Rattle.der.proofs.Spans.{span-fits, span-stands, span-broken, head-refused, refused-cause}
 use Rattle.der.proofs.header.read.Statement.{statement}
 use Rattle.der.proofs.header.read.Tie as tie
 
--- past the test of the identifier it is allowed
-known : (c : tie.Else2) → allowed (getD (c .before .before .before .before .before .args .bytes .now) 0 0) ≡ true
-known c = sym (c .before .is-allowed .ensures) ∙ not-false _ (c .if2 .left)
+-- Where the octets bs are measured as x.
+module _ (bs : List ℕ) (x : Span) (found : x ≡ spanOf bs) where
+  -- without a span
+  lost : length bs ≤ longest → x .octets ≡ 0 → headOf bs ≡ Broken (causeOf bs)
+  lost short none = span-broken bs short (ap (λ (y : Span). y .octets) (sym found) ∙ none)
 
-returns : tie.Need-returns
-returns c = headless (c .before .before .args .bytes .now) (c .if1 .taken)
+  module _ (one : x .octets ≡ 0 → ⊥) where
+    -- the span's own octets are some
+    some : spanOf bs .octets ≡ 0 → ⊥
+    some none = one (ap (λ (y : Span). y .octets) found ∙ none)
+
+    -- it has two octets at least
+    fits : (2 ≤ x .octets) × (x .octets + x .length ≤ length bs)
+    fits = rw found (span-fits bs some)
+
+    -- with an identifier that is not allowed
+    wrong : allowed (getD bs 0 0) ≡ false → headOf bs ≡ Broken (causeOf bs)
+    wrong e = head-refused bs (omega (arith, fits)) e ∙ ap Broken (refused-cause bs (omega (arith, fits)) e)
+
+    -- with one that is allowed
+    right : allowed (getD bs 0 0) ≡ true → Stands (getD bs 0 0) (x .octets) (x .length) ≡ headOf bs
+    right e = rw found (sym (span-stands bs some e))
+
+measure-requires : tie.Need-measure-requires
+measure-requires c κs = search needs
 
 shared-slice-read-id : tie.Need-shared-slice-read-id
-shared-slice-read-id c = search needs
+shared-slice-read-id c =
+    let d = c .before .before .before in
+    omega (arith, fits (d .before .before .args .bytes .now) (d .measure .result) (d .measure .ensures) (c .before .if1 .taken))
 
 is-allowed-requires : tie.Need-is-allowed-requires
 is-allowed-requires c κs = search needs
 
+returns : tie.Need-returns
+returns c =
+    let e = c .before in
+    let d = e .before .before .before .before in
+    right (d .before .before .args .bytes .now) (d .measure .result) (d .measure .ensures) (e .before .before .if1 .taken)
+    (sym (e .is-allowed .ensures) ∙ c .if2 .taken)
+
+cause-of-requires : tie.Need-cause-of-requires
+cause-of-requires c κs = search needs
+
 returns-2 : tie.Need-returns-2
 returns-2 c =
-    refused (c .before .before .before .before .before .args .bytes .now) (omega arith) (sym (c .before .is-allowed .ensures) ∙ not-true _ (c .if2 .taken))
-
-returns-3 : tie.Need-returns-3
-returns-3 c = unsized (c .before .before .before .before .before .before .args .bytes .now) (c .if3 .taken) (known (c .before))
-
-shared-slice-read-first : tie.Need-shared-slice-read-first
-shared-slice-read-first c = search needs
-
-sub-fit : tie.Need-sub-fit
-sub-fit c = search needs
-
-wide-requires : tie.Need-wide-requires
-wide-requires c κs = search needs
-
-fit-requires : tie.Need-fit-requires
-fit-requires c κs = search needs
-
-returns-4 : tie.Need-returns-4
-returns-4 c =
-    let bs = c .before .before .before .before .before .before .before .before .before .before .args .bytes .now in
-    rw (c .fit .ensures, c .before .wide .ensures)
-    (short bs (omega arith) (known (c .before .before .before .before .before)) (c .before .before .if4 .taken))
-
-wide-requires-2 : tie.Need-wide-requires-2
-wide-requires-2 c κs = search needs
-
-sub-long-form : tie.Need-sub-long-form
-sub-long-form c = search needs
-
-part-long-form-start : tie.Need-part-long-form-start
-part-long-form-start c = search needs
-
-part-long-form-end : tie.Need-part-long-form-end
-part-long-form-end c = search needs
-
-long-form-requires : tie.Need-long-form-requires
-long-form-requires c κs = (
-  omega (arith, c .before .wide2 .ensures, c .before .before .before .shared-slice-known3 .given 1),
-  simp (rest, length-drop) (omega arith),
-)
-
-returns-5 : tie.Need-returns-5
-returns-5 c =
-    let bs = c .before .before .before .before .before .before .before .before .before .before .before .args .bytes .now in
-    let id = getD bs 0 0 in
-    (c .long-form .ensures)
-    ∙ ap₂ (LongHead id) (c .before .before .wide2 .ensures) (rest bs 2)
-    ∙ long bs (omega arith) (known (c .before .before .before .before .before .before)) (c .before .before .before .if4 .left)
+    let d = c .before .before .before in
+    let bs = d .before .before .args .bytes .now in
+    ap Broken (c .cause-of .ensures)
+    ∙ sym (⊎-elim
+    (λ way. wrong bs (d .measure .result) (d .measure .ensures) (way .0 .taken) (sym (way .2 .ensures) ∙ way .3 .left))
+    (λ way. lost bs (d .measure .result) (d .measure .ensures) (d .before .before .pre) (way .left))
+    (c .before .if1 .came))
 
 pub read-spec : {M : Type 1} → statement M
 read-spec =
     tie.close
     (tie.spec
-    returns
+    measure-requires
     shared-slice-read-id
     is-allowed-requires
-    returns-2
-    returns-3
-    shared-slice-read-first
-    sub-fit
-    wide-requires
-    fit-requires
-    returns-4
-    wide-requires-2
-    sub-long-form
-    part-long-form-start
-    part-long-form-end
-    long-form-requires
-    returns-5)
+    returns
+    cause-of-requires
+    returns-2)

@@ -1,4 +1,4 @@
--- `der::reading::read_at` meets its contract: a span of the part behind an identifier that is allowed is its header, and without one the
+-- `der::reading::read_at` meets its contract: a span of the part after an identifier that is allowed is its header, and without one the
 -- header is broken. Assumes nothing.
 use borrow.Author.Needs.{needs}
 use mathlib.Core.Path.{_≡_, sym, ap, _∙_}
@@ -10,10 +10,11 @@ use Prim.Native.Nat.{ℕ, _+_, _≤_}
 use lib.ListN.{length, getD}
 use lib.Seq.{slice}
 use Rattle.der.specs.declared.span.Span.{Span}
+use Rattle.der.specs.Bounds.{longest}
 use Rattle.der.specs.Identifier.{allowed}
 use Rattle.der.specs.Span.{spanOf}
 use Rattle.der.specs.Reading.{nothingAt, read, readAt}
-use Rattle.der.proofs.HeaderWays.{refused}
+use Rattle.der.proofs.Spans.{head-refused}
 use Rattle.der.proofs.Parts.{slice-size}
 use Rattle.der.proofs.Readings.{read-at, read-at-long, read-stands, read-broken}
 use Rattle.der.proofs.Spans.{span-fits, span-stands, span-broken}
@@ -27,10 +28,10 @@ module _ (p : ℕ) (bs part : List ℕ) (x : Span) (same : part ≡ bs) (found :
   theirs = found ∙ ap spanOf same
 
   -- without it they are read as no element
-  lost : length bs ≤ 65535 → x .octets ≡ 0 → nothingAt (p + length part) ≡ read p bs
+  lost : length bs ≤ longest → x .octets ≡ 0 → nothingAt (p + length part) ≡ read p bs
   lost short none =
       let broken = span-broken bs short (ap (λ (y : Span). y .octets) (sym theirs) ∙ none) in
-      ap (λ (l : List ℕ). nothingAt (p + length l)) same ∙ sym (read-broken p bs (broken .0) (broken .1) (broken .2))
+      ap (λ (l : List ℕ). nothingAt (p + length l)) same ∙ sym (read-broken p bs broken)
 
   module _ (one : x .octets ≡ 0 → ⊥) where
     -- they have it where the part does
@@ -41,13 +42,13 @@ module _ (p : ℕ) (bs part : List ℕ) (x : Span) (same : part ≡ bs) (found :
     fits : (2 ≤ x .octets) × (x .octets + x .length ≤ length bs)
     fits = rw theirs (span-fits bs some)
 
-    -- behind an identifier that is not allowed no element is read
+    -- after an identifier that is not allowed no element is read
     wrong : allowed (getD part 0 0) ≡ false → nothingAt (p + length part) ≡ read p bs
     wrong e =
         ap (λ (l : List ℕ). nothingAt (p + length l)) same
-        ∙ sym (read-broken p bs 3 0 (sym (refused bs (omega (arith, fits)) (rw same at e))))
+        ∙ sym (read-broken p bs (head-refused bs (omega (arith, fits)) (rw same at e)))
 
-    -- behind one that is allowed it gives the element
+    -- after one that is allowed it gives the element
     right : allowed (getD part 0 0) ≡ true → record { identifier = getD part 0 0; content = p + x .octets; end = p + x .octets + x .length } ≡ read p bs
     right e = rw (theirs, same) (sym (read-stands p bs (getD bs 0 0) (spanOf bs .octets) (spanOf bs .length) (span-stands bs some (rw same at e))))
 
@@ -61,7 +62,7 @@ module _ (c : tie.After-measure) where
   start = c .before .before .before .before
 
   abbrev lent : List ℕ
-  lent = c .before .part .result .now
+  lent = c .before .between .result .now
 
   -- by places the element is read from those octets
   by-places : readAt (start .args .bytes .now) (start .args .at) (start .args .end) ≡ read (start .args .at) (octets start)
@@ -70,11 +71,11 @@ module _ (c : tie.After-measure) where
   -- a span and its content end within the input, which is not too long
   within : (c .measure .result .octets ≡ 0 → ⊥) → (2 ≤ c .measure .result .octets)
       × (c .measure .result .octets + c .measure .result .length ≤ length (octets start))
-      × (start .args .at + (c .measure .result .octets + c .measure .result .length) ≤ 65535)
+      × (start .args .at + (c .measure .result .octets + c .measure .result .length) ≤ longest)
   within one =
       omega (
         arith,
-        fits (start .args .at) (octets start) lent (c .measure .result) (c .before .part .ensures) (c .measure .ensures) one,
+        fits (start .args .at) (octets start) lent (c .measure .result) (c .before .between .ensures) (c .measure .ensures) one,
         slice-size (start .args .at) (start .args .end) (start .args .bytes .now),
         c .before .before .if1 .left,
       )
@@ -87,8 +88,8 @@ returns c =
     let a = c .before .before .before .args in
     c .nothing-at .ensures ∙ sym (read-at-long (a .bytes .now) (a .at) (a .end) (c .before .if1 .taken))
 
-part-requires : tie.Need-part-requires
-part-requires c κs = search needs
+between-requires : tie.Need-between-requires
+between-requires c κs = search needs
 
 measure-requires : tie.Need-measure-requires
 measure-requires c κs = search needs
@@ -96,7 +97,7 @@ measure-requires c κs = search needs
 shared-slice-read-id : tie.Need-shared-slice-read-id
 shared-slice-read-id c =
     let d = c .before .before .before in
-    omega (arith, within d (c .before .if2 .taken), ap length (d .before .part .ensures))
+    omega (arith, within d (c .before .if2 .taken), ap length (d .before .between .ensures))
 
 is-allowed-requires : tie.Need-is-allowed-requires
 is-allowed-requires c κs = search needs
@@ -114,7 +115,7 @@ returns-2 : tie.Need-returns-2
 returns-2 c =
     let e = c .before .before .before .before in
     let d = e .before .before .before .before in
-    right (start d .args .at) (octets (start d)) (lent d) (d .measure .result) (d .before .part .ensures) (d .measure .ensures) (e .before .before .if2 .taken)
+    right (start d .args .at) (octets (start d)) (lent d) (d .measure .result) (d .before .between .ensures) (d .measure .ensures) (e .before .before .if2 .taken)
     (sym (e .is-allowed .ensures) ∙ c .before .before .before .if3 .taken)
     ∙ sym (by-places d)
 
@@ -123,7 +124,7 @@ add-nothing-at c =
     let d = c .before .before in
     omega (
       arith,
-      ap length (d .before .part .ensures),
+      ap length (d .before .between .ensures),
       slice-size (start d .args .at) (start d .args .end) (start d .args .bytes .now),
       start d .fits .at,
       d .before .before .if1 .left,
@@ -138,9 +139,9 @@ returns-3 c =
     let a = start d .args in
     c .nothing-at2 .ensures
     ∙ ⊎-elim
-    (λ way. wrong (a .at) (octets (start d)) (lent d) (d .measure .result) (d .before .part .ensures) (d .measure .ensures) (way .0 .taken)
+    (λ way. wrong (a .at) (octets (start d)) (lent d) (d .measure .result) (d .before .between .ensures) (d .measure .ensures) (way .0 .taken)
     (sym (way .2 .ensures) ∙ way .3 .left))
-    (λ way. lost (a .at) (octets (start d)) (lent d) (d .measure .result) (d .before .part .ensures) (d .measure .ensures)
+    (λ way. lost (a .at) (octets (start d)) (lent d) (d .measure .result) (d .before .between .ensures) (d .measure .ensures)
     (omega (arith, slice-size (a .at) (a .end) (a .bytes .now), d .before .before .if1 .left)) (way .left))
     (c .before .if2 .came)
     ∙ sym (by-places d)
@@ -151,7 +152,7 @@ read-at-spec =
     (tie.spec
     nothing-at-requires
     returns
-    part-requires
+    between-requires
     measure-requires
     shared-slice-read-id
     is-allowed-requires

@@ -1,5 +1,5 @@
 -- `der::utf8::text` meets its contract. The loop's invariant: the check goes on from what it has read as it would over the whole content,
--- and so behind eight octets below 80. Assumes nothing.
+-- and so after eight octets below 80. Assumes nothing.
 use Prim.Native.Nat.{_+_, _≤_, _-_}
 use mathlib.Core.Bool.{and-eq-true-iff}
 use mathlib.Core.Path.{_≡_, refl, sym, _∙_}
@@ -71,7 +71,7 @@ enum-known-s c = search needs
 enum-told : tie.Need-enum-told Inv-loop μ-loop
 enum-told c = search needs
 
--- behind an octet the check goes on as its step says
+-- after an octet the check goes on as its step says
 turned : (c : tie.After-advance Inv-loop μ-loop) →
     let a = c .before .before .before .before .before in
     let content = a .before .before .args .content .now in

@@ -1,4 +1,4 @@
--- `editions::reader::accept` meets its contract: no edition, the quick count, or one look after the other. Assumes nothing.
+-- `editions::reader::accept` meets its contract: no edition, an input that is recognised, or one look after the other. Assumes nothing.
 use borrow.Author.Needs.{needs}
 use mathlib.Core.Path.{sym, _∙_}
 use Rattle.editions.proofs.Answers.{no-edition, in-range}
@@ -21,28 +21,33 @@ returns c =
 count-requires : tie.Need-count-requires
 count-requires c κs = search needs
 
-sub-admit : tie.Need-sub-admit
-sub-admit c = search needs
+enum-known-count : tie.Need-enum-known-count
+enum-known-count c = search needs
 
 admit-requires : tie.Need-admit-requires
 admit-requires c κs = search needs
 
-returns-2 : tie.Need-returns-2
-returns-2 c =
-    let tested = c .before .before .before .before in
-    let a = tested .before .before .args in
-    c .admit .ensures
-    ∙ quick-accepted (a .edition) (a .bytes .now) (sym (tested .is-none .ensures) ∙ c .before .before .before .if1 .left) _ (c .before .before .count .ensures) (c .before .if2 .taken)
+enum-told : tie.Need-enum-told
+enum-told c = search needs
 
 exact-requires : tie.Need-exact-requires
 exact-requires c κs =
-    let tested = c .before .before .before in
+    let tested = c .before .before .before .before in
     let a = tested .before .before .args in
-    in-range (a .edition) (a .bytes .now) (sym (tested .is-none .ensures) ∙ c .before .before .if1 .left)
+    in-range (a .edition) (a .bytes .now) (sym (tested .is-none .ensures) ∙ c .before .before .before .if1 .left)
+
+returns-2 : tie.Need-returns-2
+returns-2 c =
+    let counted = c .before .before .before .before in
+    let tested = counted .before .before in
+    let a = tested .before .before .args in
+    c .admit .ensures
+    ∙ quick-accepted (a .edition) (a .bytes .now) (sym (tested .is-none .ensures) ∙ counted .before .if1 .left) _
+    (sym (counted .count .ensures) ∙ c .before .before .count2 .given .1)
 
 returns-3 : tie.Need-returns-3
 returns-3 c = search needs
 
 pub accept-spec : {M : Type 1} → statement M
 accept-spec =
-    tie.close (tie.spec is-none-requires refuse-requires returns count-requires sub-admit admit-requires returns-2 exact-requires returns-3)
+    tie.close (tie.spec is-none-requires refuse-requires returns count-requires enum-known-count admit-requires enum-told exact-requires returns-2 returns-3)

@@ -8,8 +8,8 @@ use Rattle.editions.proofs.reader.batch.Tie as tie
 count-requires : tie.Need-count-requires
 count-requires c κs = search needs
 
-enum-known-seen : tie.Need-enum-known-seen
-enum-known-seen c = search needs
+enum-known-tally : tie.Need-enum-known-tally
+enum-known-tally c = search needs
 
 passed-requires : tie.Need-passed-requires
 passed-requires c κs = search needs
@@ -26,7 +26,7 @@ returns c =
     let a = start .args in
     c .passed .ensures
     ∙ batch-passed (edition (a .edition) (start .pre .0) (start .pre .1)) (a .bytes .now) (start .pre .2) _
-    (sym (c .before .before .before .before .count .ensures) ∙ c .before .before .seen .given .1)
+    (sym (c .before .before .before .before .count .ensures) ∙ c .before .before .tally .given .1)
 
 returns-2 : tie.Need-returns-2
 returns-2 c =
@@ -37,4 +37,4 @@ returns-2 c =
     (sym (c .before .before .before .before .count .ensures) ∙ c .before .before .place .given .1)
 
 pub batch-spec : {M : Type 1} → statement M
-batch-spec = tie.close (tie.spec count-requires enum-known-seen passed-requires enum-known-place broken-requires returns returns-2)
+batch-spec = tie.close (tie.spec count-requires enum-known-tally passed-requires enum-known-place broken-requires returns returns-2)

@@ -19,7 +19,7 @@ returns : tie.Need-returns
 returns c =
     let f = c .before .before .before .first-form in
     let a = c .before .before .before .before .args in
-    c .refuse .ensures ∙ broken-before (a .edition) _ _ (a .seen) (f .ensures .0) (f .ensures .1) (a .place) (c .before .if1 .taken)
+    c .refuse .ensures ∙ broken-before (a .edition) _ _ (a .tally) (f .ensures .0) (f .ensures .1) (a .place) (c .before .if1 .taken)
 
 refuse-requires-2 : tie.Need-refuse-requires-2
 refuse-requires-2 c κs = search needs
@@ -28,7 +28,7 @@ returns-2 : tie.Need-returns-2
 returns-2 c =
     let f = c .before .before .before .first-form in
     let a = c .before .before .before .before .args in
-    c .refuse2 .ensures ∙ broken-there (a .edition) _ _ (a .seen) (f .ensures .0) (f .ensures .1) (a .place) (c .before .if1 .left)
+    c .refuse2 .ensures ∙ broken-there (a .edition) _ _ (a .tally) (f .ensures .0) (f .ensures .1) (a .place) (c .before .if1 .left)
 
 pub broken-spec : {M : Type 1} → statement M
 broken-spec = tie.close (tie.spec sub-first-form first-form-requires refuse-requires returns refuse-requires-2 returns-2)

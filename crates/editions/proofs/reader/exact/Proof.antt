@@ -13,8 +13,8 @@ returns c =
     let start = c .before .before .before in
     c .refuse .ensures ∙ too-long (start .args .edition) (start .args .bytes .now) (an-edition _ (start .pre)) (c .before .if1 .taken)
 
-walk-requires : tie.Need-walk-requires
-walk-requires c κs = search needs
+explain-requires : tie.Need-explain-requires
+explain-requires c κs = search needs
 
 enum-known-number : tie.Need-enum-known-number
 enum-known-number c = search needs
@@ -35,7 +35,7 @@ returns-2 c =
     let a = start .args in
     c .refuse3 .ensures
     ∙ bytes-after (a .edition) (a .bytes .now) (an-edition _ (start .pre)) (walked .before .if1 .left) _
-    (sym (walked .walk .ensures) ∙ c .before .before .before .end .given .1) (c .before .if2 .taken)
+    (sym (walked .explain .ensures) ∙ c .before .before .before .end .given .1) (c .before .if2 .taken)
 
 batch-requires : tie.Need-batch-requires
 batch-requires c κs =
@@ -50,7 +50,7 @@ returns-3 c =
     let a = start .args in
     c .refuse2 .ensures
     ∙ nest-fault (a .edition) (a .bytes .now) (an-edition _ (start .pre)) (walked .before .if1 .left) _ _ _
-    (sym (walked .walk .ensures) ∙ c .before .before .number .given .1)
+    (sym (walked .explain .ensures) ∙ c .before .before .number .given .1)
 
 returns-4 : tie.Need-returns-4
 returns-4 c =
@@ -59,7 +59,7 @@ returns-4 c =
     let a = start .args in
     c .batch .ensures
     ∙ one-element (a .edition) (a .bytes .now) (an-edition _ (start .pre)) (walked .before .if1 .left) _
-    (sym (walked .walk .ensures) ∙ c .before .before .before .end .given .1) (c .before .if2 .left)
+    (sym (walked .explain .ensures) ∙ c .before .before .before .end .given .1) (c .before .if2 .left)
 
 pub exact-spec : {M : Type 1} → statement M
 exact-spec =
@@ -67,7 +67,7 @@ exact-spec =
     (tie.spec
     refuse-requires
     returns
-    walk-requires
+    explain-requires
     enum-known-number
     refuse-requires-2
     enum-known-end

@@ -7,14 +7,14 @@ use Rattle.editions.proofs.reader.first_form.Tie as tie
 
 returns : tie.Need-returns
 returns c =
-    let a = c .before .args in
-    let is = sym (form-one (a .edition) (a .seen) (c .if1 .taken)) in
+    let a = c .before .before .args in
+    let is = sym (form-one (a .edition) (a .tally) (c .before .if1 .taken)) in
     (ap (λ (h : ℕ × ℕ). h .0) is, ap (λ (h : ℕ × ℕ). h .1) is)
 
 returns-2 : tie.Need-returns-2
 returns-2 c =
-    let a = c .before .args in
-    let is = sym (form-two (a .edition) (a .seen) (c .if1 .left)) in
+    let a = c .before .before .args in
+    let is = sym (form-two (a .edition) (a .tally) (c .before .if1 .left)) in
     (ap (λ (h : ℕ × ℕ). h .0) is, ap (λ (h : ℕ × ℕ). h .1) is)
 
 pub first-form-spec : {M : Type 1} → statement M

@@ -27,7 +27,7 @@ returns c =
     let f = c .before .before .before .before .before .first-form in
     let a = c .before .before .before .before .before .before .args in
     c .refuse .ensures ∙ ap (λ (n : ℕ). refusal n (f .result .place)) (c .before .stop-number .ensures)
-    ∙ passed-foreign (a .edition) _ _ (a .seen) (f .ensures .0) (f .ensures .1) _ (c .before .before .first-form2 .ensures .0) (c .before .before .before .if1 .taken)
+    ∙ passed-foreign (a .edition) _ _ (a .tally) (f .ensures .0) (f .ensures .1) _ (c .before .before .first-form2 .ensures .0) (c .before .before .before .if1 .taken)
 
 refuse-requires-2 : tie.Need-refuse-requires-2
 refuse-requires-2 c κs = search needs
@@ -37,7 +37,7 @@ returns-2 c =
     let f = c .before .before .before .before .before .first-form in
     let a = c .before .before .before .before .before .before .args in
     c .refuse2 .ensures
-    ∙ passed-long (a .edition) _ _ (a .seen) (f .ensures .0) (f .ensures .1) (c .before .before .before .if1 .left) (c .before .if2 .taken)
+    ∙ passed-long (a .edition) _ _ (a .tally) (f .ensures .0) (f .ensures .1) (c .before .before .before .if1 .left) (c .before .if2 .taken)
 
 admit-requires : tie.Need-admit-requires
 admit-requires c κs = search needs
@@ -47,7 +47,7 @@ returns-3 c =
     let f = c .before .before .before .before .before .first-form in
     let a = c .before .before .before .before .before .before .args in
     c .admit .ensures
-    ∙ passed-accepted (a .edition) _ _ (a .seen) (f .ensures .0) (f .ensures .1) (c .before .before .before .if1 .left) (c .before .if2 .left)
+    ∙ passed-accepted (a .edition) _ _ (a .tally) (f .ensures .0) (f .ensures .1) (c .before .before .before .if1 .left) (c .before .if2 .left)
 
 pub passed-spec : {M : Type 1} → statement M
 passed-spec =

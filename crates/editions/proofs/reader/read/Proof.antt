@@ -1,9 +1,10 @@
--- `editions::reader::read` meets its contract: no edition; the quick reading; or, where that counts none and leaves the table, refused as
--- without a table. Assumes nothing.
+-- `editions::reader::read` meets its contract: no edition; an input that is recognised; or any other, for which the table stays and the answer
+-- is that without a table. Assumes nothing.
 use borrow.Author.Needs.{needs}
 use mathlib.Core.Path.{sym, ap, _∙_}
-use Prim.Native.Nat.{_-_}
 use Rattle.der.specs.Octets.{Octets}
+use Prim.Native.Nat.{_-_}
+use Rattle.der.proofs.Laws.{octets-each}
 use Rattle.crmf.proofs.Laws.{quick-stays}
 use Rattle.editions.specs.declared.reader.Answer.{Answer}
 use Rattle.editions.specs.Steps.{shownAnswer}
@@ -29,50 +30,54 @@ returns c =
 read-requires : tie.Need-read-requires
 read-requires c κs = search needs
 
-sub-shown : tie.Need-sub-shown
-sub-shown c = search needs
+enum-known-count : tie.Need-enum-known-count
+enum-known-count c = search needs
 
 shown-requires : tie.Need-shown-requires
 shown-requires c κs = search needs
+
+enum-told : tie.Need-enum-told
+enum-told c = search needs
+
+exact-requires : tie.Need-exact-requires
+exact-requires c κs =
+    let r = c .before .before .before .before in
+    let tested = r .before .before .before in
+    let a = tested .before .before .before .args in
+    in-range (a .edition) (a .bytes .now) (sym (tested .is-none .ensures) ∙ r .before .before .if1 .left)
 
 same-length : tie.Need-same-length
 same-length c = search needs
 
 returns-2 : tie.Need-returns-2
 returns-2 c =
-    let r = c .before .before .before .before in
+    let r = c .before .before .before .before .before .before in
     let tested = r .before .before .before in
     let a = tested .before .before .before .args in
+    let counted = c .before .before .count .given in
     let (answered, after) =
-    quick-shown (a .edition) (a .bytes .now) (a .table .now) (λ i. tested .before .before .shared-slice-known .given i .fits) (sym (tested .is-none .ensures) ∙ r .before .before .if1 .left) _ (r .read .ensures .0)
-    (c .before .if2 .taken) in
-    (c .shown .ensures ∙ ap (shownAnswer (r .read .result - 1)) (r .read .kept .1 .1 .0) ∙ answered, r .read .ensures .1 ∙ after)
-
-exact-requires : tie.Need-exact-requires
-exact-requires c κs =
-    let r = c .before .before .before in
-    let tested = r .before .before .before in
-    let a = tested .before .before .before .args in
-    in-range (a .edition) (a .bytes .now) (sym (tested .is-none .ensures) ∙ r .before .before .if1 .left)
+    quick-shown (a .edition) (a .bytes .now) (a .table .now) (octets-each (a .bytes .now) (λ i. tested .before .before .shared-slice-known .given i .fits)) (sym (tested .is-none .ensures) ∙ r .before .before .if1 .left) _
+    (sym (r .read .ensures .0) ∙ counted .1) in
+    (c .shown .ensures ∙ ap (shownAnswer (counted .0 .0)) (r .read .kept .1 .1 .0) ∙ answered, r .read .ensures .1 ∙ after)
 
 same-length-2 : tie.Need-same-length-2
 same-length-2 c = search needs
 
 returns-3 : tie.Need-returns-3
 returns-3 c =
-    let r = c .before .before .before .before in
+    let r = c .before .before .before .before .before in
     let tested = r .before .before .before in
     let a = tested .before .before .before .args in
-    let none = c .before .if2 .left in
-    let stays = r .read .ensures .1 ∙ sym (quick-stays (a .edition) (a .bytes .now) (a .table .now) _ (r .read .ensures .0) none) in
+    let none = sym (r .read .ensures .0) ∙ c .before .enum-told .given .1 in
+    let stays = r .read .ensures .1 ∙ sym (quick-stays (a .edition) (a .bytes .now) (a .table .now) none) in
     let found = c .exact in
-    let octets : Octets (a .bytes .now) = λ i. tested .before .before .shared-slice-known .given i .fits in
+    let octets = octets-each (a .bytes .now) (λ i. tested .before .before .shared-slice-known .given i .fits) in
     let (answered, after) =
     read-refused (a .edition) (a .bytes .now) (a .table .now) (found .result) (found .ensures)
-    (λ zero. quick-none (a .edition) (a .bytes .now) octets (sym (r .read .ensures .0) ∙ none) (ap (λ (x : Answer). x .number) (sym (found .ensures)) ∙ zero)) in
+    (λ zero. quick-none (a .edition) (a .bytes .now) octets none (ap (λ (x : Answer). x .number) (sym (found .ensures)) ∙ zero)) in
     (answered, stays ∙ after)
 
 pub read-spec : {M : Type 1} → statement M
 read-spec =
     tie.close
-    (tie.spec is-none-requires refuse-requires returns read-requires sub-shown shown-requires same-length returns-2 exact-requires same-length-2 returns-3)
+    (tie.spec is-none-requires refuse-requires returns read-requires enum-known-count shown-requires enum-told exact-requires same-length returns-2 same-length-2 returns-3)

@@ -8,6 +8,7 @@ use lib.Seq.{slice}
 use mir.Facts.{toZ-ofZ}
 use mir.Syntax.{w64}
 use Rattle.der.specs.declared.reading.Element.{Element}
+use Rattle.der.proofs.Laws.{octets-each}
 use Rattle.verdict.specs.Duplicates.{signed}
 use Rattle.verdict.specs.Collecting.{most, idIn}
 use Rattle.verdict.proofs.Collecting.{Known, accepted-known, Step, step, Walk, walk-start, walk-end, walk-room, walk-more}
@@ -22,7 +23,9 @@ abbrev μ-loop : tie.MeasureT-loop
 
 -- what is known of the batch
 known : (c : tie.After-read-at Inv-loop μ-loop) → Known (c .before .before .args .bytes .now)
-known c = accepted-known (c .before .before .args .bytes .now) (λ i. c .before .shared-slice-known .given i .fits) (c .before .before .pre .0)
+known c =
+    let s = c .before .before .args .bytes .now in
+    accepted-known s (octets-each s (λ i. c .before .shared-slice-known .given i .fits)) (c .before .before .pre .0)
 
 -- what a turn reads
 next : (c : tie.In-loop Inv-loop μ-loop) → Step (c .before .before .before .before .args .bytes .now) (c .before .loop .at)

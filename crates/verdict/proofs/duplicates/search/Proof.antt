@@ -4,6 +4,7 @@ use mathlib.Core.List.{List}
 use borrow.Author.Needs.{needs}
 use lib.IntN.{ℤ}
 use lib.Seq.{length-take-le}
+use Rattle.der.specs.Refusal.{accepted}
 use Rattle.editions.specs.declared.reader.Answer.{Answer}
 use Rattle.editions.specs.Reading.{answer}
 use Rattle.verdict.specs.Duplicates.{pairOf, searched}
@@ -21,7 +22,7 @@ returns c =
     answer-refused (args .edition) (args .bytes .now) (found .result) (found .ensures) (c .if1 .taken)
 
 -- the batch is accepted
-zero : (c : tie.Else1) → let args = c .before .before .before .before .args in answer (args .edition) (args .bytes .now) .number ≡ 0
+zero : (c : tie.Else1) → let args = c .before .before .before .before .args in answer (args .edition) (args .bytes .now) .number ≡ accepted
 zero c = ap (λ (a : Answer). a .number) (sym (c .before .before .accept .ensures)) ∙ c .if1 .left
 
 slice-aggregate-collect : tie.Need-slice-aggregate-collect

@@ -10,7 +10,7 @@ use mir.Facts.{toZ-pos, toZ-neg}
 use mir.Syntax.{w64}
 use mir.Val.{SFits, toZ, ofZ}
 use Rattle.der.specs.Length.{valueFrom}
-use Rattle.der.proofs.Laws.{value-none}
+use Rattle.der.proofs.Laws.{value-none, octets-each}
 use Rattle.verdict.specs.Duplicates.{part}
 use Rattle.verdict.proofs.Magnitudes.{negative, prefix, prefix-fits, prefix-more, prefix-all, signed-negative, signed-positive, minus-one}
 use Rattle.verdict.proofs.duplicates.signed.Statement.{statement}
@@ -25,7 +25,8 @@ abbrev μ-loop : tie.MeasureT-loop
 -- the magnitude so far, and any other, has 63 bits
 fits : (l : tie.At-loop Inv-loop μ-loop) (i : ℕ) → prefix (l .before .before .before .args .content .now) i < 2 ^ 63
 fits l i =
-    prefix-fits (l .before .before .before .args .content .now) i (λ j. l .before .before .shared-slice-known .given j .fits) (l .before .before .before .pre .1)
+    let content = l .before .before .before .args .content .now in
+    prefix-fits content i (octets-each content (λ j. l .before .before .shared-slice-known .given j .fits)) (l .before .before .before .pre .1)
 
 -- with one octet more
 more : (c : tie.In-loop Inv-loop μ-loop) → let content = c .before .before .before .before .args .content .now in

@@ -1,9 +1,10 @@
 -- `verdict::verdict::is_named` meets its contract: what is read second is the template. Assumes nothing.
 use borrow.Author.Needs.{needs}
-use mathlib.Core.Path.{ap, ap₂, _∙_}
+use mathlib.Core.Path.{sym, ap, ap₂, _∙_}
 use mathlib.Core.Bool.{_&&_}
 use Rattle.verdict.specs.Steps.{Places, holds}
 use Rattle.verdict.proofs.Elements.{content-places, behind-places}
+use Rattle.verdict.proofs.Judging.{has-seek}
 use Rattle.verdict.proofs.MessagePlaces.{template-held}
 use Rattle.verdict.proofs.verdict.is_named.Statement.{statement}
 use Rattle.verdict.proofs.verdict.is_named.Tie as tie
@@ -35,7 +36,8 @@ returns c = λ m more same thirty.
     let start = second .before .before .before in
     let a = start .args in
     let inside = template-held (a .bytes .now) (a .at) (a .end) (start .pre) (second .before .read-at .result) (second .read-at2 .result) (second .before .read-at .ensures) (second .read-at2 .ensures) m more same thirty in
-    ap₂ _&&_ (c .before .has .ensures ∙ ap (holds 0xA5) inside) (c .has2 .ensures ∙ ap (holds 0xA6) inside)
+    ap₂ _&&_ (c .before .has .ensures ∙ ap (holds 0xA5) inside ∙ sym (has-seek 0xA5 (m .template)))
+    (c .has2 .ensures ∙ ap (holds 0xA6) inside ∙ sym (has-seek 0xA6 (m .template)))
 
 pub is-named-spec : {M : Type 1} → statement M
 is-named-spec =

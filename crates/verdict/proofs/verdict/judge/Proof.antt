@@ -1,6 +1,8 @@
 -- `verdict::verdict::judge` meets its contract: refused as by reading, no message at the position, or that message's verdict. Assumes nothing.
 use borrow.Author.Needs.{needs}
 use mathlib.Core.Path.{_≡_, sym, ap, _∙_}
+use Rattle.der.specs.Refusal.{accepted as acceptance}
+use Rattle.der.proofs.Laws.{octets-each}
 use Rattle.editions.specs.declared.reader.Answer.{Answer}
 use Rattle.editions.specs.Reading.{answer}
 use Rattle.verdict.specs.Verdict.{refused, messageAt}
@@ -29,14 +31,14 @@ read-at-requires c κs = search needs
 
 -- the batch is accepted
 module _ (c : tie.Else1) where
-  zero-number : let a = c .before .before .before .before .args in answer (a .edition) (a .bytes .now) .number ≡ 0
+  zero-number : let a = c .before .before .before .before .args in answer (a .edition) (a .bytes .now) .number ≡ acceptance
   zero-number = ap (λ (x : Answer). x .number) (sym (c .before .before .accept .ensures)) ∙ c .if1 .left
 
   accepted : let a = c .before .before .before .before .args in Accepted (a .edition) (a .bytes .now)
   accepted =
       let known = c .before .before .before in
       let a = known .before .args in
-      accepted-tree (a .edition) (a .bytes .now) (λ i. known .shared-slice-known .given i .fits) zero-number
+      accepted-tree (a .edition) (a .bytes .now) (octets-each (a .bytes .now) (λ i. known .shared-slice-known .given i .fits)) zero-number
 
 skip-requires : tie.Need-skip-requires
 skip-requires c κs =

@@ -5,7 +5,7 @@ use native.Mathlib.Omega.{arith}
 use mathlib.Core.Path.{refl}
 use borrow.Author.Needs.{needs}
 use lib.ListN.{length}
-use Rattle.der.proofs.Laws.{take-drop}
+use Rattle.der.proofs.Laws.{take-drop, octets-each}
 use Rattle.verdict.proofs.Verdicts.{part-within}
 use Rattle.verdict.proofs.verdict.signed_part.Statement.{statement}
 use Rattle.verdict.proofs.verdict.signed_part.Tie as tie
@@ -17,7 +17,7 @@ judge-requires c κs = search needs
 fits : (c : tie.After-judge) → c .judge .result .from + c .judge .result .length ≤ length (c .before .before .args .bytes .now)
 fits c =
     let a = c .before .before .args in
-    rw (c .judge .ensures) (part-within (a .edition) (a .bytes .now) (a .position .0) (λ i. c .before .shared-slice-known .given i .fits))
+    rw (c .judge .ensures) (part-within (a .edition) (a .bytes .now) (a .position .0) (octets-each (a .bytes .now) (λ i. c .before .shared-slice-known .given i .fits)))
 
 add-end : tie.Need-add-end
 add-end c = omega (arith, fits (c .before))

@@ -2,6 +2,9 @@
 use borrow.Author.Needs.{needs}
 use Rattle.writer.proofs.Answering.{zeros-room}
 use native.Mathlib.Omega.{arith}
+use Prim.Native.Nat.{_*_}
+use Rattle.crmf.specs.Rows.{width}
+use Rattle.writer.specs.Steps.{few}
 use Rattle.writer.proofs.build.build_few.Statement.{statement}
 use Rattle.writer.proofs.build.build_few.Tie as tie
 
@@ -9,7 +12,9 @@ slice-aggregate-build-in : tie.Need-slice-aggregate-build-in
 slice-aggregate-build-in c = search needs
 
 build-in-requires : tie.Need-build-in-requires
-build-in-requires c κs = let a = c .before .before .before .before .before .args in zeros-room (a .draft .now) (a .scratch .now) 1024 (c .before .before .before .before .before .pre .0) (c .before .before .before .before .before .pre .1) (omega (arith, c .before .before .before .before .before .pre .2))
+build-in-requires c κs =
+    let start = c .before .before .before .before .before in
+    zeros-room (start .args .draft .now) (start .args .scratch .now) (width * few) (start .pre .0) (start .pre .1) (omega (arith, start .pre .2))
 
 same-length : tie.Need-same-length
 same-length c = search needs

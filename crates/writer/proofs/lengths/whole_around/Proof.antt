@@ -18,20 +18,20 @@ add-content c = omega (arith, c .implied-length .ensures, implied-short (c .befo
 returns : tie.Need-returns
 returns c = stands-past (c .if1 .taken) (omega (arith, c .before .implied-length .ensures))
 
-octets-of-requires : tie.Need-octets-of-requires
-octets-of-requires c κs = search needs
+length-octets-requires : tie.Need-length-octets-requires
+length-octets-requires c κs = search needs
 
 add-result : tie.Need-add-result
-add-result c = omega (arith, c .octets-of .ensures .1)
+add-result c = omega (arith, c .length-octets .ensures .1)
 
 add-result-2 : tie.Need-add-result-2
-add-result-2 c = omega (arith, c .octets-of .ensures .1)
+add-result-2 c = omega (arith, c .length-octets .ensures .1)
 
 returns-2 : tie.Need-returns-2
 returns-2 c =
     let s = c .before .before in
     let content = ap (λ (k : ℕ). length (lengthOctets (k + s .before .args .inner))) (s .implied-length .ensures) in
-    stands-same (omega (arith, c .octets-of .ensures .0, content, s .implied-length .ensures))
+    stands-same (omega (arith, c .length-octets .ensures .0, content, s .implied-length .ensures))
 
 pub whole-around-spec : {M : Type 1} → statement M
 whole-around-spec =
@@ -40,7 +40,7 @@ whole-around-spec =
     implied-length-requires
     add-content
     returns
-    octets-of-requires
+    length-octets-requires
     add-result
     add-result-2
     returns-2)

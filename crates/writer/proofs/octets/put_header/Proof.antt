@@ -1,4 +1,4 @@
--- `writer::octets::put_header` meets its contract: three runs, one behind another. Assumes nothing.
+-- `writer::octets::put_header` meets its contract: three runs, one after another. Assumes nothing.
 use borrow.Author.Needs.{needs}
 use Prim.Native.Nat.{ℕ, _+_}
 use mathlib.Core.Path.{ap, subst}

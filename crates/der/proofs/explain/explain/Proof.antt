@@ -1,0 +1,38 @@
+-- `der::explain::explain` meets its contract: the part that is lent is the octets from the one place to the other. Assumes nothing.
+use borrow.Author.Needs.{needs}
+use mathlib.Core.Path.{sym, ap, _∙_}
+use native.Mathlib.Omega.{arith}
+use Rattle.der.specs.Bounds.{depth}
+use Rattle.der.specs.Explain.{elementOf}
+use Rattle.der.proofs.Parts.{slice-size}
+use Rattle.der.proofs.Steps.{walk-long, walk-short}
+use Rattle.der.proofs.explain.explain.Statement.{statement}
+use Rattle.der.proofs.explain.explain.Tie as tie
+
+fault-requires : tie.Need-fault-requires
+fault-requires c κs = search needs
+
+returns : tie.Need-returns
+returns c =
+    let a = c .before .before .before .args in
+    c .fault .ensures ∙ sym (walk-long (a .bytes .now) (a .at) (a .end) (c .before .if1 .taken))
+
+between-requires : tie.Need-between-requires
+between-requires c κs = search needs
+
+element-requires : tie.Need-element-requires
+element-requires c κs =
+    let a = c .before .before .before .args in
+    let size = slice-size (a .at) (a .end) (a .bytes .now) in
+    rw (c .between .ensures)
+    (record { short = omega arith; placed = omega (arith, c .before .before .before .fits .at, c .before .if1 .left) })
+
+returns-2 : tie.Need-returns-2
+returns-2 c =
+    let a = c .before .before .before .before .args in
+    c .element .ensures
+    ∙ ap (elementOf depth (a .at)) (c .before .between .ensures)
+    ∙ sym (walk-short (a .bytes .now) (a .at) (a .end) (c .before .before .if1 .left))
+
+pub explain-spec : {M : Type 1} → statement M
+explain-spec = tie.close (tie.spec fault-requires returns between-requires element-requires returns-2)

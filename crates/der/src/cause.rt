@@ -1,0 +1,55 @@
+// Why an element is refused, by name; the one place that gives document 01's number and request A9's detail of each cause.
+ghost use mathlib.Core.Path.{_≡_};
+ghost use Rattle.der.specs.Cause.{causeNumber, causeDetail};
+
+// The causes, in the order in which an element is judged after the input's length.
+pub enum Cause {
+    // The input is longer than it may be.
+    TooLong,
+    // The element stands deeper than it may.
+    TooDeep,
+    // No identifier octet before the end.
+    NoIdentifier,
+    // An identifier that is not allowed.
+    WrongIdentifier,
+    // Not all length octets before the end.
+    NoLength,
+    // A length that is indefinite, reserved or not in the shortest form.
+    WrongLength,
+    // A content that runs past the end.
+    PastEnd,
+    // A content that breaks the rule of its type, with the type's tag number.
+    WrongContent(usize),
+}
+
+// Document 01's number of a cause.
+pub(crate) fn number(cause: Cause) -> usize
+    ensures { λ r. ⌜ r ≡ causeNumber cause ⌝ }
+{
+    match cause {
+        Cause::TooLong => 1,
+        Cause::TooDeep => 6,
+        Cause::NoIdentifier => 2,
+        Cause::WrongIdentifier => 3,
+        Cause::NoLength => 2,
+        Cause::WrongLength => 4,
+        Cause::PastEnd => 2,
+        Cause::WrongContent(_) => 5,
+    }
+}
+
+// Request A9's detail of a cause: for 2 what is missing, for 5 the tag number.
+pub(crate) fn detail(cause: Cause) -> usize
+    ensures { λ r. ⌜ r ≡ causeDetail cause ⌝ }
+{
+    match cause {
+        Cause::TooLong => 0,
+        Cause::TooDeep => 0,
+        Cause::NoIdentifier => 1,
+        Cause::WrongIdentifier => 0,
+        Cause::NoLength => 2,
+        Cause::WrongLength => 0,
+        Cause::PastEnd => 3,
+        Cause::WrongContent(tag) => tag,
+    }
+}

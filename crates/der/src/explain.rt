@@ -1,0 +1,108 @@
+// The walk that explains a refusal: it answers the first fault of an element and of the elements inside it, with its place.
+use crate::between::between;
+use crate::bounds::DEPTH;
+use crate::bounds::LONGEST;
+use crate::cause;
+use crate::cause::Cause;
+use crate::content;
+use crate::header;
+use crate::header::Head;
+use crate::identifier::is_constructed;
+ghost use mathlib.Core.Path.{_≡_};
+ghost use lib.ListN.{length};
+ghost use Rattle.der.specs.Explain.{Lent, faultAt, listOf, primitiveOf, elementOf, walkAt};
+
+// What the walk over an element answers.
+pub enum Nest {
+    // No fault; the place past the element.
+    End(usize),
+    // The first fault in document 01's order: its number and place, and request A9's detail.
+    Fault {
+        number: usize,
+        place: usize,
+        detail: usize,
+    },
+}
+
+// The first element from `at` before `end`: its first fault, or the place past it. Refuses input longer than LONGEST.
+pub fn explain(bytes: &[u8], at: usize, end: usize) -> Nest
+    ensures { λ r. ⌜ r ≡ walkAt (now (bytes .entry)) at end ⌝ }
+{
+    if LONGEST < bytes.len() {
+        return fault(Cause::TooLong, 0);
+    }
+    element(between(bytes, at, end), at, DEPTH)
+}
+
+// The element at `place`, over the bytes from there to its parent's end, with `left` levels of depth left.
+fn element(bytes: &[u8], place: usize, left: usize) -> Nest
+    requires { ⌜ Lent (now bytes) place ⌝ }
+    ensures { λ r. ⌜ r ≡ elementOf left place (now (bytes .entry)) ⌝ }
+{
+    if left == 0 {
+        return fault(Cause::TooDeep, place);
+    }
+    match header::read(bytes) {
+        Head::Broken(cause) => fault(cause, place),
+        Head::Stands {
+            identifier,
+            octets,
+            length,
+        } => {
+            let end = octets + length;
+            let inside = &bytes[octets..end];
+            if is_constructed(identifier) {
+                list(inside, place + octets, left - 1)
+            } else {
+                primitive(identifier, inside, place, place + end)
+            }
+        }
+    }
+}
+
+// The elements from `place` on, one after the other, up to the first fault.
+fn list(bytes: &[u8], place: usize, left: usize) -> Nest
+    requires { ⌜ Lent (now bytes) place ⌝ }
+    ensures { λ r. ⌜ r ≡ listOf (elementOf left) (length (now (bytes .entry))) place (now (bytes .entry)) ⌝ }
+{
+    let mut at = 0;
+    while at < bytes.len() {
+        match element(&bytes[at..], place + at, left) {
+            Nest::End(end) => at = end - place,
+            Nest::Fault {
+                number,
+                place: fault,
+                detail,
+            } => {
+                return Nest::Fault {
+                    number,
+                    place: fault,
+                    detail,
+                };
+            }
+        }
+    }
+    Nest::End(place + at)
+}
+
+// A primitive element at `place`, whose content ends at `end`.
+fn primitive(id: u8, content: &[u8], place: usize, end: usize) -> Nest
+    ensures { λ r. ⌜ r ≡ primitiveOf place end id (now (content .entry)) ⌝ }
+{
+    if content::holds(id, content) {
+        Nest::End(end)
+    } else {
+        fault(Cause::WrongContent((id % 32) as usize), place)
+    }
+}
+
+// The fault of an element at `place`, by its cause.
+fn fault(cause: Cause, place: usize) -> Nest
+    ensures { λ r. ⌜ r ≡ faultAt cause place ⌝ }
+{
+    Nest::Fault {
+        number: cause::number(cause),
+        place,
+        detail: cause::detail(cause),
+    }
+}

@@ -1,0 +1,47 @@
+// The recogniser: whether octets have no fault, without saying which one they have.
+use crate::bounds::LONGEST;
+use crate::content;
+use crate::identifier::is_allowed;
+use crate::identifier::is_constructed;
+use crate::span::measure;
+ghost use mathlib.Core.Path.{_≡_};
+ghost use Rattle.der.specs.Recognise.{isList, isElement};
+
+// Whether the bytes are a list of elements without a fault, with `left` levels of depth left. More bytes than LONGEST are not.
+pub fn is_list(bytes: &[u8], left: usize) -> bool
+    ensures { λ r. ⌜ r ≡ isList left (now (bytes .entry)) ⌝ }
+{
+    if LONGEST < bytes.len() {
+        return false;
+    }
+    let mut at = 0;
+    while at < bytes.len() {
+        let x = measure(&bytes[at..]);
+        if x.octets == 0 {
+            return false;
+        }
+        if left == 0 {
+            return false;
+        }
+        let from = at + x.octets;
+        let to = from + x.length;
+        if !is_element(bytes[at], &bytes[from..to], left - 1) {
+            return false;
+        }
+        at = to;
+    }
+    true
+}
+
+// Whether an element with the identifier and the content has no fault, with `left` levels of depth left inside it.
+pub fn is_element(id: u8, content: &[u8], left: usize) -> bool
+    ensures { λ r. ⌜ r ≡ isElement id left (now (content .entry)) ⌝ }
+{
+    if !is_allowed(id) {
+        return false;
+    }
+    if is_constructed(id) {
+        return is_list(content, left);
+    }
+    content::holds(id, content)
+}

@@ -1,0 +1,104 @@
+-- `writer::build::is_shown` meets its contract: a refused candidate doesn't show the draft's pieces, and of an accepted one the rows that
+-- reading leaves in the table decide. Assumes nothing.
+use Prim.Native.Nat.{ℕ, _*_, _≤_}
+use borrow.Author.Needs.{needs}
+use lib.ListN.{length, take}
+use lib.Seq.{length-take-le}
+use mathlib.Core.List.{List}
+use mathlib.Core.Path.{_≡_, sym, ap, ap₂, _∙_}
+use native.Mathlib.Omega.{arith}
+use Rattle.der.specs.Octets.{Octets}
+use Rattle.der.specs.Refusal.{accepted}
+use Rattle.crmf.specs.Rows.{width}
+use Rattle.editions.specs.declared.reader.Answer.{Answer}
+use Rattle.editions.specs.Reading.{readAnswer}
+use Rattle.der.proofs.Laws.{octets-each}
+use Rattle.writer.specs.Writing.{drafted, samePieces, shows}
+use Rattle.writer.proofs.Describing.{read-refuses, read-room, read-shows}
+use Rattle.writer.proofs.build.is_shown.Statement.{statement}
+use Rattle.writer.proofs.build.is_shown.Tie as tie
+
+-- the place where the candidate's octets are known, and the entry, from the place after reading
+abbrev known : tie.After-read → tie.After-shared-slice-known3
+known reading = reading .before .before .before
+
+abbrev entry : tie.After-read → tie.Start
+entry reading = known reading .before .before .before
+
+octets : (reading : tie.After-read) → Octets (entry reading .args .batch .now)
+octets reading = octets-each (entry reading .args .batch .now) (λ i. known reading .shared-slice-known3 .given i .fits)
+
+read-requires : tie.Need-read-requires
+read-requires c κs = search needs
+
+same-length : tie.Need-same-length
+same-length c = search needs
+
+returns : tie.Need-returns
+returns c =
+    let reading = c .before .before .before .before in
+    let a = entry reading .args in
+    let pre = entry reading .pre in
+    sym
+    (read-refuses (a .edition) (a .draft .now) (a .bytes .now) (a .batch .now) (pre .0) (octets reading) (a .table .now) (pre .1)
+    (λ zero. c .if1 .taken (ap (λ (x : Answer). x .number) (reading .read .ensures .0) ∙ zero)))
+
+-- the candidate is accepted
+module _ (c : tie.Else1) where
+  abbrev reading : tie.After-read
+  reading = c .before .before .before .before
+
+  abbrev table : List ℕ
+  table = reading .read .last .1 .1 .0
+
+  zero : let a = entry reading .args in readAnswer (a .edition) (a .batch .now) (a .table .now) .number ≡ accepted
+  zero = ap (λ (x : Answer). x .number) (sym (reading .read .ensures .0)) ∙ c .if1 .left
+
+  -- its rows lie within the table,
+  room : width * reading .read .result .count ≤ length table
+  room =
+      let a = entry reading .args in
+      let enough = read-room (a .edition) (a .draft .now) (a .bytes .now) (a .batch .now) (entry reading .pre .0) (octets reading) (a .table .now) zero in
+      omega (arith, enough, reading .read .kept .1 .1 .0, ap (λ (x : Answer). x .count) (reading .read .ensures .0))
+
+  -- and decide
+  by-table : let a = entry reading .args in
+      shows (a .edition) (a .draft .now) (a .bytes .now)
+      ≡ samePieces (drafted (a .draft .now) (a .bytes .now)) (drafted (take (width * reading .read .result .count) table) (a .batch .now))
+  by-table =
+      let a = entry reading .args in
+      read-shows (a .edition) (a .draft .now) (a .bytes .now) (a .batch .now) (entry reading .pre .0) (octets reading) (a .table .now) zero
+      ∙ ap₂ (λ (n : ℕ) (l : List ℕ). samePieces (drafted (a .draft .now) (a .bytes .now)) (drafted (take (width * n) l) (a .batch .now)))
+      (ap (λ (x : Answer). x .count) (sym (reading .read .ensures .0))) (sym (reading .read .ensures .1))
+
+mul-end : tie.Need-mul-end
+mul-end c = omega (arith, room (c .before), reading (c .before) .read .kept .1 .1 .0, entry (reading (c .before)) .good)
+
+slice-reshare-prefix-same-pieces : tie.Need-slice-reshare-prefix-same-pieces
+slice-reshare-prefix-same-pieces c = room (c .before)
+
+slice-aggregate-same-pieces : tie.Need-slice-aggregate-same-pieces
+slice-aggregate-same-pieces c = let left = c .before .before in sym (length-take-le _ (table left) (room left))
+
+same-pieces-requires : tie.Need-same-pieces-requires
+same-pieces-requires c κs = search needs
+
+same-length-2 : tie.Need-same-length-2
+same-length-2 c = search needs
+
+returns-2 : tie.Need-returns-2
+returns-2 c = c .same-pieces .ensures ∙ sym (by-table (c .before .before .before))
+
+pub is-shown-spec : {M : Type 1} → statement M
+is-shown-spec =
+    tie.close
+    (tie.spec
+    read-requires
+    same-length
+    returns
+    mul-end
+    slice-reshare-prefix-same-pieces
+    slice-aggregate-same-pieces
+    same-pieces-requires
+    same-length-2
+    returns-2)

@@ -1,0 +1,207 @@
+/* The archive against the reading in reference.c: number, place, count, rows and the memory around every buffer.
+ *
+ * Each input is read in editions 0 to 3 and in one number far off, with room for the rows, with one number less and with more. See
+ * comparison.h for the command line and the exit statuses. */
+#include "comparison.h"
+#include "kinds.h"
+#include "memory.h"
+#include "random.h"
+#include "reference.h"
+
+#include <stdio.h>
+#include <string.h>
+
+enum { USUAL = 100000 };
+
+static void differs(const char *what, size_t edition, size_t room)
+{
+    comparison_differs(what, edition, "room", room);
+}
+
+/* -- What occurred -- */
+
+enum { NEAR_THE_END = 65000, LEAST_STOPS = 100 };
+enum { CHOICE = 1, PAIRS, LOCATION, DIFFERENCES }; /* document 01's differences D1 to D3 */
+
+static size_t answers[EDITIONS][NUMBERS]; /* of editions 1 and 2, given room */
+static size_t short_tables, wrong_editions, calls, total_bytes;
+static bool stops[EDITIONS][PHAGUNDRO_LONGEST + 1]; /* places of NOT_IN_GRAMMAR */
+static size_t differences[EDITIONS][DIFFERENCES];   /* places of OTHER_EDITION, by listed difference */
+static size_t shown[EDITIONS][KINDS];
+static size_t most_messages, longest_accepted, past_a_byte, near_the_end; /* of accepted inputs */
+
+/* The difference for which an edition refuses an element with this identifier. */
+static int difference_of(size_t edition, uint8_t id)
+{
+    if (edition == PHAGUNDRO_RFC2511)
+        return id == 0x0C ? PAIRS : CHOICE;
+    return id == 0x04 ? PAIRS : LOCATION;
+}
+
+static void accepted(size_t edition, const size_t *rows, size_t count)
+{
+    size_t messages = messages_of(rows, count);
+    for (size_t i = 0; i < count; i++)
+        shown[edition][rows[PHAGUNDRO_ROW_NUMBERS * i + PHAGUNDRO_ROW_KIND]]++;
+    past_a_byte += messages > UINT8_MAX;
+    near_the_end += length > NEAR_THE_END;
+    keep_most(&most_messages, messages);
+    keep_most(&longest_accepted, length);
+}
+
+static void occurred(size_t edition, reference_answer answer, const size_t *rows)
+{
+    answers[edition][answer.number]++;
+    if (answer.number == PHAGUNDRO_NOT_IN_GRAMMAR)
+        stops[edition][answer.place] = true;
+    if (answer.number == PHAGUNDRO_OTHER_EDITION)
+        differences[edition][difference_of(edition, input[answer.place])]++;
+    if (answer.number == PHAGUNDRO_ACCEPTED)
+        accepted(edition, rows, answer.count);
+}
+
+/* -- One input -- */
+
+static Buffer table;
+
+static void compare_table(size_t edition, const size_t *expected, size_t room, size_t rows)
+{
+    const size_t *numbers = (const size_t *)table.start;
+    for (size_t i = 0; i < room; i++)
+        if (numbers[i] != expected[i]) {
+            printf("number %zu of the table: the archive %zu, the reference %zu\n", i, numbers[i], expected[i]);
+            differs(i < PHAGUNDRO_ROW_NUMBERS * rows ? "other rows" : "the table is changed where it should be as it was", edition, room);
+        }
+    if (beside_changed(&table))
+        differs("memory beside the table is changed", edition, room);
+}
+
+static void compare_reading(size_t edition, const uint8_t *bytes, size_t room)
+{
+    static const char *const names[] = {"number", "place", "count"};
+    static size_t expected[TABLE];
+    place(&table, room * sizeof(size_t), calls % 2 == 0);
+    fill_alike(&table, expected);
+    reference_answer right = reference_read(edition, input, length, expected, room);
+    phagundro_answer answer = phagundro_read(edition, bytes, length, lent(&table), room);
+    calls++;
+    if (!alike(3, names, &answer, &right))
+        differs("other answers", edition, room);
+    compare_table(edition, expected, room, right.count);
+    short_tables += right.number == PHAGUNDRO_NO_ROOM;
+    wrong_editions += right.number == PHAGUNDRO_UNKNOWN_EDITION;
+}
+
+static void compare_acceptance(size_t edition, const uint8_t *bytes, size_t right)
+{
+    size_t answer = phagundro_accept(edition, bytes, length);
+    calls++;
+    if (answer != right) {
+        printf("phagundro_accept: %zu, the reference: %zu\n", answer, right);
+        differs("accept answers otherwise", edition, TABLE);
+    }
+}
+
+/* The numbers of as many rows as this many bytes can have, and of one more: each row is two bytes or more after the one before. */
+static size_t most_numbers(size_t bytes)
+{
+    return PHAGUNDRO_ROW_NUMBERS * ((bytes < PHAGUNDRO_LONGEST ? bytes : PHAGUNDRO_LONGEST) / 2 + 1);
+}
+
+static void compare_edition(size_t edition, const uint8_t *bytes)
+{
+    static size_t rows[TABLE];
+    reference_answer right = reference_read(edition, input, length, rows, TABLE);
+    size_t needed = PHAGUNDRO_ROW_NUMBERS * right.count;
+    if (edition == PHAGUNDRO_RFC2511 || edition == PHAGUNDRO_RFC4211)
+        occurred(edition, right, rows);
+    if (needed > 0) {
+        compare_reading(edition, bytes, needed);
+        compare_reading(edition, bytes, needed - 1);
+        compare_reading(edition, bytes, needed + 1 + below(40));
+        if (number % 8 == 0)
+            compare_reading(edition, bytes, below(needed));
+    } else { /* room for as many rows as there can be, so that one filled too early would be seen */
+        compare_reading(edition, bytes, 0);
+        compare_reading(edition, bytes, below(PHAGUNDRO_ROW_NUMBERS * 20));
+        compare_reading(edition, bytes, most_numbers(length) + below(40));
+    }
+    compare_acceptance(edition, bytes, right.number);
+}
+
+static void compare_input(void)
+{
+    const uint8_t *bytes = lend_input();
+    total_bytes += length;
+    for (size_t edition = 0; edition <= PHAGUNDRO_RFC4211 + 1; edition++)
+        compare_edition(edition, bytes);
+    compare_edition(far_edition(number), bytes);
+    check_lent_input();
+}
+
+/* -- The account -- */
+
+static int account_answers(size_t edition)
+{
+    size_t places = 0;
+    int lacking = missing(answers[edition][PHAGUNDRO_ACCEPTED] > 0, "number", PHAGUNDRO_ACCEPTED, edition);
+    printf("edition %zu: %zu accepted; refused", edition, answers[edition][PHAGUNDRO_ACCEPTED]);
+    for (size_t n = PHAGUNDRO_TOO_LONG; n <= PHAGUNDRO_LONG_CERT_REQ_ID; n++) {
+        printf("%s %zu: %zu", n > PHAGUNDRO_TOO_LONG ? "," : "", n, answers[edition][n]);
+        lacking += missing(answers[edition][n] > 0, "number", n, edition);
+    }
+    for (size_t i = 0; i <= PHAGUNDRO_LONGEST; i++)
+        places += stops[edition][i];
+    printf("; 8 at %zu places; 9 for", places);
+    return lacking + missing(places >= LEAST_STOPS, "8 at many places, only", places, edition);
+}
+
+static int account_differences(size_t edition)
+{
+    int lacking = 0;
+    for (size_t d = CHOICE; d < DIFFERENCES; d++) {
+        bool refused = d == PAIRS || d == (edition == PHAGUNDRO_RFC2511 ? CHOICE : LOCATION);
+        printf("%s D%zu: %zu", d > CHOICE ? "," : "", d, differences[edition][d]);
+        lacking += missing(!refused || differences[edition][d] > 0, "9 for difference", d, edition);
+    }
+    putchar('\n');
+    return lacking;
+}
+
+static int account_kinds(size_t edition)
+{
+    printf("edition %zu: rows by kind:", edition);
+    for (size_t kind = 0; kind < KINDS; kind++)
+        if (shown[edition][kind] > 0)
+            printf(" %zu: %zu", kind, shown[edition][kind]);
+    putchar('\n');
+    return missing_kinds(shown[edition], edition);
+}
+
+static int account(size_t inputs)
+{
+    int lacking = 0;
+    printf("%zu inputs of seed %llu, %zu bytes, %zu calls: no difference\n", inputs, (unsigned long long)seed, total_bytes, calls);
+    for (size_t edition = PHAGUNDRO_RFC2511; edition <= PHAGUNDRO_RFC4211; edition++)
+        lacking += account_answers(edition) + account_differences(edition) + account_kinds(edition);
+    printf("accepted with more than 255 messages: %zu, at most %zu messages\n", past_a_byte, most_messages);
+    printf("accepted with more than 65,000 bytes: %zu, at most %zu bytes\n", near_the_end, longest_accepted);
+    lacking += missing(past_a_byte > 0, "accepted with more messages than", UINT8_MAX, 0);
+    lacking += missing(longest_accepted == PHAGUNDRO_LONGEST, "accepted with bytes", PHAGUNDRO_LONGEST, 0);
+    printf("readings in which the table was too short (11): %zu; in which the edition was neither 1 nor 2 (13): %zu\n", short_tables,
+        wrong_editions);
+    lacking += missing(short_tables > 0, "number", PHAGUNDRO_NO_ROOM, 0);
+    lacking += missing(wrong_editions > 0, "number", PHAGUNDRO_UNKNOWN_EDITION, 0);
+    return comparison_status(lacking);
+}
+
+int main(int count, char **words)
+{
+    size_t inputs = comparison_start(count, words, USUAL, show_input);
+    table = buffer(TABLE * sizeof(size_t));
+    for (number = 0; number < inputs; number++) {
+        length = inputs_next(input);
+        compare_input();
+    }
+    return account(inputs);
+}

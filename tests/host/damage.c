@@ -1,0 +1,205 @@
+/* Damage done to trees of elements and to bytes. */
+#include "damage.h"
+
+#include "building.h"
+#include "inputs.h"
+#include "random.h"
+
+#include <string.h>
+
+static size_t tally(const Node *node)
+{
+    size_t found = 1;
+    for (const Node *child = node->first; child; child = child->next)
+        found += tally(child);
+    return found;
+}
+
+/* The element that is the nth after the root, and its parent. */
+static Node *pick(Node *node, size_t *nth, Node **parent)
+{
+    for (Node *child = node->first; child; child = child->next) {
+        if ((*nth)-- == 0) {
+            *parent = node;
+            return child;
+        }
+        Node *found = pick(child, nth, parent);
+        if (found)
+            return found;
+    }
+    return NULL;
+}
+
+/* Puts what begins with `now` in the place of `was`, which stands inside `parent`. */
+static void replace(Node *parent, Node *was, Node *now)
+{
+    Node **link = &parent->first;
+    while (*link != was)
+        link = &(*link)->next;
+    *link = now ? now : was->next;
+    if (now) {
+        while (now->next)
+            now = now->next;
+        now->next = was->next;
+    }
+    parent->last = NULL;
+    for (Node *child = parent->first; child; child = child->next)
+        parent->last = child;
+    if (!parent->first)
+        parent->size = 0;
+}
+
+uint8_t any_identifier(void)
+{
+    static const uint8_t ids[] = {0x01, 0x02, 0x03, 0x04, 0x05, 0x06, 0x0A, 0x0C, 0x17, 0x18, 0x30, 0x31, 0x80, 0x81, 0x82, 0x83, 0x86,
+        0x87, 0x88, 0xA0, 0xA1, 0xA2, 0xA3, 0xA4, 0xA5, 0xA6, 0xA9, 0x1F, 0x24, 0x10, 0x09};
+    return chance(4) ? (uint8_t)below(256) : ids[below(sizeof ids)];
+}
+
+/* -- What can be done to an element -- */
+
+static void insert_after(Node *parent, Node *node, Node *made)
+{
+    made->next = node->next;
+    node->next = made;
+    if (parent->last == node)
+        parent->last = made;
+}
+
+static void dropped(Node *parent, Node *node)
+{
+    replace(parent, node, NULL);
+}
+
+static void doubled(Node *parent, Node *node)
+{
+    insert_after(parent, node, copy(node));
+}
+
+static void swapped_with_the_next(Node *parent, Node *node)
+{
+    Node *other = node->next;
+    if (!other)
+        return;
+    Node *pair = copy(other);
+    pair->next = copy(node);
+    replace(parent, other, NULL);
+    replace(parent, node, pair);
+}
+
+static void identifier_changed(Node *parent, Node *node)
+{
+    (void)parent;
+    node->id = (uint8_t)(chance(2) ? any_identifier() : chance(2) ? node->id + 1 : node->id - 1);
+}
+
+static void length_written_wrongly(Node *parent, Node *node)
+{
+    (void)parent;
+    node->form = 1 + (int)below(FORMS - 1);
+}
+
+static void replaced_by_any(Node *parent, Node *node)
+{
+    replace(parent, node, any(2));
+}
+
+static void followed_by_any(Node *parent, Node *node)
+{
+    insert_after(parent, node, any(2));
+}
+
+static void replaced_by_its_inside(Node *parent, Node *node)
+{
+    if (node->first)
+        replace(parent, node, copy(node)->first);
+}
+
+static void wrapped(Node *parent, Node *node)
+{
+    replace(parent, node, around(any_identifier() | 0x20, copy(node)));
+}
+
+static void emptied(Node *parent, Node *node)
+{
+    (void)parent;
+    node->first = node->last = NULL;
+    node->size = 0;
+}
+
+static void octet_changed(Node *parent, Node *node)
+{
+    (void)parent;
+    if (node->first || node->size == 0)
+        return;
+    uint8_t *content = keep(node->content, node->size);
+    size_t at = below(node->size);
+    switch (below(4)) {
+    case 0: content[at]++; break;
+    case 1: content[at]--; break;
+    case 2: content[at] = (uint8_t[]){0x00, 0x01, 0x02, 0x7F, 0x80, 0xFF}[below(6)]; break;
+    default: content[at] = (uint8_t)below(256);
+    }
+    node->content = content;
+}
+
+static void replaced_by_a_construct(Node *parent, Node *node)
+{
+    static Node *(*const constructs[])(void) = {controls, reg_info, proof, template, message, cert_req};
+    replace(parent, node, constructs[below(sizeof constructs / sizeof *constructs)]());
+}
+
+void damage_tree(Node *root)
+{
+    static void (*const damages[])(Node *parent, Node *node) = {dropped, doubled, swapped_with_the_next, identifier_changed,
+        length_written_wrongly, replaced_by_any, followed_by_any, replaced_by_its_inside, wrapped, emptied, octet_changed,
+        replaced_by_a_construct};
+    size_t most = tally(root) - 1;
+    if (most == 0)
+        return;
+    size_t nth = below(most);
+    Node *parent = NULL, *node = pick(root, &nth, &parent);
+    damages[below(sizeof damages / sizeof *damages)](parent, node);
+}
+
+/* -- What can be done to bytes -- */
+
+size_t damage_bytes(uint8_t *input, size_t length)
+{
+    size_t at = length > 0 ? below(length) : 0;
+    switch (below(8)) {
+    case 0:
+        if (length > 0)
+            input[at] ^= (uint8_t)(1 << below(8));
+        return length;
+    case 1:
+        if (length > 0)
+            input[at] = any_identifier();
+        return length;
+    case 2:
+        if (length > 0)
+            input[at] = (uint8_t)(input[at] + (chance(2) ? 1 : 0xFF));
+        return length;
+    case 3:
+        return at;
+    case 4:
+        for (size_t left = 1 + below(chance(8) ? 300 : 3); left > 0 && length < INPUT_ROOM; left--)
+            input[length++] = chance(2) ? 0x00 : any_identifier();
+        return length;
+    case 5:
+        if (length > 0)
+            memmove(input + at, input + at + 1, --length - at);
+        return length;
+    case 6:
+        if (length < INPUT_ROOM) {
+            memmove(input + at + 1, input + at, length++ - at);
+            input[at] = any_identifier();
+        }
+        return length;
+    default: /* a length octet at the front of the nest */
+        at = 1 + 2 * below(6);
+        if (at < length)
+            input[at] = (uint8_t)below(256);
+        return length;
+    }
+}

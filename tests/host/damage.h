@@ -1,0 +1,16 @@
+/* Damage done to trees of elements and to bytes. */
+#ifndef DAMAGE_H
+#define DAMAGE_H
+
+#include "tree.h"
+
+/* Damages an element inside the root. */
+void damage_tree(Node *root);
+
+/* Damages bytes, of which there may be INPUT_ROOM; answers how many there are now. */
+size_t damage_bytes(uint8_t *input, size_t length);
+
+/* An identifier, mostly one that the grammar has. */
+uint8_t any_identifier(void);
+
+#endif

@@ -1,0 +1,104 @@
+"""The header and the archive: names, numbers, types, symbols and stack."""
+
+import functools
+import re
+
+import corpus
+import host
+import paper
+
+MEASURED = 200  # inputs on which the stack is measured; the longest, the deepest and those with the most rows are among them
+
+# The header's structs, with their members in order: each is a number
+STRUCTS = {
+    "phagundro_answer": ["number", "place", "count"],
+    "phagundro_verdict_answer": ["number", "place", "verdict", "from", "length"],
+    "phagundro_duplicate_answer": ["number", "place", "found", "earlier", "later"],
+}
+
+# The header's calls, with what each answers and takes
+CALLS = {
+    "phagundro_accept": ("size_t", "size_t, const uint8_t *, size_t"),
+    "phagundro_read": ("phagundro_answer", "size_t, const uint8_t *, size_t, size_t *, size_t"),
+    "phagundro_write": ("phagundro_answer", "size_t, const size_t *, size_t, const uint8_t *, size_t, uint8_t *, size_t"),
+    "phagundro_verdict": ("phagundro_verdict_answer", "size_t, const uint8_t *, size_t, size_t"),
+    "phagundro_verdict_number": ("size_t", "size_t, const uint8_t *, size_t, size_t"),
+    "phagundro_duplicates": ("phagundro_duplicate_answer", "size_t, const uint8_t *, size_t"),
+}
+
+
+def numbers():
+    """The header's names of the papers' numbers, with the numbers."""
+    found = {f"PHAGUNDRO_{answer.name}": answer for answer in paper.Answer}
+    found |= {f"PHAGUNDRO_KIND_{kind.name}": kind for kind in paper.Kind}
+    found |= {f"PHAGUNDRO_VERDICT_{verdict.name}": verdict for verdict in paper.Verdict}
+    found |= {"PHAGUNDRO_RFC2511": paper.EDITIONS[0], "PHAGUNDRO_RFC4211": paper.EDITIONS[1]}
+    columns = ("KIND", "FIRST", "LENGTH", "PARENT")
+    found |= {f"PHAGUNDRO_ROW_{name}": column for column, name in enumerate(columns)}
+    return found | {"PHAGUNDRO_ROW_NUMBERS": paper.ROW_NUMBERS, "PHAGUNDRO_LONGEST": paper.LONGEST, "PHAGUNDRO_DEEPEST": paper.DEEPEST}
+
+
+def user():
+    """A program that includes the header alone, and uses every call by the type that the manual gives."""
+    lines = [f'#include "{host.HEADER}"', "#ifndef __cplusplus", "#define static_assert _Static_assert", "#endif"]
+    for name, members in STRUCTS.items():
+        lines.append(f'static_assert(sizeof({name}) == {len(members)} * sizeof(size_t), "numbers alone");')
+        for place, member in enumerate(members):
+            lines.append(f'static_assert(offsetof({name}, {member}) == {place} * sizeof(size_t), "{member}");')
+    lines += [f'static_assert({name} == {number}, "{name}");' for name, number in numbers().items()]
+    for name, (answer, taken) in CALLS.items():
+        lines += [f"extern {answer} (*use_{name})({taken});", f"{answer} (*use_{name})({taken}) = {name};"]
+    return "\n".join(lines) + "\n"
+
+
+def misread(compiler, language):
+    """What the compiler has against the header."""
+    ended = host.run([*compiler, "-pedantic", "-fsyntax-only", "-x", language, "-"], input=user())
+    return [] if ended.returncode == 0 else ended.stdout.splitlines() or [f"{compiler[0]} ended with status {ended.returncode}"]
+
+
+def enumerators():
+    """The header's constants, with the text of each value."""
+    return dict(re.findall(r"(PHAGUNDRO_\w+) += ([^,}]*?),? *(?:/\*|\})", host.HEADER.read_text()))
+
+
+def other_names():
+    """Kinds and verdicts of the header that the papers don't have."""
+    groups = re.compile(r"PHAGUNDRO_(KIND|VERDICT|ROW)_")
+    return [f"the header has {name}" for name in enumerators()
+            if groups.match(name) and name not in numbers() and name != "PHAGUNDRO_VERDICT_REFUSED"]
+
+
+def other_symbols():
+    """The header's calls that the archive lacks; and what it has beside them and its own code and constants, as a name that it wants and
+    the header doesn't tell of, or a state."""
+    header = host.HEADER.read_text()
+    declared = {("T", name) for name in re.findall(r"^\w+ (phagundro_\w+)\(", header, re.MULTILINE)}
+    wanted = {("U", name) for name in re.search(r"calls nothing outside itself but (\w+) and (\w+)", header).groups()}
+    symbols = set(re.findall(r"(\w) (\S+)$", host.did(["nm", host.archive()]), re.MULTILINE))
+    outward = {(kind, name) for kind, name in symbols if kind not in "tr"}
+    return [f"the header has {name}, which the archive lacks" for _, name in sorted((declared | wanted) - outward)] + [
+        f"the archive has {name} of kind {kind}" for kind, name in sorted(outward - declared - wanted)
+    ] + [f"the header has the call {name}, whose type is not tested" for _, name in sorted(declared) if name not in CALLS]
+
+
+def more_stack():
+    """Calls that take more stack than the header tells a caller to have."""
+    taken = host.did([host.built("stack", host.archive(), "-pthread"), MEASURED, host.SEED, *corpus.files()])
+    wrong = []
+    for name, took in re.findall(r"(\w+) (\d+)", taken):
+        print(f"bytes of stack within {name}: {took}")
+        if not 0 < int(took) <= int(enumerators()[name]):
+            wrong.append(f"{took} bytes of stack are taken within {name}")
+    return wrong if len(taken.splitlines()) == 3 else wrong + [f"not three lines: {taken}"]
+
+
+TESTS = [
+    ("the header is C11, its numbers are the papers', its structs are numbers in order and its calls have the types that it says",
+        functools.partial(misread, host.C11, "c")),
+    ("the header is C++17, its numbers are the papers', its structs are numbers in order and its calls have the types that it says",
+        functools.partial(misread, host.CPP17, "c++")),
+    ("the header names no other kinds, verdicts and columns than the papers have", other_names),
+    ("the archive has the header's calls, wants what the header says and keeps no state", other_symbols),
+    ("the calls take no more stack than the header says", more_stack),
+]

@@ -1,0 +1,124 @@
+"""What the tool says: its help, its meanings and the examples that the README and the man page print."""
+
+import os
+import re
+import subprocess
+
+import corpus
+import host
+import tool
+from layout import ROOT
+from paper import Answer
+
+README = ROOT / "README.md"
+MANUAL = ROOT / "tools/phagundro.1"
+MEANINGS = ROOT / "tools/meanings.c"
+NUMBERS, VERDICTS, KINDS = "The number of an answer", "The verdict on a message's proof", "The kind of a row"  # headings of the header
+COMMANDS = ["read", "write", "verdict", "duplicates", "editions"]
+ENUMERATOR = re.compile(r"(PHAGUNDRO_\w+) += (\d+),? +/\* (.*) \*/")
+
+
+def other_help():
+    """Help that is missing, leaves out an option that the synopsis has, or is not the man page's synopsis; and the version."""
+    wrong = []
+    status, general, _ = tool.call("--help")
+    synopsis = MANUAL.read_text().split(".SH DESCRIPTION")[0]
+    plain = re.sub(r"\\f[BIR]", "", synopsis).replace("\\-", "-")
+    if status != tool.ACCEPTED:
+        wrong.append(f"--help: status {status}")
+    for command in COMMANDS:
+        status, out, _ = tool.call(command, "--help")
+        first, text = out.decode().split("\n", 1)
+        if status != tool.ACCEPTED or re.sub(" +", " ", first) not in re.sub(" +", " ", general.decode()) or first not in plain:
+            wrong.append(f"{command} --help: status {status}, {first}")
+        wrong += [f"{command} --help is silent on {option}" for option in re.findall(r"--[a-z]+", first) if f"  {option} " not in text]
+    if tool.call("--version") != (tool.ACCEPTED, f"phagundro {tool.version()}\n".encode(), ""):
+        wrong.append(f"--version: {tool.call('--version')}")
+    return wrong
+
+
+def header_words(heading):
+    """From the enum of the header after a heading: the names, and by number the words of each comment."""
+    body = re.search(rf"{heading}.*?enum \{{(.*?)\}};", host.HEADER.read_text(), re.DOTALL)[1]
+    found = ENUMERATOR.findall(body)
+    return [name for name, _, _ in found], {int(number): words for _, number, words in found}
+
+
+def meanings():
+    """The header's meaning and place of each number that comes back."""
+    split = {number: words.rpartition("; ") for number, words in header_words(NUMBERS)[1].items()}
+    return {number: (meaning, place) for number, (meaning, _, place) in split.items()}
+
+
+def other_refusals():
+    """Where a refusal in words lacks its number, place or meaning, or the byte at its place in brackets."""
+    wrong, seen = [], set()
+    for (name, edition), (number, place, _) in corpus.expected().items():
+        if number == Answer.ACCEPTED:
+            continue
+        seen.add(number)
+        status, out, said = tool.call("read", "--edition", edition, tool.path(name))
+        byte = f"[{corpus.octets(name)[place]:02X}]"
+        words = f"refused with {tool.refusal(number, place)}{meanings()[number][0]}\n"
+        if status != tool.REFUSED or out or words not in said or byte not in said:
+            wrong.append(f"{name}, edition {edition}: status {status}, {said[:300]}")
+    return wrong if len(seen) > 3 else wrong + [f"only the numbers {seen}"]
+
+
+def other_meanings():
+    """Where the tool's tables or the README's table of numbers are not the header's."""
+    wrong = []
+    source = MEANINGS.read_text()
+    told = re.findall(r'\[(PHAGUNDRO_\w+)\] = \{"(.*)", (true|false)\},', source)
+    names, _ = header_words(NUMBERS)
+    if told != [(name, words, str(place != "place 0").lower()) for name, (words, place) in zip(names, meanings().values(), strict=True)]:
+        wrong.append("the tool's meanings are not the header's")
+    section = README.read_text().split("## Numbers that come back")[1].split("\n## ")[0]
+    if re.findall(r"^\| (\d+) \| (.*) \| (.*) \|$", section, re.MULTILINE) != [
+        (str(number), words, place.removeprefix("place ")) for number, (words, place) in meanings().items()
+    ]:
+        wrong.append("the README's table of numbers is not the header's")
+    names, verdicts = header_words(VERDICTS)
+    told = re.findall(r'\[(PHAGUNDRO_VERDICT_\w+)\] = "(.*)",', source)
+    if [name for name, _ in told] != names or any(not verdicts[number].startswith(words) for number, (_, words) in enumerate(told)):
+        wrong.append("the tool's verdicts are not the header's")
+    names, kinds = header_words(KINDS)
+    named = {name: words.partition(",")[0] for name, words in zip(names, kinds.values(), strict=True)}
+    if dict(re.findall(r'\[(PHAGUNDRO_KIND_\w+)\] = "(.*)",', source)) != named:
+        wrong.append("the tool's names of the kinds are not the header's")
+    return wrong
+
+
+def printed():
+    """The examples of the README and of the man page: a command, and what is printed below it."""
+    text = "\n".join(re.findall(r"^```console\n(.*?)^```$", README.read_text(), re.DOTALL | re.MULTILINE))
+    manual = MANUAL.read_text().split(".SH EXAMPLES")[1]
+    text += "\n" + "\n".join(re.findall(r"^\.nf\n(.*?)^\.fi$", manual, re.DOTALL | re.MULTILINE)).replace("\\-", "-")
+    return [(command, below.strip("\n")) for command, below in re.findall(r"^\$ (.*)\n((?:(?!\$ ).*\n?)*)", text, re.MULTILINE)]
+
+
+@tool.scratch
+def other_examples(folder):
+    """Where an example, run with the installed tool, library and man page in a folder of its own, prints something else."""
+    prefix = folder / "installed"
+    tool.made("install", f"PREFIX={prefix}")
+    wrong = [f"{name} is not installed" for name in (
+        "bin/phagundro", "include/phagundro.h", "lib/libphagundro.a", "lib/pkgconfig/phagundro.pc", "share/man/man1/phagundro.1"
+    ) if not (prefix / name).is_file()]
+    (folder / "tests").symlink_to(ROOT / "tests")
+    (folder / "example.c").write_text(re.search(r"^```c\n(.*?)^```$", README.read_text(), re.DOTALL | re.MULTILINE)[1])
+    around = dict(os.environ, PATH=f"{prefix / 'bin'}:{os.environ['PATH']}", PKG_CONFIG_PATH=str(prefix / "lib/pkgconfig"))
+    for command, below in printed():
+        ended = subprocess.run(["bash", "-c", command.replace("-std=c11", "-std=c11 -Wall -Wextra -Werror")], cwd=folder, env=around,
+            stdout=subprocess.PIPE, stderr=subprocess.STDOUT, text=True, timeout=60)
+        if ended.stdout.strip("\n") != below:
+            wrong.append(f"{command}: {ended.stdout[:300]}")
+    return wrong if len(printed()) > 12 else wrong + [f"only {len(printed())} examples"]
+
+
+TESTS = [
+    ("phagundro shows a refusal's number, place, meaning and byte", other_refusals),
+    ("phagundro has help for every command as the man page has it, and its version", other_help),
+    ("the tool's meanings and the README's numbers are the header's", other_meanings),
+    ("the examples of the README and the man page run as printed, with what make install puts in place", other_examples),
+]
