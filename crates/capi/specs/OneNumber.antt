@@ -2,7 +2,7 @@
 use Prim.Native.Nat.{ℕ, _+_}
 use mathlib.Core.Bool.{true, false}
 use lib.Dec.{eqb}
-use Rattle.der.specs.Refusal.{accepted}
+use Rattle.der.specs.meaning.Refusal.{accepted}
 use Rattle.verdict.specs.declared.verdict.Verdict.{Verdict}
 
 -- what is added to a refusal's number

@@ -5,10 +5,10 @@ use verdict::duplicates::Duplicates;
 use verdict::verdict::Position;
 use verdict::verdict::Verdict;
 ghost use mathlib.Core.Path.{_≡_};
-ghost use Rattle.editions.specs.Reading.{answer, readAnswer, tableAfter};
-ghost use Rattle.writer.specs.Writing.{writeAnswer, outputAfter};
-ghost use Rattle.verdict.specs.Verdict.{verdictAnswer};
-ghost use Rattle.verdict.specs.Duplicates.{duplicatesAnswer};
+ghost use Rattle.editions.specs.meaning.Reading.{answer, readAnswer, tableAfter};
+ghost use Rattle.writer.specs.meaning.Writing.{writeAnswer, outputAfter};
+ghost use Rattle.verdict.specs.meaning.Verdict.{verdictAnswer};
+ghost use Rattle.verdict.specs.meaning.Duplicates.{duplicatesAnswer};
 ghost use Rattle.capi.specs.OneNumber.{oneNumber};
 
 // What is added to a refusal's number where verdicts, which are smaller, come back in the same number.

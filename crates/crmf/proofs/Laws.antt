@@ -85,41 +85,41 @@
 --     over-parts            what is written over a list stands between what was before its place and after its end
 --     fits-room             there is room for rows where a table has `width` numbers for each
 --     child-seek            the first field inside a field with an identifier; and a field that may be missing, as a list (`listed-none`, `listed-some`)
-pub use Rattle.crmf.proofs.Accepts.{accepts}
-pub use Rattle.crmf.proofs.EveryForm.{all, isPassed, walk-passes, passes-accepts}
-pub use Rattle.crmf.proofs.Choices.{Choice, taking, choosing, identifiersOf, choices, deterministic}
-pub use Rattle.crmf.proofs.FirstSeen.{Edition, first-edition, second-edition, firstSeen, after, seenOf, walk-seen}
-pub use Rattle.crmf.proofs.Marks.{trail-occurrences, marks-met}
-pub use Rattle.crmf.proofs.AscendingPlaces.{Ascends, ascends-least, trail-ascends, occurrences-ascend, first-least}
-pub use Rattle.crmf.proofs.ReadableSets.{firstOf, unread, Follows, own-walk, two-sets}
-pub use Rattle.crmf.proofs.OneEdition.{other, foreign, own-alike, own-stops, own-passes}
-pub use Rattle.crmf.proofs.Differences.{StopsAt, own-difference, other-walk}
-pub use Rattle.crmf.specs.Kinds.{rowKinds}
-pub use Rattle.crmf.proofs.TableChecks.{Lives, WayLines, inside-starts, start-lives, onward-lives, ways-lines, ways-parts, kind-known, item-known, kind-given}
-pub use Rattle.crmf.proofs.RowsInPlace.{noRow}
-pub use Rattle.crmf.proofs.RowsOfLines.{rows-lines, rows-same, rows-count, walk-counts}
-pub use Rattle.crmf.proofs.RowLaws.{Inner, row-zero, rows-some, rows-ascend, row-parent, parent-container, row-within}
-pub use Rattle.crmf.proofs.RowsMoved.{shift, matches-moved, rows-moved}
-pub use Rattle.crmf.proofs.PiecesOf.{pieceIf, pieces, piecesIn}
-pub use Rattle.crmf.proofs.ShownPieces.{pieces-length, rows-pieces, batch-pieces}
-pub use Rattle.crmf.proofs.FilledRows.{fits-room, Holds, over-holds, rows-of, rows-counted, filled-rows, filled-short, filled-whole}
-pub use Rattle.crmf.proofs.FieldLaws.{child-seek, listed-none, listed-some, FormedField, IfAny}
-pub use Rattle.crmf.proofs.FieldSteps.{fieldAt, Begins, fields-end, fields-at, fields-begin, inside-fields, seek-none, seek-here, seek-next, child-identified, batch-at, messages-inside, message-field, proof-cases, proof-child-stands, stands-part}
-pub use Rattle.crmf.proofs.FieldsMatch.{Holding}
-pub use Rattle.crmf.proofs.MessageLaws.{ProofMatches, raVerified, signature, keyEncipherment, keyAgreement, MessageMatches, MessageParts, BatchContent, MessageStands}
-pub use Rattle.crmf.proofs.MessageLaws.{batch-content, message-parts, messages-match, messages-formed, messages-stand, messages-moved, batch-of-matches, batch-of-formed, at-position}
-pub use Rattle.crmf.proofs.Assembly.{assembly, rows-few, pieces-short}
-pub use Rattle.crmf.proofs.AssembledOctets.{pieces-octets, row-ends}
-pub use Rattle.crmf.proofs.Writing.{over-parts, numbers-length}
-pub use Rattle.crmf.proofs.MessageSteps.{fieldRead, sequence-read, first-read, IdRead, id-read, batch-read}
-pub use Rattle.crmf.proofs.MessageSizes.{ids-some, ids-eight, messages-few}
-pub use Rattle.crmf.proofs.LongIds.{rows-long, walk-long, long-none}
-pub use Rattle.crmf.proofs.WholeInput.{count-whole, rows-whole, whole-count, whole-long}
-pub use Rattle.crmf.proofs.CountSteps.{not-recognised}
-pub use Rattle.crmf.proofs.QuickWays.{quick-stays, quick-fills}
-pub use Rattle.crmf.proofs.QuickCounts.{none-met, Quick, quick-walk}
-pub use Rattle.crmf.proofs.PassedCounts.{walk-quick}
-pub use Rattle.crmf.proofs.ValueRules.{other-length, same-none, same-more, same-octets, same-itself}
-pub use Rattle.crmf.proofs.PieceLaws.{container-kinds, identifier-of, implied-type, implied-none, pieces-none, pieces-row, own-container, own-leaf}
-pub use Rattle.crmf.proofs.PieceLaws.{whole-container, whole-leaf, children-none, children-piece, assembled-none, assembled-piece}
-pub use Rattle.crmf.proofs.PieceLaws.{within-none, within-piece, children-bound, numbers-none, numbers-row}
+pub use Rattle.crmf.proofs.theorems.explain.Accepts.{accepts}
+pub use Rattle.crmf.proofs.theorems.explain.EveryForm.{all, isPassed, walk-passes, passes-accepts}
+pub use Rattle.crmf.proofs.theorems.grammar.Choices.{Choice, taking, choosing, identifiersOf, choices, deterministic}
+pub use Rattle.crmf.proofs.theorems.editions.FirstSeen.{Edition, first-edition, second-edition, firstSeen, after, seenOf, walk-seen}
+pub use Rattle.crmf.proofs.theorems.editions.Marks.{trail-occurrences, marks-met}
+pub use Rattle.crmf.proofs.theorems.editions.AscendingPlaces.{Ascends, ascends-least, trail-ascends, occurrences-ascend, first-least}
+pub use Rattle.crmf.proofs.theorems.editions.ReadableSets.{firstOf, unread, Follows, own-walk, two-sets}
+pub use Rattle.crmf.proofs.theorems.editions.OneEdition.{other, foreign, own-alike, own-stops, own-passes}
+pub use Rattle.crmf.proofs.theorems.editions.Differences.{StopsAt, own-difference, other-walk}
+pub use Rattle.crmf.specs.meaning.Kinds.{rowKinds}
+pub use Rattle.crmf.proofs.theorems.lines.TableChecks.{Lives, WayLines, inside-starts, start-lives, onward-lives, ways-lines, ways-parts, kind-known, item-known, kind-given}
+pub use Rattle.crmf.proofs.theorems.rows.RowsInPlace.{noRow}
+pub use Rattle.crmf.proofs.theorems.rows.RowsOfLines.{rows-lines, rows-same, rows-count, walk-counts}
+pub use Rattle.crmf.proofs.theorems.rows.RowLaws.{Inner, row-zero, rows-some, rows-ascend, row-parent, parent-container, row-within}
+pub use Rattle.crmf.proofs.theorems.rows.RowsMoved.{shift, matches-moved, rows-moved}
+pub use Rattle.crmf.proofs.theorems.pieces.PiecesOf.{pieceIf, pieces, piecesIn}
+pub use Rattle.crmf.proofs.theorems.pieces.ShownPieces.{pieces-length, rows-pieces, batch-pieces}
+pub use Rattle.crmf.proofs.theorems.rows.FilledRows.{fits-room, Holds, over-holds, rows-of, rows-counted, filled-rows, filled-short, filled-whole}
+pub use Rattle.crmf.proofs.theorems.messages.FieldLaws.{child-seek, listed-none, listed-some, FormedField, IfAny}
+pub use Rattle.crmf.proofs.theorems.messages.FieldSteps.{fieldAt, Begins, fields-end, fields-at, fields-begin, inside-fields, seek-none, seek-here, seek-next, child-identified, batch-at, messages-inside, message-field, proof-cases, proof-child-stands, stands-part}
+pub use Rattle.crmf.proofs.theorems.messages.FieldsMatch.{Holding}
+pub use Rattle.crmf.proofs.theorems.messages.MessageLaws.{ProofMatches, raVerified, signature, keyEncipherment, keyAgreement, MessageMatches, MessageParts, BatchContent, MessageStands}
+pub use Rattle.crmf.proofs.theorems.messages.MessageLaws.{batch-content, message-parts, messages-match, messages-formed, messages-stand, messages-moved, batch-of-matches, batch-of-formed, at-position}
+pub use Rattle.crmf.proofs.theorems.pieces.Assembly.{assembly, rows-few, pieces-short}
+pub use Rattle.crmf.proofs.theorems.pieces.AssembledOctets.{pieces-octets, row-ends}
+pub use Rattle.crmf.proofs.theorems.rows.Writing.{over-parts, numbers-length}
+pub use Rattle.crmf.proofs.theorems.messages.MessageSteps.{fieldRead, sequence-read, first-read, IdRead, id-read, batch-read}
+pub use Rattle.crmf.proofs.theorems.messages.MessageSizes.{ids-some, ids-eight, messages-few}
+pub use Rattle.crmf.proofs.theorems.explain.LongIds.{rows-long, walk-long, long-none}
+pub use Rattle.crmf.proofs.theorems.explain.WholeInput.{count-whole, rows-whole, whole-count, whole-long}
+pub use Rattle.crmf.proofs.theorems.recognise.CountSteps.{not-recognised}
+pub use Rattle.crmf.proofs.theorems.recognise.CountWays.{quick-stays, quick-fills}
+pub use Rattle.crmf.proofs.theorems.recognise.RecognisedCounts.{none-met, Quick, quick-walk}
+pub use Rattle.crmf.proofs.theorems.recognise.PassedCounts.{walk-quick}
+pub use Rattle.crmf.proofs.theorems.values.ValueRules.{other-length, same-none, same-more, same-octets, same-itself}
+pub use Rattle.crmf.proofs.theorems.pieces.PieceLaws.{container-kinds, identifier-of, implied-type, implied-none, pieces-none, pieces-row, own-container, own-leaf}
+pub use Rattle.crmf.proofs.theorems.pieces.PieceLaws.{whole-container, whole-leaf, children-none, children-piece, assembled-none, assembled-piece}
+pub use Rattle.crmf.proofs.theorems.pieces.PieceLaws.{within-none, within-piece, children-bound, numbers-none, numbers-row}

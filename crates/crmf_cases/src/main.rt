@@ -14,9 +14,9 @@ use cases::line::OCTETS;
 use cases::print::fault;
 use cases::print::number;
 use cases::print::text;
-use crmf::tally::Difference;
-use crmf::tally::Tally;
-use crmf::walk::Walked;
+use crmf::explain::Walked;
+use crmf::explain::tally::Difference;
+use crmf::explain::tally::Tally;
 use der::refusal::NOT_IN_GRAMMAR;
 
 // Prints a form of one edition alone.
@@ -59,7 +59,7 @@ fn print(answer: Walked) {
 
 // Judges a case: the first octets of the room.
 fn judge(room: &[u8; ROOM], case: Case) {
-    print(crmf::walk::count(octets(room, case.octets)));
+    print(crmf::explain::count(octets(room, case.octets)));
 }
 
 fn main() {

@@ -16,8 +16,8 @@ use cases::table::NUMBERS;
 use cases::table::is_untouched;
 use cases::table::prepare;
 use cases::table::print_rows;
-use crmf::fill::WIDTH;
-use crmf::quick::Recognition;
+use crmf::recognise::Recognition;
+use crmf::rows::WIDTH;
 ghost use Prim.Native.Nat.{_≤_};
 
 // The rows that the table holds.
@@ -60,9 +60,9 @@ fn print_lent(table: &[usize; NUMBERS], lent: usize, count: usize) {
 // Reads a batch with the first numbers of the table lent.
 fn read(edition: usize, batch: &[u8], table: &mut [usize], numbers: usize) -> Recognition {
     if numbers < table.len() {
-        return crmf::quick::read(edition, batch, &mut table[..numbers]);
+        return crmf::recognise::read(edition, batch, &mut table[..numbers]);
     }
-    crmf::quick::read(edition, batch, table)
+    crmf::recognise::read(edition, batch, table)
 }
 
 // Reads a batch in an edition into the first numbers of the table, and prints it; answers whether it is a batch of the edition.

@@ -1,26 +1,3 @@
 -- The laws of the crate.
-pub mod ContentRules
-pub mod Ends
-pub mod Exact
-pub mod ExplainWays
-pub mod FirstFault
-pub mod HeaderWays
-pub mod Headers
-pub mod Identifiers
+pub mod theorems
 pub mod Laws
-pub mod LeastFault
-pub mod Length
-pub mod Parts
-pub mod Productions
-pub mod Progress
-pub mod Range
-pub mod Readings
-pub mod RecogniseWays
-pub mod Recognising
-pub mod SpanWays
-pub mod Spans
-pub mod Steps
-pub mod TrailingZeros
-pub mod Trees
-pub mod Utf8Steps
-pub mod Vectors

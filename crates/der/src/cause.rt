@@ -1,6 +1,6 @@
 // Why an element is refused, by name; the one place that gives document 01's number and request A9's detail of each cause.
 ghost use mathlib.Core.Path.{_≡_};
-ghost use Rattle.der.specs.Cause.{causeNumber, causeDetail};
+ghost use Rattle.der.specs.steps.Cause.{causeNumber, causeDetail};
 
 // The causes, in the order in which an element is judged after the input's length.
 pub enum Cause {

@@ -1,11 +1,14 @@
 // The content rules, each on the content octets of one element.
-use crate::identifier;
-use crate::utf8;
+mod octet_class;
+pub mod utf8;
+
+use crate::element::identifier;
 ghost use Prim.Native.Nat.{ℕ, _<_};
 ghost use mathlib.Core.Bool.{true};
 ghost use mathlib.Core.Path.{_≡_};
 ghost use lib.ListN.{length, getD};
-ghost use Rattle.der.specs.Content as rule;
+ghost use Rattle.der.specs.meaning.Content as rule;
+ghost use Rattle.der.specs.steps.ContentTest as test;
 
 // Whether the octets are the content of a BOOLEAN (X.690 8.2, 11.1).
 pub fn boolean(content: &[u8]) -> bool
@@ -94,7 +97,7 @@ fn are_subidentifiers(content: &[u8]) -> bool
 
 // Whether the content of a primitive element keeps the rule of its type; NULL is empty (X.690 8.8), and types without a rule take any.
 pub fn holds(id: u8, content: &[u8]) -> bool
-    ensures { λ r. ⌜ r ≡ rule.holds id (now (content .entry)) ⌝ }
+    ensures { λ r. ⌜ r ≡ test.holds id (now (content .entry)) ⌝ }
 {
     match id {
         identifier::BOOLEAN => boolean(content),

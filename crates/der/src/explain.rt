@@ -1,16 +1,16 @@
 // The walk that explains a refusal: it answers the first fault of an element and of the elements inside it, with its place.
-use crate::between::between;
 use crate::bounds::DEPTH;
 use crate::bounds::LONGEST;
 use crate::cause;
 use crate::cause::Cause;
 use crate::content;
-use crate::header;
-use crate::header::Head;
-use crate::identifier::is_constructed;
+use crate::element::between::between;
+use crate::element::header;
+use crate::element::header::Head;
+use crate::element::identifier::is_constructed;
 ghost use mathlib.Core.Path.{_≡_};
 ghost use lib.ListN.{length};
-ghost use Rattle.der.specs.Explain.{Lent, faultAt, listOf, primitiveOf, elementOf, walkAt};
+ghost use Rattle.der.specs.steps.Explain.{Lent, faultAt, listOf, primitiveOf, elementOf, walkAt};
 
 // What the walk over an element answers.
 pub enum Nest {

@@ -1,11 +1,11 @@
 // The recogniser: whether octets have no fault, without saying which one they have.
 use crate::bounds::LONGEST;
 use crate::content;
-use crate::identifier::is_allowed;
-use crate::identifier::is_constructed;
-use crate::span::measure;
+use crate::element::identifier::is_allowed;
+use crate::element::identifier::is_constructed;
+use crate::element::length::measure;
 ghost use mathlib.Core.Path.{_≡_};
-ghost use Rattle.der.specs.Recognise.{isList, isElement};
+ghost use Rattle.der.specs.steps.Recognise.{isList, isElement};
 
 // Whether the bytes are a list of elements without a fault, with `left` levels of depth left. More bytes than LONGEST are not.
 pub fn is_list(bytes: &[u8], left: usize) -> bool

@@ -1,6 +1,4 @@
 -- Reading in an edition: what it means to be in an edition's grammar, and document 01's answer for every input.
-pub mod Edition
-pub mod Membership
-pub mod Paper
-pub mod Reading
-pub mod Steps
+pub mod meaning
+pub mod examples
+pub mod steps

@@ -2,10 +2,11 @@
 use crate::edition::BOTH;
 use crate::edition::RFC2511;
 use crate::edition::RFC4211;
-use crmf::quick::Recognition;
-use crmf::tally::Difference;
-use crmf::tally::Tally;
-use crmf::walk::Walked;
+use crmf::explain::Walked;
+use crmf::explain::tally::Difference;
+use crmf::explain::tally::Tally;
+use crmf::recognise::Recognition;
+use der::explain::Nest;
 use der::refusal::ACCEPTED;
 use der::refusal::LONG_CERT_REQ_ID;
 use der::refusal::NO_ROOM;
@@ -14,16 +15,15 @@ use der::refusal::OTHER_EDITION;
 use der::refusal::TOO_LONG;
 use der::refusal::TRAILING_BYTES;
 use der::refusal::UNKNOWN_EDITION;
-use der::explain::Nest;
 ghost use Prim.Native.Nat.{ℕ, _≤_};
 ghost use mathlib.Core.Path.{_≡_};
 ghost use mathlib.Core.Bool.{_&&_, not};
 ghost use lib.Dec.{eqb};
 ghost use lib.ListN.{length};
-ghost use Rattle.der.specs.Bounds.{longest};
-ghost use Rattle.editions.specs.Edition.{rfc2511, rfc4211};
-ghost use Rattle.editions.specs.Reading.{refusal, accepted, batchAnswer, answer, readAnswer, tableAfter};
-ghost use Rattle.editions.specs.Steps.{formOf, stopNumber, passedAnswer, brokenAnswer, shownAnswer};
+ghost use Rattle.der.specs.meaning.Bounds.{longest};
+ghost use Rattle.editions.specs.meaning.Edition.{rfc2511, rfc4211};
+ghost use Rattle.editions.specs.meaning.Reading.{refusal, accepted, batchAnswer, answer, readAnswer, tableAfter};
+ghost use Rattle.editions.specs.steps.OneWalk.{formOf, stopNumber, passedAnswer, brokenAnswer, shownAnswer};
 
 // What a call answers: document 01's number (`der::refusal`), its place, and the count of rows. C is handed it as it is.
 #[repr(C)]
@@ -41,7 +41,7 @@ pub fn read(edition: usize, bytes: &[u8], table: &mut [usize]) -> Answer
     if is_none(edition) {
         return refuse(UNKNOWN_EDITION, 0);
     }
-    match crmf::quick::read(edition, bytes, table) {
+    match crmf::recognise::read(edition, bytes, table) {
         Recognition::Rows(count) => shown(count, table.len()),
         Recognition::Unrecognised => exact(edition, bytes),
     }
@@ -51,7 +51,7 @@ pub fn read(edition: usize, bytes: &[u8], table: &mut [usize]) -> Answer
 fn shown(count: usize, room: usize) -> Answer
     ensures { λ r. ⌜ r ≡ shownAnswer count room ⌝ }
 {
-    if room / crmf::fill::WIDTH < count {
+    if room / crmf::rows::WIDTH < count {
         return refuse(NO_ROOM, 0);
     }
     admit(count)
@@ -64,7 +64,7 @@ pub fn accept(edition: usize, bytes: &[u8]) -> Answer
     if is_none(edition) {
         return refuse(UNKNOWN_EDITION, 0);
     }
-    match crmf::quick::count(edition, bytes) {
+    match crmf::recognise::count(edition, bytes) {
         Recognition::Rows(count) => admit(count),
         Recognition::Unrecognised => exact(edition, bytes),
     }
@@ -105,7 +105,7 @@ fn batch(edition: usize, bytes: &[u8]) -> Answer
     requires { ⌜ (rfc2511 ≤ edition) × (edition ≤ rfc4211) × (length (now bytes) ≤ longest) ⌝ }
     ensures { λ r. ⌜ r ≡ batchAnswer edition (now (bytes .entry)) ⌝ }
 {
-    match crmf::walk::count(bytes) {
+    match crmf::explain::count(bytes) {
         Walked::Passed(tally) => passed(edition, tally),
         Walked::Broken {
             place,

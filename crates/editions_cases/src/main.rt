@@ -21,7 +21,7 @@ use cases::table::NUMBERS;
 use cases::table::is_untouched;
 use cases::table::prepare;
 use cases::table::print_rows;
-use crmf::fill::WIDTH;
+use crmf::rows::WIDTH;
 use editions::edition::RFC2511;
 use editions::edition::RFC4211;
 use editions::reader::Answer;

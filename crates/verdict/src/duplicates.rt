@@ -1,12 +1,12 @@
 // The search for two messages with the same certReqId.
-use der::reading;
+use der::element::reading;
 use der::refusal::ACCEPTED;
 ghost use Prim.Native.Nat.{_≤_};
 ghost use mathlib.Core.Path.{_≡_};
 ghost use lib.ListN.{length};
 ghost use lib.Seq.{slice};
-ghost use Rattle.verdict.specs.Duplicates.{part, signed, sameNumber, pairOf, searched, duplicatesAnswer};
-ghost use Rattle.verdict.specs.Collecting.{Accepted, most, Collected, idIn, Short};
+ghost use Rattle.verdict.specs.meaning.Duplicates.{part, signed, sameNumber, pairOf, searched, duplicatesAnswer};
+ghost use Rattle.verdict.specs.steps.Collecting.{Accepted, most, Collected, idIn, Short};
 
 // A message's certReqId, a signed whole number. It is never a position.
 pub struct ReqId(pub i64);

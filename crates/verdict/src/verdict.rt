@@ -1,6 +1,6 @@
 // The verdict on a message's proof, and the part that its signature covers.
-use der::reading::Element;
-use der::reading::read_at;
+use der::element::reading::Element;
+use der::element::reading::read_at;
 use der::refusal::ACCEPTED;
 use der::refusal::NO_SUCH_MESSAGE;
 use editions::reader::accept;
@@ -8,11 +8,11 @@ ghost use mathlib.Core.Path.{_≡_};
 ghost use mathlib.Core.List.{List, [], _∷_};
 ghost use mathlib.Core.Option.{Option};
 ghost use lib.ListN.{drop};
-ghost use Rattle.crmf.specs.Fields.{Field, fieldsBetween, seek};
-ghost use Rattle.crmf.specs.Messages.{Message};
+ghost use Rattle.crmf.specs.meaning.Fields.{Field, fieldsBetween, seek};
+ghost use Rattle.crmf.specs.meaning.Messages.{Message};
 ghost use Rattle.crmf.proofs.Laws.{MessageParts};
-ghost use Rattle.verdict.specs.Verdict.{named, enciphermentVerdict, agreementVerdict, refused, judged, verdictAnswer, HandedBack};
-ghost use Rattle.verdict.specs.Steps.{Places, holds, Found, told, bare, signatureAnswer, proofAnswer};
+ghost use Rattle.verdict.specs.meaning.Verdict.{named, enciphermentVerdict, agreementVerdict, refused, judged, verdictAnswer, HandedBack};
+ghost use Rattle.verdict.specs.steps.Judging.{Places, holds, Found, told, bare, signatureAnswer, proofAnswer};
 
 // The verdicts.
 

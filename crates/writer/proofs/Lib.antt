@@ -1,11 +1,2 @@
 -- The laws of the crate.
-pub mod AddingUp
-pub mod Answering
-pub mod Assembling
-pub mod Comparing
-pub mod Demand2
-pub mod Described
-pub mod Describing
-pub mod DraftRows
-pub mod OctetRuns
-pub mod WholeLengths
+pub mod theorems

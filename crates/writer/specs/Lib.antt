@@ -1,4 +1,3 @@
 -- Drafts and writing: what it means that a batch has a draft's rows, and document 01's answer for every input.
-pub mod Draft
-pub mod Writing
-pub mod Steps
+pub mod meaning
+pub mod steps

@@ -3,8 +3,8 @@ use crate::draft::row_at;
 use crate::draft::rows;
 use crate::octets::put;
 use der::bounds::LONGEST;
-ghost use Rattle.writer.specs.Writing.{candidate};
-ghost use Rattle.writer.specs.Steps.{Lent, Begins};
+ghost use Rattle.writer.specs.meaning.Writing.{candidate};
+ghost use Rattle.writer.specs.steps.Inner.{Lent, Begins};
 
 // Writes the candidate into a scratch; answers its length, or some number above LONGEST where it is too long.
 pub(crate) fn assemble(draft: &[usize], bytes: &[u8], sums: &[usize], scratch: &mut [u8]) -> usize

@@ -3,7 +3,7 @@ use crate::assemble::assemble;
 use crate::compare::same_pieces;
 use crate::draft::rows;
 use crate::sums::add_up;
-use crmf::fill::WIDTH;
+use crmf::rows::WIDTH;
 use der::bounds::LONGEST;
 use der::refusal::ACCEPTED;
 use editions::reader::read;
@@ -11,10 +11,10 @@ ghost use Prim.Native.Nat.{_*_, _≤_};
 ghost use mathlib.Core.Path.{_≡_};
 ghost use mathlib.Core.Bool.{true};
 ghost use lib.ListN.{length};
-ghost use Rattle.der.specs.Bounds.{longest};
-ghost use Rattle.crmf.specs.Rows.{width};
-ghost use Rattle.writer.specs.Writing.{rowsIn, shaped, candidate, shows};
-ghost use Rattle.writer.specs.Steps.{few, Room, AddedUp, Built};
+ghost use Rattle.der.specs.meaning.Bounds.{longest};
+ghost use Rattle.crmf.specs.meaning.Rows.{width};
+ghost use Rattle.writer.specs.meaning.Writing.{rowsIn, shaped, candidate, shows};
+ghost use Rattle.writer.specs.steps.Inner.{few, Room, AddedUp, Built};
 
 // What a draft is found to describe: a batch, by its length, or nothing.
 pub(crate) enum Found {

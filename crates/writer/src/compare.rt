@@ -5,10 +5,10 @@ use crate::draft::leaf;
 use crate::draft::row_at;
 use crate::draft::rows;
 ghost use mathlib.Core.Path.{_≡_};
-ghost use Rattle.crmf.specs.Value.{same};
-ghost use Rattle.crmf.specs.Pieces.{pieceOf};
-ghost use Rattle.writer.specs.Writing.{drafted, samePieces};
-ghost use Rattle.writer.specs.Steps.{rowOf, samePiece};
+ghost use Rattle.crmf.specs.meaning.Lists.{same};
+ghost use Rattle.crmf.specs.meaning.Pieces.{pieceOf};
+ghost use Rattle.writer.specs.meaning.Writing.{drafted, samePieces};
+ghost use Rattle.writer.specs.steps.Inner.{rowOf, samePiece};
 
 // Whether a draft's pieces are the same as another's, row by row.
 pub(crate) fn same_pieces(draft: &[usize], bytes: &[u8], other: &[usize], octets: &[u8]) -> bool

@@ -1,13 +1,13 @@
 // A draft's rows: the numbers of each, the octets of a leaf, and the kinds of containers.
-use crmf::fill::WIDTH;
+use crmf::rows::WIDTH;
 ghost use Prim.Native.Nat.{suc, _+_, _<_};
 ghost use mathlib.Core.Path.{_≡_};
 ghost use mathlib.Core.List.{_∷_};
 ghost use lib.ListN.{length, drop};
 ghost use lib.Seq.{slice};
-ghost use Rattle.crmf.specs.Rows.{container as isContainer};
-ghost use Rattle.writer.specs.Writing.{rowsIn};
-ghost use Rattle.writer.specs.Steps.{rowOf};
+ghost use Rattle.crmf.specs.meaning.Rows.{container as isContainer};
+ghost use Rattle.writer.specs.meaning.Writing.{rowsIn};
+ghost use Rattle.writer.specs.steps.Inner.{rowOf};
 
 // A row of a draft.
 pub(crate) struct Row {

@@ -5,11 +5,11 @@ use der::bounds::LONGEST;
 ghost use Prim.Native.Nat.{suc, _+_, _*_, _≤_};
 ghost use mathlib.Core.Path.{_≡_};
 ghost use lib.ListN.{length};
-ghost use Rattle.der.specs.Length.{lengthOctets};
-ghost use Rattle.der.specs.Bounds.{longest};
-ghost use Rattle.crmf.specs.Pieces.{implied};
-ghost use Rattle.writer.specs.Writing.{most};
-ghost use Rattle.writer.specs.Steps.{rowOf, Stands, Whole};
+ghost use Rattle.der.specs.meaning.Length.{lengthOctets};
+ghost use Rattle.der.specs.meaning.Bounds.{longest};
+ghost use Rattle.crmf.specs.steps.rows.Assembly.{implied};
+ghost use Rattle.writer.specs.meaning.Writing.{most};
+ghost use Rattle.writer.specs.steps.Inner.{rowOf, Stands, Whole};
 
 // The whole length of a row whose children have `inner` octets together; more than LONGEST where it is too long, or is a leaf that leaves
 // the slice.

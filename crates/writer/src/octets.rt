@@ -7,11 +7,12 @@ ghost use Prim.Native.Nat.{suc, _+_, _*_, _≤_};
 ghost use mathlib.Core.Path.{_≡_};
 ghost use mathlib.Core.List.{[], _∷_, _++_};
 ghost use lib.ListN.{length};
-ghost use Rattle.der.specs.Length.{lengthOctets};
-ghost use Rattle.der.specs.Bounds.{longest};
-ghost use Rattle.crmf.specs.Fill.{over};
-ghost use Rattle.crmf.specs.Pieces.{pieceOf, identifierOf, implied, own, wholeOf};
-ghost use Rattle.writer.specs.Steps.{rowOf, Appended};
+ghost use Rattle.der.specs.meaning.Length.{lengthOctets};
+ghost use Rattle.der.specs.meaning.Bounds.{longest};
+ghost use Rattle.crmf.specs.meaning.Lists.{over};
+ghost use Rattle.crmf.specs.meaning.Pieces.{pieceOf};
+ghost use Rattle.crmf.specs.steps.rows.Assembly.{identifierOf, implied, own, wholeOf};
+ghost use Rattle.writer.specs.steps.Inner.{rowOf, Appended};
 
 // Writes a row's own octets from the place `at` on, where its children have `inner` octets together; answers the place after them.
 pub(crate) fn put(row: Row, inner: usize, bytes: &[u8], at: usize, scratch: &mut [u8]) -> usize

@@ -7,9 +7,9 @@ ghost use Prim.Native.Nat.{ℕ, _*_, _≤_, _<_};
 ghost use mathlib.Core.Path.{_≡_};
 ghost use mathlib.Core.Bool.{true};
 ghost use lib.ListN.{length, getD};
-ghost use Rattle.der.specs.Bounds.{longest};
-ghost use Rattle.writer.specs.Writing.{rowsIn, most};
-ghost use Rattle.writer.specs.Steps.{sound, Summed, Blank, Added};
+ghost use Rattle.der.specs.meaning.Bounds.{longest};
+ghost use Rattle.writer.specs.meaning.Writing.{rowsIn, most};
+ghost use Rattle.writer.specs.steps.Inner.{sound, Summed, Blank, Added};
 
 // Adds up the sums in a table; answers whether every leaf lies in the slice and no row is too long.
 pub(crate) fn add_up(draft: &[usize], bytes: &[u8], table: &mut [usize]) -> bool

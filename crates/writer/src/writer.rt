@@ -4,7 +4,7 @@ use crate::build::MOST;
 use crate::build::build;
 use crate::draft::rows;
 use crate::octets::copy;
-use crmf::fill::WIDTH;
+use crmf::rows::WIDTH;
 use der::bounds::LONGEST;
 use der::refusal::ACCEPTED;
 use der::refusal::NO_ROOM;
@@ -14,8 +14,8 @@ use editions::edition::RFC2511;
 use editions::edition::RFC4211;
 use editions::reader::Answer;
 ghost use mathlib.Core.Path.{_≡_};
-ghost use Rattle.editions.specs.Reading.{refusal};
-ghost use Rattle.writer.specs.Writing as spec;
+ghost use Rattle.editions.specs.meaning.Reading.{refusal};
+ghost use Rattle.writer.specs.meaning.Writing as spec;
 
 // Writes the batch that a draft describes in an edition: the answer, with the batch in the output where the draft describes one and there is
 // room for it. The count is the batch's length.

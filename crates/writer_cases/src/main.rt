@@ -19,7 +19,7 @@ use cases::line::Line;
 use cases::print::number;
 use cases::print::text;
 use cases::table::NUMBERS;
-use crmf::fill::WIDTH;
+use crmf::rows::WIDTH;
 use der::refusal::ACCEPTED;
 use editions::edition::RFC2511;
 use editions::edition::RFC4211;

@@ -4,10 +4,10 @@ use borrow.Author.Needs.{needs}
 use borrow.Author.Tests.{eq-eqb, ne-eqb}
 use native.Mathlib.Omega.{arith}
 use mathlib.Core.Path.{_≡_, ap, _∙_}
-use Rattle.der.specs.Refusal.{accepted}
+use Rattle.der.specs.meaning.Refusal.{accepted}
 use Rattle.der.proofs.Laws.{octets-each}
 use Rattle.verdict.specs.declared.verdict.Verdict.{Verdict}
-use Rattle.verdict.proofs.RefusalNumbers.{verdict-number}
+use Rattle.verdict.proofs.theorems.verdict.RefusalNumbers.{verdict-number}
 use Rattle.capi.specs.OneNumber.{refusedBy, oneNumber}
 use Rattle.capi.proofs.phagundro_verdict_number.Statement.{statement}
 use Rattle.capi.proofs.phagundro_verdict_number.Tie as tie

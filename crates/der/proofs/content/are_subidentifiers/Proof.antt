@@ -10,7 +10,7 @@ use native.Mathlib.Omega.{arith}
 use lib.Dec.{ltb, eqb}
 use lib.ListN.{length, getD, drop, drop-of-length-le}
 use lib.Seq.{drop-cons}
-use Rattle.der.specs.Content.{lastOf, unpadded, objectIdentifier}
+use Rattle.der.specs.meaning.Content.{lastOf, unpadded, objectIdentifier}
 use Rattle.der.proofs.content.are_subidentifiers.Statement.{statement}
 use Rattle.der.proofs.content.are_subidentifiers.Tie as tie
 

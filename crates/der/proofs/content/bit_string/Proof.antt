@@ -10,11 +10,11 @@ use native.Mathlib.Omega.{arith}
 use lib.Count.{trailingZeros}
 use lib.Dec.{leb}
 use lib.ListN.{length, getD}
-use Rattle.der.specs.Octets.{Octets}
-use Rattle.der.specs.Content.{lastOf, bitString}
-use Rattle.der.proofs.Ends.{none, one, last}
-use Rattle.der.proofs.Parts.{octets-each}
-use Rattle.der.proofs.TrailingZeros.{divides}
+use Rattle.der.specs.meaning.Octets.{Octets}
+use Rattle.der.specs.meaning.Content.{lastOf, bitString}
+use Rattle.der.proofs.theorems.lists.Ends.{none, one, last}
+use Rattle.der.proofs.theorems.lists.Parts.{octets-each}
+use Rattle.der.proofs.theorems.content.TrailingZeros.{divides}
 use Rattle.der.proofs.content.bit_string.Statement.{statement}
 use Rattle.der.proofs.content.bit_string.Tie as tie
 

@@ -6,8 +6,8 @@ use mathlib.Core.List.{List, [], _∷_}
 use mathlib.Core.Path.{_≡_, refl, sym, ap}
 use borrow.Author.Needs.{needs}
 use lib.ListN.{length}
-use Rattle.der.specs.Content.{boolean}
-use Rattle.der.proofs.Ends.{one}
+use Rattle.der.specs.meaning.Content.{boolean}
+use Rattle.der.proofs.theorems.lists.Ends.{one}
 use Rattle.der.proofs.content.boolean.Statement.{statement}
 use Rattle.der.proofs.content.boolean.Tie as tie
 

@@ -7,7 +7,8 @@ use mathlib.Core.Logic.{inl, inr, ⊎-elim}
 use Prim.Native.Nat.{ℕ}
 use lib.Dec.{eqb, eqb·suc-zero}
 use lib.ListN.{length}
-use Rattle.der.specs.Content.{null, holds}
+use Rattle.der.specs.meaning.Content.{null}
+use Rattle.der.specs.steps.ContentTest.{holds}
 use Rattle.der.proofs.content.holds.Statement.{statement}
 use Rattle.der.proofs.content.holds.Tie as tie
 

@@ -7,8 +7,8 @@ use borrow.Author.Needs.{needs}
 use native.Mathlib.Omega.{arith}
 use lib.Dec.{eqb}
 use lib.ListN.{length}
-use Rattle.der.specs.Content.{integer}
-use Rattle.der.proofs.Ends.{two}
+use Rattle.der.specs.meaning.Content.{integer}
+use Rattle.der.proofs.theorems.lists.Ends.{two}
 use Rattle.der.proofs.content.integer.Statement.{statement}
 use Rattle.der.proofs.content.integer.Tie as tie
 

@@ -2,9 +2,9 @@
 use mathlib.Core.Path.{sym, ap}
 use borrow.Author.Needs.{needs}
 use native.Mathlib.Omega.{arith}
-use Rattle.der.specs.Content.{objectIdentifier}
-use Rattle.der.proofs.ContentRules.{identifier-without-80}
-use Rattle.der.proofs.Ends.{none}
+use Rattle.der.specs.meaning.Content.{objectIdentifier}
+use Rattle.der.proofs.theorems.content.ContentRules.{identifier-without-80}
+use Rattle.der.proofs.theorems.lists.Ends.{none}
 use Rattle.der.proofs.content.object_identifier.Statement.{statement}
 use Rattle.der.proofs.content.object_identifier.Tie as tie
 

@@ -10,14 +10,14 @@ use borrow.Fn.Kinds.{In}
 use borrow.Fn.PlainCycle.{Measures, is, falls, and}
 use denote.Ref.{now}
 use lib.ListN.{length, take, drop}
-use Rattle.der.specs.declared.header.Head.the-variants.{Stands}
+use Rattle.der.specs.declared.element.header.Head.the-variants.{Stands}
 use Rattle.der.specs.declared.explain.Nest.the-variants.{End}
-use Rattle.der.specs.Header.{headOf}
-use Rattle.der.specs.Explain.{listOf, elementOf}
-use Rattle.der.proofs.Headers.{head-fits}
-use Rattle.der.proofs.ExplainWays.{lent-part, way-deep, way-broken, way-inside, way-value, From, from-within, from-next, from-stop, from-done}
-use Rattle.der.proofs.header.read.Reads as read-reads
-use Rattle.der.proofs.identifier.is_constructed.Reads as is-constructed-reads
+use Rattle.der.specs.steps.Header.{headOf}
+use Rattle.der.specs.steps.Explain.{listOf, elementOf}
+use Rattle.der.proofs.theorems.element.Headers.{head-fits}
+use Rattle.der.proofs.theorems.explain.ExplainWays.{lent-part, way-deep, way-broken, way-inside, way-value, From, from-within, from-next, from-stop, from-done}
+use Rattle.der.proofs.element.header.read.Reads as read-reads
+use Rattle.der.proofs.element.identifier.is_constructed.Reads as is-constructed-reads
 use Rattle.der.proofs.explain.primitive.Reads as primitive-reads
 use Rattle.der.proofs.explain.fault.Reads as fault-reads
 use Rattle.der.proofs.explain.element.Reads as element

@@ -2,10 +2,10 @@
 use borrow.Author.Needs.{needs}
 use mathlib.Core.Path.{sym, ap, _∙_}
 use native.Mathlib.Omega.{arith}
-use Rattle.der.specs.Bounds.{depth}
-use Rattle.der.specs.Explain.{elementOf}
-use Rattle.der.proofs.Parts.{slice-size}
-use Rattle.der.proofs.Steps.{walk-long, walk-short}
+use Rattle.der.specs.meaning.Bounds.{depth}
+use Rattle.der.specs.steps.Explain.{elementOf}
+use Rattle.der.proofs.theorems.lists.Parts.{slice-size}
+use Rattle.der.proofs.theorems.explain.Steps.{walk-long, walk-short}
 use Rattle.der.proofs.explain.explain.Statement.{statement}
 use Rattle.der.proofs.explain.explain.Tie as tie
 

@@ -1,8 +1,8 @@
 -- `der::explain::primitive` meets its contract: the content's rule picks the case. Assumes nothing.
 use borrow.Author.Needs.{needs}
 use mathlib.Core.Path.{sym, _∙_}
-use Rattle.der.specs.Identifier.{tagNumber}
-use Rattle.der.proofs.Steps.{value-kept, value-unkept}
+use Rattle.der.specs.meaning.Identifier.{tagNumber}
+use Rattle.der.proofs.theorems.explain.Steps.{value-kept, value-unkept}
 use Rattle.der.proofs.explain.primitive.Statement.{statement}
 use Rattle.der.proofs.explain.primitive.Tie as tie
 

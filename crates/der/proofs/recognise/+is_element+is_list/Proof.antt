@@ -10,16 +10,16 @@ use borrow.Fn.Kinds.{In}
 use borrow.Fn.PlainCycle.{Measures, is, falls, and}
 use denote.Ref.{now}
 use lib.ListN.{length, take, drop, getD}
-use Rattle.der.specs.Bounds.{longest}
-use Rattle.der.specs.Identifier.{allowed}
-use Rattle.der.specs.Recognise.{isList, isElement}
-use Rattle.der.proofs.Parts.{length-part}
-use Rattle.der.proofs.Recognising.{is-list-long, is-element-refused, is-element-inside, is-element-value}
-use Rattle.der.proofs.RecogniseWays.{from-done, from-lost, from-deep, from-within, from-next}
+use Rattle.der.specs.meaning.Bounds.{longest}
+use Rattle.der.specs.meaning.Identifier.{allowed}
+use Rattle.der.specs.steps.Recognise.{isList, isElement}
+use Rattle.der.proofs.theorems.lists.Parts.{length-part}
+use Rattle.der.proofs.theorems.recognise.Recognising.{is-list-long, is-element-refused, is-element-inside, is-element-value}
+use Rattle.der.proofs.theorems.recognise.RecogniseWays.{from-done, from-lost, from-deep, from-within, from-next}
 use Rattle.der.proofs.content.holds.Reads as holds-reads
-use Rattle.der.proofs.identifier.is_allowed.Reads as is-allowed-reads
-use Rattle.der.proofs.identifier.is_constructed.Reads as is-constructed-reads
-use Rattle.der.proofs.span.measure.Reads as measure-reads
+use Rattle.der.proofs.element.identifier.is_allowed.Reads as is-allowed-reads
+use Rattle.der.proofs.element.identifier.is_constructed.Reads as is-constructed-reads
+use Rattle.der.proofs.element.length.measure.Reads as measure-reads
 use Rattle.der.proofs.recognise.is_list.Reads as is-list
 use Rattle.der.proofs.recognise.is_list.Kinds as is-list-kinds
 use Rattle.der.proofs.recognise.is_element.Reads as is-element

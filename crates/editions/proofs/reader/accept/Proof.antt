@@ -1,8 +1,8 @@
 -- `editions::reader::accept` meets its contract: no edition, an input that is recognised, or one look after the other. Assumes nothing.
 use borrow.Author.Needs.{needs}
 use mathlib.Core.Path.{sym, _∙_}
-use Rattle.editions.proofs.Answers.{no-edition, in-range}
-use Rattle.editions.proofs.QuickAnswer.{quick-accepted}
+use Rattle.editions.proofs.theorems.Answers.{no-edition, in-range}
+use Rattle.editions.proofs.theorems.RecognisedAnswer.{quick-accepted}
 use Rattle.editions.proofs.reader.accept.Statement.{statement}
 use Rattle.editions.proofs.reader.accept.Tie as tie
 

@@ -1,7 +1,7 @@
 -- `editions::reader::batch` meets its contract: the walk that reads every form passes or breaks. Assumes nothing.
 use borrow.Author.Needs.{needs}
 use mathlib.Core.Path.{sym, _∙_}
-use Rattle.editions.proofs.OneWalk.{edition, batch-passed, batch-broken}
+use Rattle.editions.proofs.theorems.OneWalk.{edition, batch-passed, batch-broken}
 use Rattle.editions.proofs.reader.batch.Statement.{statement}
 use Rattle.editions.proofs.reader.batch.Tie as tie
 

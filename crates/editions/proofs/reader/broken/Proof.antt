@@ -2,7 +2,7 @@
 use borrow.Author.Needs.{needs}
 use native.Mathlib.Omega.{arith}
 use mathlib.Core.Path.{_∙_}
-use Rattle.editions.proofs.Answers.{broken-before, broken-there}
+use Rattle.editions.proofs.theorems.Answers.{broken-before, broken-there}
 use Rattle.editions.proofs.reader.broken.Statement.{statement}
 use Rattle.editions.proofs.reader.broken.Tie as tie
 

@@ -1,7 +1,7 @@
 -- `editions::reader::exact` meets its contract: the refusals in document 01's order. Assumes nothing.
 use borrow.Author.Needs.{needs}
 use mathlib.Core.Path.{sym, _∙_}
-use Rattle.editions.proofs.Answers.{an-edition, too-long, nest-fault, bytes-after, one-element}
+use Rattle.editions.proofs.theorems.Answers.{an-edition, too-long, nest-fault, bytes-after, one-element}
 use Rattle.editions.proofs.reader.exact.Statement.{statement}
 use Rattle.editions.proofs.reader.exact.Tie as tie
 

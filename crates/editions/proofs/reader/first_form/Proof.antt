@@ -1,7 +1,7 @@
 -- `editions::reader::first_form` meets its contract. Assumes nothing.
 use Prim.Native.Nat.{ℕ}
 use mathlib.Core.Path.{sym, ap}
-use Rattle.editions.proofs.Answers.{form-one, form-two}
+use Rattle.editions.proofs.theorems.Answers.{form-one, form-two}
 use Rattle.editions.proofs.reader.first_form.Statement.{statement}
 use Rattle.editions.proofs.reader.first_form.Tie as tie
 

@@ -2,15 +2,15 @@
 -- is that without a table. Assumes nothing.
 use borrow.Author.Needs.{needs}
 use mathlib.Core.Path.{sym, ap, _∙_}
-use Rattle.der.specs.Octets.{Octets}
+use Rattle.der.specs.meaning.Octets.{Octets}
 use Prim.Native.Nat.{_-_}
 use Rattle.der.proofs.Laws.{octets-each}
 use Rattle.crmf.proofs.Laws.{quick-stays}
 use Rattle.editions.specs.declared.reader.Answer.{Answer}
-use Rattle.editions.specs.Steps.{shownAnswer}
-use Rattle.editions.proofs.Answers.{in-range}
-use Rattle.editions.proofs.Tables.{read-refused}
-use Rattle.editions.proofs.QuickAnswer.{quick-none, quick-shown, refused-thirteen}
+use Rattle.editions.specs.steps.OneWalk.{shownAnswer}
+use Rattle.editions.proofs.theorems.Answers.{in-range}
+use Rattle.editions.proofs.theorems.Tables.{read-refused}
+use Rattle.editions.proofs.theorems.RecognisedAnswer.{quick-none, quick-shown, refused-thirteen}
 use Rattle.editions.proofs.reader.read.Statement.{statement}
 use Rattle.editions.proofs.reader.read.Tie as tie
 

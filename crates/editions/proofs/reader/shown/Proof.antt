@@ -2,7 +2,7 @@
 use borrow.Author.Needs.{needs}
 use native.Mathlib.Omega.{arith}
 use mathlib.Core.Path.{sym, _∙_}
-use Rattle.editions.proofs.QuickAnswer.{shown-short, shown-whole}
+use Rattle.editions.proofs.theorems.RecognisedAnswer.{shown-short, shown-whole}
 use Rattle.editions.proofs.reader.shown.Statement.{statement}
 use Rattle.editions.proofs.reader.shown.Tie as tie
 

@@ -7,11 +7,11 @@ use lib.ListN.{length}
 use lib.Seq.{slice}
 use mir.Facts.{toZ-ofZ}
 use mir.Syntax.{w64}
-use Rattle.der.specs.declared.reading.Element.{Element}
+use Rattle.der.specs.declared.element.reading.Element.{Element}
 use Rattle.der.proofs.Laws.{octets-each}
-use Rattle.verdict.specs.Duplicates.{signed}
-use Rattle.verdict.specs.Collecting.{most, idIn}
-use Rattle.verdict.proofs.Collecting.{Known, accepted-known, Step, step, Walk, walk-start, walk-end, walk-room, walk-more}
+use Rattle.verdict.specs.meaning.Duplicates.{signed}
+use Rattle.verdict.specs.steps.Collecting.{most, idIn}
+use Rattle.verdict.proofs.theorems.duplicates.Collecting.{Known, accepted-known, Step, step, Walk, walk-start, walk-end, walk-room, walk-more}
 use Rattle.verdict.proofs.duplicates.collect.Statement.{statement}
 use Rattle.verdict.proofs.duplicates.collect.Tie as tie
 

@@ -8,11 +8,11 @@ use lib.ListN.{take, drop, length-take, length-drop}
 use lib.Seq.{slice}
 use mir.Facts.{toZ-ofZ}
 use mir.Syntax.{w64}
-use Rattle.der.specs.declared.reading.Element.{Element}
-use Rattle.der.specs.Reading.{readAt}
+use Rattle.der.specs.declared.element.reading.Element.{Element}
+use Rattle.der.specs.steps.Reading.{readAt}
 use Rattle.der.proofs.Laws.{take-drop}
-use Rattle.verdict.specs.Duplicates.{signed}
-use Rattle.verdict.specs.Collecting.{idIn, Short}
+use Rattle.verdict.specs.meaning.Duplicates.{signed}
+use Rattle.verdict.specs.steps.Collecting.{idIn, Short}
 use Rattle.verdict.proofs.duplicates.own_id.Statement.{statement}
 use Rattle.verdict.proofs.duplicates.own_id.Tie as tie
 

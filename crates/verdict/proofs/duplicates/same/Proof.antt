@@ -1,5 +1,5 @@
 -- `verdict::duplicates::same` meets its contract: numbers of 64 bits are compared by their bits. Assumes nothing.
-use Rattle.verdict.proofs.Numbers.{same-bits}
+use Rattle.verdict.proofs.theorems.duplicates.Numbers.{same-bits}
 use Rattle.verdict.proofs.duplicates.same.Statement.{statement}
 use Rattle.verdict.proofs.duplicates.same.Tie as tie
 

@@ -4,11 +4,11 @@ use mathlib.Core.List.{List}
 use borrow.Author.Needs.{needs}
 use lib.IntN.{ℤ}
 use lib.Seq.{length-take-le}
-use Rattle.der.specs.Refusal.{accepted}
+use Rattle.der.specs.meaning.Refusal.{accepted}
 use Rattle.editions.specs.declared.reader.Answer.{Answer}
-use Rattle.editions.specs.Reading.{answer}
-use Rattle.verdict.specs.Duplicates.{pairOf, searched}
-use Rattle.verdict.proofs.SearchAnswers.{answer-refused, answer-searched}
+use Rattle.editions.specs.meaning.Reading.{answer}
+use Rattle.verdict.specs.meaning.Duplicates.{pairOf, searched}
+use Rattle.verdict.proofs.theorems.duplicates.SearchAnswers.{answer-refused, answer-searched}
 use Rattle.verdict.proofs.duplicates.search.Statement.{statement}
 use Rattle.verdict.proofs.duplicates.search.Tie as tie
 

@@ -9,10 +9,10 @@ use lib.ListN.{length, getD}
 use mir.Facts.{toZ-pos, toZ-neg}
 use mir.Syntax.{w64}
 use mir.Val.{SFits, toZ, ofZ}
-use Rattle.der.specs.Length.{valueFrom}
+use Rattle.der.specs.meaning.Length.{valueFrom}
 use Rattle.der.proofs.Laws.{value-none, octets-each}
-use Rattle.verdict.specs.Duplicates.{part}
-use Rattle.verdict.proofs.Magnitudes.{negative, prefix, prefix-fits, prefix-more, prefix-all, signed-negative, signed-positive, minus-one}
+use Rattle.verdict.specs.meaning.Duplicates.{part}
+use Rattle.verdict.proofs.theorems.duplicates.Magnitudes.{negative, prefix, prefix-fits, prefix-more, prefix-all, signed-negative, signed-positive, minus-one}
 use Rattle.verdict.proofs.duplicates.signed.Statement.{statement}
 use Rattle.verdict.proofs.duplicates.signed.Tie as tie
 

@@ -2,7 +2,7 @@
 use Prim.Native.Nat.{ℕ}
 use mathlib.Core.Path.{sym, ap}
 use mathlib.Core.Bool.{Bool, true, false}
-use Rattle.verdict.specs.Verdict.{keyAgreement, macMisplaced}
+use Rattle.verdict.specs.meaning.Verdict.{keyAgreement, macMisplaced}
 use Rattle.verdict.proofs.verdict.agreement.Statement.{statement}
 use Rattle.verdict.proofs.verdict.agreement.Tie as tie
 

@@ -6,9 +6,9 @@ use mathlib.Core.Path.{_≡_, refl, _∙_}
 use mathlib.Core.List.{[], _∷_}
 use borrow.Author.Needs.{needs}
 use Rattle.der.proofs.Laws.{InOrder}
-use Rattle.crmf.specs.Fields.{fieldsBetween, seek}
-use Rattle.verdict.specs.Steps.{Places}
-use Rattle.verdict.proofs.Elements.{found-as, find-end, next-in-order, behind-places, find-here, find-next}
+use Rattle.crmf.specs.meaning.Fields.{fieldsBetween, seek}
+use Rattle.verdict.specs.steps.Judging.{Places}
+use Rattle.verdict.proofs.theorems.verdict.Elements.{found-as, find-end, next-in-order, behind-places, find-here, find-next}
 use Rattle.verdict.proofs.verdict.find.Statement.{statement}
 use Rattle.verdict.proofs.verdict.find.Tie as tie
 

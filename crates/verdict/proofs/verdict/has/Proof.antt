@@ -1,6 +1,6 @@
 -- `verdict::verdict::has` meets its contract: what is found has a length. Assumes nothing.
 use borrow.Author.Needs.{needs}
-use Rattle.verdict.proofs.Elements.{found-holds}
+use Rattle.verdict.proofs.theorems.verdict.Elements.{found-holds}
 use Rattle.verdict.proofs.verdict.has.Statement.{statement}
 use Rattle.verdict.proofs.verdict.has.Tie as tie
 

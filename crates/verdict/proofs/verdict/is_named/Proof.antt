@@ -2,10 +2,10 @@
 use borrow.Author.Needs.{needs}
 use mathlib.Core.Path.{sym, ap, ap₂, _∙_}
 use mathlib.Core.Bool.{_&&_}
-use Rattle.verdict.specs.Steps.{Places, holds}
-use Rattle.verdict.proofs.Elements.{content-places, behind-places}
-use Rattle.verdict.proofs.Judging.{has-seek}
-use Rattle.verdict.proofs.MessagePlaces.{template-held}
+use Rattle.verdict.specs.steps.Judging.{Places, holds}
+use Rattle.verdict.proofs.theorems.verdict.Elements.{content-places, behind-places}
+use Rattle.verdict.proofs.theorems.verdict.Judging.{has-seek}
+use Rattle.verdict.proofs.theorems.verdict.MessagePlaces.{template-held}
 use Rattle.verdict.proofs.verdict.is_named.Statement.{statement}
 use Rattle.verdict.proofs.verdict.is_named.Tie as tie
 

@@ -1,13 +1,13 @@
 -- `verdict::verdict::judge` meets its contract: refused as by reading, no message at the position, or that message's verdict. Assumes nothing.
 use borrow.Author.Needs.{needs}
 use mathlib.Core.Path.{_≡_, sym, ap, _∙_}
-use Rattle.der.specs.Refusal.{accepted as acceptance}
+use Rattle.der.specs.meaning.Refusal.{accepted as acceptance}
 use Rattle.der.proofs.Laws.{octets-each}
 use Rattle.editions.specs.declared.reader.Answer.{Answer}
-use Rattle.editions.specs.Reading.{answer}
-use Rattle.verdict.specs.Verdict.{refused, messageAt}
-use Rattle.verdict.proofs.Answers.{answer-refused, answer-missing, answer-judged}
-use Rattle.verdict.proofs.Batches.{Accepted, accepted-tree, batch-places, position-missing, position-there}
+use Rattle.editions.specs.meaning.Reading.{answer}
+use Rattle.verdict.specs.meaning.Verdict.{refused, messageAt}
+use Rattle.verdict.proofs.theorems.verdict.Answers.{answer-refused, answer-missing, answer-judged}
+use Rattle.verdict.proofs.theorems.verdict.Batches.{Accepted, accepted-tree, batch-places, position-missing, position-there}
 use Rattle.verdict.proofs.verdict.judge.Statement.{statement}
 use Rattle.verdict.proofs.verdict.judge.Tie as tie
 

@@ -2,10 +2,10 @@
 use borrow.Author.Needs.{needs}
 use mathlib.Core.Path.{ap, ap₂, _∙_}
 use mathlib.Core.Option.{some}
-use Rattle.crmf.specs.Fields.{Field, fieldsBetween, listed}
-use Rattle.verdict.specs.Steps.{Places, partOf, proofAnswer}
-use Rattle.verdict.proofs.Elements.{read-forward, content-places, behind-places}
-use Rattle.verdict.proofs.MessagePlaces.{request-read, request-held, proof-read}
+use Rattle.crmf.specs.meaning.Fields.{Field, fieldsBetween, listed}
+use Rattle.verdict.specs.steps.Judging.{Places, partOf, proofAnswer}
+use Rattle.verdict.proofs.theorems.verdict.Elements.{read-forward, content-places, behind-places}
+use Rattle.verdict.proofs.theorems.verdict.MessagePlaces.{request-read, request-held, proof-read}
 use Rattle.verdict.proofs.verdict.message.Statement.{statement}
 use Rattle.verdict.proofs.verdict.message.Tie as tie
 

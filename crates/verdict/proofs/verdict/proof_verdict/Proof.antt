@@ -2,9 +2,9 @@
 use borrow.Author.Needs.{needs}
 use mathlib.Core.Path.{ap, _∙_}
 use mathlib.Core.Bool.{Bool}
-use Rattle.verdict.specs.Verdict.{enciphermentVerdict, agreementVerdict}
-use Rattle.verdict.specs.Steps.{bare}
-use Rattle.verdict.proofs.Judging.{answer-verified, answer-signature, answer-encipherment, answer-agreement, answer-none}
+use Rattle.verdict.specs.meaning.Verdict.{enciphermentVerdict, agreementVerdict}
+use Rattle.verdict.specs.steps.Judging.{bare}
+use Rattle.verdict.proofs.theorems.verdict.Judging.{answer-verified, answer-signature, answer-encipherment, answer-agreement, answer-none}
 use Rattle.verdict.proofs.verdict.proof_verdict.Statement.{statement}
 use Rattle.verdict.proofs.verdict.proof_verdict.Tie as tie
 

@@ -1,7 +1,7 @@
 -- `verdict::verdict::signature` meets its contract: what is found has a length exactly where it is a field. Assumes nothing.
 use borrow.Author.Needs.{needs}
 use mathlib.Core.Path.{_∙_}
-use Rattle.verdict.proofs.Judging.{signature-request, signature-neither, signature-both, signature-input}
+use Rattle.verdict.proofs.theorems.verdict.Judging.{signature-request, signature-neither, signature-both, signature-input}
 use Rattle.verdict.proofs.verdict.signature.Statement.{statement}
 use Rattle.verdict.proofs.verdict.signature.Tie as tie
 

@@ -6,7 +6,7 @@ use mathlib.Core.Path.{refl}
 use borrow.Author.Needs.{needs}
 use lib.ListN.{length}
 use Rattle.der.proofs.Laws.{take-drop, octets-each}
-use Rattle.verdict.proofs.Verdicts.{part-within}
+use Rattle.verdict.proofs.theorems.verdict.Verdicts.{part-within}
 use Rattle.verdict.proofs.verdict.signed_part.Statement.{statement}
 use Rattle.verdict.proofs.verdict.signed_part.Tie as tie
 

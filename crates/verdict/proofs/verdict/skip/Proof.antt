@@ -5,9 +5,9 @@ use native.Mathlib.Omega.{arith}
 use mathlib.Core.Path.{_≡_, refl, sym, ap, _∙_}
 use borrow.Author.Needs.{needs}
 use lib.ListN.{drop}
-use Rattle.crmf.specs.Fields.{fieldsBetween}
-use Rattle.verdict.specs.Steps.{Places}
-use Rattle.verdict.proofs.Elements.{skip-end, behind-places, skip-next}
+use Rattle.crmf.specs.meaning.Fields.{fieldsBetween}
+use Rattle.verdict.specs.steps.Judging.{Places}
+use Rattle.verdict.proofs.theorems.verdict.Elements.{skip-end, behind-places, skip-next}
 use Rattle.verdict.proofs.verdict.skip.Statement.{statement}
 use Rattle.verdict.proofs.verdict.skip.Tie as tie
 

@@ -2,9 +2,9 @@
 use borrow.Author.Needs.{needs}
 use Prim.Native.Nat.{_-_, _<_}
 use lib.ListN.{length, getD}
-use Rattle.writer.specs.Writing.{rowsIn}
-use Rattle.writer.specs.Steps.{rowOf}
-use Rattle.writer.proofs.Assembling.{Joined, joined-first, joined-last, joined-next, joined-stops, row-fits}
+use Rattle.writer.specs.meaning.Writing.{rowsIn}
+use Rattle.writer.specs.steps.Inner.{rowOf}
+use Rattle.writer.proofs.theorems.Assembling.{Joined, joined-first, joined-last, joined-next, joined-stops, row-fits}
 use native.Mathlib.Omega.{arith}
 use Rattle.writer.proofs.assemble.assemble.Statement.{statement}
 use Rattle.writer.proofs.assemble.assemble.Tie as tie

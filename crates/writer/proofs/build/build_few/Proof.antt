@@ -1,10 +1,10 @@
 -- `writer::build::build_few` meets its contract. Assumes nothing.
 use borrow.Author.Needs.{needs}
-use Rattle.writer.proofs.Answering.{zeros-room}
+use Rattle.writer.proofs.theorems.Answering.{zeros-room}
 use native.Mathlib.Omega.{arith}
 use Prim.Native.Nat.{_*_}
-use Rattle.crmf.specs.Rows.{width}
-use Rattle.writer.specs.Steps.{few}
+use Rattle.crmf.specs.meaning.Rows.{width}
+use Rattle.writer.specs.steps.Inner.{few}
 use Rattle.writer.proofs.build.build_few.Statement.{statement}
 use Rattle.writer.proofs.build.build_few.Tie as tie
 

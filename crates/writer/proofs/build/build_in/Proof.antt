@@ -4,7 +4,7 @@ use borrow.Author.Needs.{needs}
 use borrow.Author.Tests.{not-true, not-false}
 use mathlib.Core.Path.{sym, _∙_}
 use native.Mathlib.Omega.{arith}
-use Rattle.writer.proofs.Describing.{unsound}
+use Rattle.writer.proofs.theorems.Describing.{unsound}
 use Rattle.writer.proofs.build.build_in.Statement.{statement}
 use Rattle.writer.proofs.build.build_in.Tie as tie
 

@@ -1,10 +1,10 @@
 -- `writer::build::build_many` meets its contract. Assumes nothing.
 use borrow.Author.Needs.{needs}
-use Rattle.writer.proofs.Answering.{shaped-few, zeros-room}
+use Rattle.writer.proofs.theorems.Answering.{shaped-few, zeros-room}
 use native.Mathlib.Omega.{arith}
 use Prim.Native.Nat.{_*_}
-use Rattle.crmf.specs.Rows.{width}
-use Rattle.writer.specs.Writing.{most}
+use Rattle.crmf.specs.meaning.Rows.{width}
+use Rattle.writer.specs.meaning.Writing.{most}
 use Rattle.writer.proofs.build.build_many.Statement.{statement}
 use Rattle.writer.proofs.build.build_many.Tie as tie
 

@@ -8,11 +8,11 @@ use lib.Seq.{length-take-le}
 use mathlib.Core.Bool.{true, and-eq-true-iff}
 use mathlib.Core.Path.{_≡_, sym, _∙_}
 use native.Mathlib.Omega.{arith}
-use Rattle.der.specs.Bounds.{longest}
-use Rattle.crmf.specs.Pieces.{within}
-use Rattle.writer.specs.Draft.{inside}
-use Rattle.writer.specs.Writing.{rowsIn, drafted, candidate, shows, described}
-use Rattle.writer.proofs.Describing.{too-long, by-showing}
+use Rattle.der.specs.meaning.Bounds.{longest}
+use Rattle.crmf.specs.steps.rows.Assembly.{within}
+use Rattle.writer.specs.meaning.Draft.{inside}
+use Rattle.writer.specs.meaning.Writing.{rowsIn, drafted, candidate, shows, described}
+use Rattle.writer.proofs.theorems.Describing.{too-long, by-showing}
 use Rattle.writer.proofs.build.build_summed.Statement.{statement}
 use Rattle.writer.proofs.build.build_summed.Tie as tie
 

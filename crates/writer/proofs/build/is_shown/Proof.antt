@@ -7,14 +7,14 @@ use lib.Seq.{length-take-le}
 use mathlib.Core.List.{List}
 use mathlib.Core.Path.{_≡_, sym, ap, ap₂, _∙_}
 use native.Mathlib.Omega.{arith}
-use Rattle.der.specs.Octets.{Octets}
-use Rattle.der.specs.Refusal.{accepted}
-use Rattle.crmf.specs.Rows.{width}
+use Rattle.der.specs.meaning.Octets.{Octets}
+use Rattle.der.specs.meaning.Refusal.{accepted}
+use Rattle.crmf.specs.meaning.Rows.{width}
 use Rattle.editions.specs.declared.reader.Answer.{Answer}
-use Rattle.editions.specs.Reading.{readAnswer}
+use Rattle.editions.specs.meaning.Reading.{readAnswer}
 use Rattle.der.proofs.Laws.{octets-each}
-use Rattle.writer.specs.Writing.{drafted, samePieces, shows}
-use Rattle.writer.proofs.Describing.{read-refuses, read-room, read-shows}
+use Rattle.writer.specs.meaning.Writing.{drafted, samePieces, shows}
+use Rattle.writer.proofs.theorems.Describing.{read-refuses, read-room, read-shows}
 use Rattle.writer.proofs.build.is_shown.Statement.{statement}
 use Rattle.writer.proofs.build.is_shown.Tie as tie
 

@@ -3,9 +3,9 @@ use borrow.Author.Needs.{needs}
 use Prim.Native.Nat.{_-_, _≤_}
 use mathlib.Core.Path.{_≡_, sym}
 use lib.ListN.{length, take}
-use Rattle.crmf.specs.Value.{same}
+use Rattle.crmf.specs.meaning.Lists.{same}
 use Rattle.crmf.proofs.Laws.{other-length}
-use Rattle.writer.proofs.Comparing.{same-start, same-step, same-whole}
+use Rattle.writer.proofs.theorems.Comparing.{same-start, same-step, same-whole}
 use native.Mathlib.Omega.{arith}
 use Rattle.writer.proofs.compare.same_octets.Statement.{statement}
 use Rattle.writer.proofs.compare.same_octets.Tie as tie

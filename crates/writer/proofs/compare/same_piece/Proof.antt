@@ -1,8 +1,8 @@
 -- `writer::compare::same_piece` meets its contract. Assumes nothing.
 use borrow.Author.Needs.{needs}
 use mathlib.Core.Path.{sym, _∙_}
-use Rattle.writer.specs.Steps.{rowOf}
-use Rattle.writer.proofs.Comparing.{other-kind, other-parent, both-containers, both-leaves}
+use Rattle.writer.specs.steps.Inner.{rowOf}
+use Rattle.writer.proofs.theorems.Comparing.{other-kind, other-parent, both-containers, both-leaves}
 use Rattle.writer.proofs.compare.same_piece.Statement.{statement}
 use Rattle.writer.proofs.compare.same_piece.Tie as tie
 

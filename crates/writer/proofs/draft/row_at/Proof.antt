@@ -1,5 +1,5 @@
 -- `writer::draft::row_at` meets its contract: a row is four numbers. Assumes nothing.
-use Rattle.writer.proofs.DraftRows.{rows-room, row-cut}
+use Rattle.writer.proofs.theorems.DraftRows.{rows-room, row-cut}
 use native.Mathlib.Omega.{arith}
 use Rattle.writer.proofs.draft.row_at.Statement.{statement}
 use Rattle.writer.proofs.draft.row_at.Tie as tie

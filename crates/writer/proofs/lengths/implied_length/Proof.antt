@@ -1,6 +1,6 @@
 -- `writer::lengths::implied_length` meets its contract. Assumes nothing.
 use mathlib.Core.Path.{sym}
-use Rattle.writer.proofs.WholeLengths.{implied-size, implied-empty}
+use Rattle.writer.proofs.theorems.WholeLengths.{implied-size, implied-empty}
 use Rattle.writer.proofs.lengths.implied_length.Statement.{statement}
 use Rattle.writer.proofs.lengths.implied_length.Tie as tie
 

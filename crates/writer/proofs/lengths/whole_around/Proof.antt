@@ -3,8 +3,8 @@ use borrow.Author.Needs.{needs}
 use mathlib.Core.Path.{ap}
 use Prim.Native.Nat.{ℕ, _+_}
 use lib.ListN.{length}
-use Rattle.der.specs.Length.{lengthOctets}
-use Rattle.writer.proofs.WholeLengths.{stands-same, stands-past, implied-short}
+use Rattle.der.specs.meaning.Length.{lengthOctets}
+use Rattle.writer.proofs.theorems.WholeLengths.{stands-same, stands-past, implied-short}
 use native.Mathlib.Omega.{arith}
 use Rattle.writer.proofs.lengths.whole_around.Statement.{statement}
 use Rattle.writer.proofs.lengths.whole_around.Tie as tie

@@ -1,8 +1,8 @@
 -- `writer::lengths::whole_of` meets its contract. Assumes nothing.
 use borrow.Author.Needs.{needs}
 use mathlib.Core.Path.{sym, _∙_}
-use Rattle.writer.specs.Steps.{rowOf}
-use Rattle.writer.proofs.WholeLengths.{container-whole, leaf-outside, leaf-whole}
+use Rattle.writer.specs.steps.Inner.{rowOf}
+use Rattle.writer.proofs.theorems.WholeLengths.{container-whole, leaf-outside, leaf-whole}
 use native.Mathlib.Omega.{arith}
 use Rattle.writer.proofs.lengths.whole_of.Statement.{statement}
 use Rattle.writer.proofs.lengths.whole_of.Tie as tie

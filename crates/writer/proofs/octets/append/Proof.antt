@@ -1,6 +1,6 @@
 -- `writer::octets::append` meets its contract. Assumes nothing.
 use borrow.Author.Needs.{needs}
-use Rattle.writer.proofs.OctetRuns.{runs-out, append-copy}
+use Rattle.writer.proofs.theorems.OctetRuns.{runs-out, append-copy}
 use Rattle.writer.proofs.octets.append.Statement.{statement}
 use Rattle.writer.proofs.octets.append.Tie as tie
 

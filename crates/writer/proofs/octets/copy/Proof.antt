@@ -1,6 +1,6 @@
 -- `writer::octets::copy` meets its contract: the part that is lent is put back as a copy. Assumes nothing.
 use borrow.Author.Needs.{needs}
-use Rattle.writer.proofs.OctetRuns.{copied}
+use Rattle.writer.proofs.theorems.OctetRuns.{copied}
 use Rattle.writer.proofs.octets.copy.Statement.{statement}
 use Rattle.writer.proofs.octets.copy.Tie as tie
 

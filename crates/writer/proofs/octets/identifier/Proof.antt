@@ -1,7 +1,7 @@
 -- `writer::octets::identifier` meets its contract: five kinds have their own, the others 30. Assumes nothing.
 use mathlib.Core.Path.{sym, ap, _∙_}
 use borrow.Author.Tests.{ne-eqb}
-use Rattle.crmf.specs.Pieces.{identifierOf}
+use Rattle.crmf.specs.steps.rows.Assembly.{identifierOf}
 use Rattle.crmf.proofs.Laws.{identifier-of}
 use Rattle.writer.proofs.octets.identifier.Statement.{statement}
 use Rattle.writer.proofs.octets.identifier.Tie as tie

@@ -1,7 +1,7 @@
 -- `writer::octets::push` meets its contract. Assumes nothing.
 use borrow.Author.Needs.{needs}
 use mathlib.Core.List.{[], _∷_}
-use Rattle.writer.proofs.OctetRuns.{runs-out, append-one}
+use Rattle.writer.proofs.theorems.OctetRuns.{runs-out, append-one}
 use native.Mathlib.Omega.{arith}
 use Rattle.writer.proofs.octets.push.Statement.{statement}
 use Rattle.writer.proofs.octets.push.Tie as tie

@@ -4,10 +4,10 @@ use Prim.Native.Nat.{ℕ, _+_}
 use mathlib.Core.Path.{ap, subst}
 use mathlib.Core.List.{[], _∷_, _++_}
 use lib.ListN.{length}
-use Rattle.der.specs.Length.{lengthOctets}
-use Rattle.crmf.specs.Pieces.{identifierOf, implied}
-use Rattle.writer.specs.Steps.{Appended}
-use Rattle.writer.proofs.OctetRuns.{append-two}
+use Rattle.der.specs.meaning.Length.{lengthOctets}
+use Rattle.crmf.specs.steps.rows.Assembly.{identifierOf, implied}
+use Rattle.writer.specs.steps.Inner.{Appended}
+use Rattle.writer.proofs.theorems.OctetRuns.{append-two}
 use native.Mathlib.Omega.{arith}
 use Rattle.writer.proofs.octets.put_header.Statement.{statement}
 use Rattle.writer.proofs.octets.put_header.Tie as tie

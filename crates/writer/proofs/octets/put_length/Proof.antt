@@ -4,8 +4,8 @@ use Prim.Native.Nat.{ℕ, _/_, _%_}
 use mathlib.Core.Path.{sym, subst}
 use mathlib.Core.List.{List, [], _∷_}
 use Rattle.der.proofs.Laws.{shortest-small, shortest-one, shortest-two}
-use Rattle.writer.specs.Steps.{Appended}
-use Rattle.writer.proofs.OctetRuns.{append-two}
+use Rattle.writer.specs.steps.Inner.{Appended}
+use Rattle.writer.proofs.theorems.OctetRuns.{append-two}
 use Rattle.writer.proofs.octets.put_length.Statement.{statement}
 use Rattle.writer.proofs.octets.put_length.Tie as tie
 

@@ -3,10 +3,10 @@ use borrow.Author.Needs.{needs}
 use Prim.Native.Nat.{ℕ}
 use mathlib.Core.Path.{sym, ap, _∙_, subst}
 use mathlib.Core.List.{List}
-use Rattle.crmf.specs.Pieces.{implied}
+use Rattle.crmf.specs.steps.rows.Assembly.{implied}
 use Rattle.crmf.proofs.Laws.{implied-type, implied-none}
-use Rattle.writer.specs.Steps.{Appended}
-use Rattle.writer.proofs.OctetRuns.{append-none}
+use Rattle.writer.specs.steps.Inner.{Appended}
+use Rattle.writer.proofs.theorems.OctetRuns.{append-none}
 use Rattle.writer.proofs.octets.put_type.Statement.{statement}
 use Rattle.writer.proofs.octets.put_type.Tie as tie
 

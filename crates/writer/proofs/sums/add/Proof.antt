@@ -1,6 +1,6 @@
 -- `writer::sums::add` meets its contract. Assumes nothing.
 use borrow.Author.Needs.{needs}
-use Rattle.writer.proofs.AddingUp.{added-past, added-at}
+use Rattle.writer.proofs.theorems.AddingUp.{added-past, added-at}
 use native.Mathlib.Omega.{arith}
 use Rattle.writer.proofs.sums.add.Statement.{statement}
 use Rattle.writer.proofs.sums.add.Tie as tie

@@ -5,9 +5,9 @@ use mathlib.Core.Path.{ap₂}
 use mathlib.Core.Bool.{_&&_}
 use lib.Dec.{eqb, leb}
 use lib.ListN.{length}
-use Rattle.crmf.specs.Rows.{width}
-use Rattle.writer.specs.Writing.{most}
-use Rattle.writer.proofs.DraftRows.{rows-room}
+use Rattle.crmf.specs.meaning.Rows.{width}
+use Rattle.writer.specs.meaning.Writing.{most}
+use Rattle.writer.proofs.theorems.DraftRows.{rows-room}
 use native.Mathlib.Omega.{arith}
 use Rattle.writer.proofs.writer.shaped.Statement.{statement}
 use Rattle.writer.proofs.writer.shaped.Tie as tie

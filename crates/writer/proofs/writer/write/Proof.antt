@@ -8,12 +8,12 @@ use lib.Seq.{length-take-le}
 use mathlib.Core.List.{List}
 use mathlib.Core.Path.{_≡_, sym, ap, subst, _∙_}
 use native.Mathlib.Omega.{arith}
-use Rattle.crmf.specs.Fill.{over}
+use Rattle.crmf.specs.meaning.Lists.{over}
 use Rattle.writer.specs.declared.build.Found.the-variants.{Batch}
-use Rattle.writer.specs.Writing.{candidate}
-use Rattle.writer.specs.Steps.{Built}
-use Rattle.writer.proofs.Describing.{shapeless}
-use Rattle.writer.proofs.Answering.{zeros-longest, array-room, no-edition, no-batch, no-room, writes}
+use Rattle.writer.specs.meaning.Writing.{candidate}
+use Rattle.writer.specs.steps.Inner.{Built}
+use Rattle.writer.proofs.theorems.Describing.{shapeless}
+use Rattle.writer.proofs.theorems.Answering.{zeros-longest, array-room, no-edition, no-batch, no-room, writes}
 use Rattle.writer.proofs.writer.write.Statement.{statement}
 use Rattle.writer.proofs.writer.write.Tie as tie
 

@@ -1,0 +1,35 @@
+-- `crmf::element::line_for` meets its contract: the line is the one that the search finds, and the places are the element's. Assumes nothing.
+use borrow.Author.Needs.{needs}
+use mathlib.Core.Path.{refl, sym, _∙_}
+use Rattle.crmf.proofs.grammar.element.line_for.Statement.{statement}
+use Rattle.crmf.proofs.grammar.element.line_for.Tie as tie
+
+seek-requires : tie.Need-seek-requires
+seek-requires c κs = search needs
+
+enum-known-found : tie.Need-enum-known-found
+enum-known-found c = search needs
+
+enum-told : tie.Need-enum-told
+enum-told c = search needs
+
+returns : tie.Need-returns
+returns c = sym (c .before .before .seek .ensures) ∙ c .enum-told .given .1
+
+word-requires : tie.Need-word-requires
+word-requires c κs = search needs
+
+returns-2 : tie.Need-returns-2
+returns-2 c =
+    let line = c .before .before .found .given in
+    record {
+      number = line .0 .0;
+      found = sym (c .before .before .before .before .seek .ensures) ∙ line .1;
+      word = c .word .ensures;
+      first = refl;
+      content = refl;
+      end = refl;
+    }
+
+pub line-for-spec : {M : Type 1} → statement M
+line-for-spec = tie.close (tie.spec seek-requires enum-known-found enum-told returns word-requires returns-2)

@@ -1,0 +1,78 @@
+-- `crmf::value::pair_at` meets its contract: its test is the definition's, and where it passes the digits are in their range. Assumes nothing.
+use Prim.Native.Nat.{ℕ, _+_, _≤_}
+use mathlib.Core.Path.{sym, _∙_}
+use borrow.Author.Needs.{needs}
+use native.Mathlib.Omega.{arith}
+use lib.ListN.{getD}
+use Rattle.crmf.specs.meaning.Value.{pairAt}
+use Rattle.crmf.proofs.theorems.values.ValueRules.{digits-range}
+use Rattle.crmf.proofs.grammar.value.pair_at.Statement.{statement}
+use Rattle.crmf.proofs.grammar.value.pair_at.Tie as tie
+
+shared-slice-read-tens : tie.Need-shared-slice-read-tens
+shared-slice-read-tens c = search needs
+
+add-ones : tie.Need-add-ones
+add-ones c = search needs
+
+shared-slice-read-ones : tie.Need-shared-slice-read-ones
+shared-slice-read-ones c = search needs
+
+is-digit-requires : tie.Need-is-digit-requires
+is-digit-requires c κs = search needs
+
+is-digit-requires-2 : tie.Need-is-digit-requires-2
+is-digit-requires-2 c κs = search needs
+
+-- both octets are digits
+ranges : (c : tie.Then1) →
+    let a = c .before .before .before .before .before .before .args in
+    let tens : ℕ = getD (a .content .now) (a .i) 0 in
+    let ones : ℕ = getD (a .content .now) (a .i + 1) 0 in
+    ((0x30 ≤ tens) × (tens ≤ 0x39)) × ((0x30 ≤ ones) × (ones ≤ 0x39))
+ranges c =
+    digits-range _ _ (sym (cc (c .before .before .is-digit .ensures, c .before .is-digit2 .ensures)) ∙ c .if1 .taken)
+
+sub-result : tie.Need-sub-result
+sub-result c = omega (arith, ranges c)
+
+cast-result : tie.Need-cast-result
+cast-result c = omega (arith, ranges c)
+
+mul-result : tie.Need-mul-result
+mul-result c = omega (arith, ranges c)
+
+sub-result-2 : tie.Need-sub-result-2
+sub-result-2 c = omega (arith, ranges c)
+
+cast-result-2 : tie.Need-cast-result-2
+cast-result-2 c = omega (arith, ranges c)
+
+add-result : tie.Need-add-result
+add-result c = omega (arith, ranges c)
+
+returns : tie.Need-returns
+unfolding pairAt
+returns c = rw (pairAt, sym (c .before .before .is-digit .ensures), sym (c .before .is-digit2 .ensures), c .if1 .taken)
+
+returns-2 : tie.Need-returns-2
+unfolding pairAt
+returns-2 c = rw (pairAt, sym (c .before .before .is-digit .ensures), sym (c .before .is-digit2 .ensures), c .if1 .left)
+
+pub pair-at-spec : {M : Type 1} → statement M
+pair-at-spec =
+    tie.close
+    (tie.spec
+    shared-slice-read-tens
+    add-ones
+    shared-slice-read-ones
+    is-digit-requires
+    is-digit-requires-2
+    sub-result
+    cast-result
+    mul-result
+    sub-result-2
+    cast-result-2
+    add-result
+    returns
+    returns-2)

@@ -1,0 +1,12 @@
+-- `crmf::step::skip_or_descend` meets its contract: each way out is one of its two. Assumes nothing.
+use Rattle.crmf.proofs.recognise.step.skip_or_descend.Statement.{statement}
+use Rattle.crmf.proofs.recognise.step.skip_or_descend.Tie as tie
+
+returns : tie.Need-returns
+returns c = rw (c .if1 .taken)
+
+returns-2 : tie.Need-returns-2
+returns-2 c = rw (c .if1 .left)
+
+pub skip-or-descend-spec : {M : Type 1} → statement M
+skip-or-descend-spec = tie.close (tie.spec returns returns-2)

@@ -1,0 +1,8 @@
+-- Forms of one edition alone, and how one walk decides both editions.
+pub mod AscendingPlaces
+pub mod Differences
+pub mod FairMarks
+pub mod FirstSeen
+pub mod Marks
+pub mod OneEdition
+pub mod ReadableSets

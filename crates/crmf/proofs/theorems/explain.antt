@@ -1,0 +1,10 @@
+-- The exact walk: it passes exactly what is in the grammar, and what it tallies.
+pub mod Accepts
+pub mod EveryForm
+pub mod LongIds
+pub mod Meeting
+pub mod Passing
+pub mod Vectors
+pub mod WalkSteps
+pub mod Walking
+pub mod WholeInput

@@ -1,0 +1,133 @@
+-- Worked examples of the walk, document 01's batches first, computed on the definitions. Assumes nothing.
+use Prim.Native.Nat.{ℕ}
+use mathlib.Core.Path.{_≡_, refl}
+use mathlib.Core.Bool.{Bool, true}
+use mathlib.Core.List.{List, [], _∷_, map}
+use lib.Dec.{eqb}
+use Rattle.der.specs.examples.Each.{Each, _&_}
+use Rattle.der.specs.meaning.Identifier.{tagNumber, constructed, allowed}
+use Rattle.der.specs.meaning.Length.{valueFrom, shortest, longForm, lengthOf, base256}
+use Rattle.der.specs.steps.Header.{sizedBy, headOf}
+use Rattle.der.specs.meaning.Content.{boolean, integer, lastOf, bitString}
+use Rattle.der.specs.steps.Reading.{nothingAt, given, read, treeOf, tree}
+use Rattle.crmf.specs.declared.explain.tally.Tally.{Tally}
+use Rattle.crmf.specs.declared.explain.Walked.{Walked}
+use Rattle.crmf.specs.declared.explain.Walked.the-variants.{Passed, Broken}
+use Rattle.crmf.specs.meaning.Value.{isEmpty, isUpTo, number, isTrue, pairAt, leap, daysIn, isMoment, century, isUtcTime, isGeneralizedTime, keeps}
+use Rattle.crmf.specs.meaning.Lists.{same}
+use Rattle.crmf.specs.meaning.Value.{typeNumber, selected}
+use Rattle.crmf.specs.meaning.Notation.{Top, among, named, order}
+use Rattle.crmf.specs.meaning.Grammar.{content}
+use Rattle.crmf.specs.steps.grammar.Lines.{partSize, size, startsFrom, start, insideLine, passOf, formLines, nextLine, wayLine, partLines, containerLines, linesFrom, lines}
+use Rattle.crmf.specs.steps.explain.Walk.{line, seekIn, seek, closedIn, closed, judged, noted, lengthy, met, walk}
+
+-- A batch, its octets as the digits of a number, and what the walk answers that reads all forms, edition 1's and edition 2's.
+record Example : Type 0 where
+  octets : ℕ
+  all : Walked
+  one : Walked
+  two : Walked
+
+abbrev each : ℕ → Walked → Walked → Walked → Example
+each bs a b c = record { octets = bs; all = a; one = b; two = c }
+
+-- the same answer three times
+abbrev alike : ℕ → Walked → Example
+alike bs a = each bs a a a
+
+-- what was met: the count of rows, and the first form of edition 1 alone and of edition 2 alone
+abbrev seen : ℕ → ℕ → ℕ → ℕ → ℕ → Tally
+seen n d1 p1 d2 p2 =
+    record { count = n; one = record { number = d1; place = p1 }; two = record { number = d2; place = p2 }; long = record { whole = 0; place = 0 } }
+
+-- and with a certReqId of a whole length above 10 at a place
+abbrev longer : ℕ → ℕ → Tally → Tally
+longer w p s = record { count = s .count; one = s .one; two = s .two; long = record { whole = w; place = p } }
+
+abbrev rows : ℕ → Tally
+rows n = seen n 0 0 0 0
+
+-- the three walks answer so
+abbrev Walks : Example → Type 0
+Walks e =
+    let walked : (ℕ → Bool) → Walked = λ R. walk R (rows 0) (start Top) 0 (tree 0 (base256 128 (e .octets))) in
+    (walked (λ n. true) ≡ e .all) × (walked (eqb 1) ≡ e .one) × (walked (eqb 2) ≡ e .two)
+
+abbrev examples : List Example
+examples =
+    -- document 01's batches: no message, S, a choice of both editions, pairs of edition 2 and of edition 1
+    alike 0x3000 (Broken 0 2 (rows 1))
+    ∷ alike 0x3009300730050201003000 (Passed (rows 5))
+    ∷ alike 0x300E300C30050201003000A203810100 (Passed (rows 7))
+    ∷ each 0x301E301C300502010030003013301106092B06010505070502010C04613F6225 (Passed (seen 7 0 0 2 26)) (Broken 26 1 (rows 6)) (Passed (seen 7 0 0 2 26))
+    ∷ each 0x301E301C300502010030003013301106092B06010505070502010404613F6225 (Passed (seen 7 2 26 0 0)) (Passed (seen 7 2 26 0 0)) (Broken 26 1 (rows 6))
+    -- no batch: the element fits no part
+    ∷ alike 0x3100 (Broken 0 1 (rows 0))
+    -- a part missing comes before what stands behind
+    ∷ alike 0x3009300530030201000500 (Broken 4 2 (rows 4))
+    -- a form of edition 2 alone, and behind it a break
+    ∷ each 0x300F300D30050201003000A204A3020500 (Broken 15 1 (seen 7 0 0 1 13)) (Broken 13 1 (rows 6)) (Broken 15 1 (seen 7 0 0 1 13))
+    -- a needed part is never passed over
+    ∷ alike 0x300E300C30050201003000A103030100 (Broken 13 1 (rows 6))
+    -- a needed part is missing: the container is the place
+    ∷ alike 0x3010300E30050201003000A105300306012A (Broken 11 2 (rows 7))
+    -- poposkInput with a single 30: it is the PkMac, and Spki is missing
+    ∷ alike 0x301F301D30050201003000A114A00A3008300306012A030100300306012A030100 (Broken 13 2 (rows 7))
+    -- control 3, a list with a location beside method 0
+    ∷ each 0x3026302430220201003000301B301906092B0601050507050103300C020101300730050201008600 (Passed (seen 7 3 38 0 0)) (Passed (seen 7 3 38 0 0)) (Broken 38 4 (rows 7))
+    -- the list beside action 0, judged after its inside
+    ∷ each 0x3026302430220201003000301B301906092B0601050507050103300C020100300730050201008600 (Broken 31 4 (seen 7 3 38 0 0)) (Broken 31 4 (seen 7 3 38 0 0)) (Broken 38 4 (rows 7))
+    -- the list beside action 0, alone
+    ∷ alike 0x30243022302002010030003019301706092B0601050507050103300A02010030053003020101 (Broken 31 4 (rows 7))
+    -- a form of edition 2 alone, and behind it a message without its certReq
+    ∷ each 0x301C301830050201003000300F300D06092B06010505070502010C003000 (Broken 28 2 (seen 8 0 0 2 26)) (Broken 26 1 (rows 6)) (Broken 28 2 (seen 8 0 0 2 26))
+    -- forms of both sides
+    ∷ each 0x301E301C30050201003000A202A400300F300D06092B06010505070502010400 (Passed (seen 9 2 30 1 13)) (Broken 13 1 (rows 6)) (Broken 30 1 (seen 8 0 0 1 13))
+    -- a form of edition 2 alone, behind an id of nine octets, which plays no part here
+    ∷ each 0x30153013300D02090101010101010101013000A202A400 (Passed (longer 11 6 (seen 7 0 0 1 21))) (Broken 21 1 (longer 11 6 (rows 6))) (Passed (longer 11 6 (seen 7 0 0 1 21)))
+    -- a typed item: its value, another value, none, and a third element
+    ∷ alike 0x301A301830160201003000300F300D06092B06010505070501010C00 (Passed (rows 7))
+    ∷ alike 0x301A301830160201003000300F300D06092B06010505070501010400 (Broken 26 1 (rows 6))
+    ∷ alike 0x3018301630140201003000300D300B06092B0601050507050101 (Broken 13 2 (rows 6))
+    ∷ alike 0x301C301A301802010030003011300F06092B06010505070501010C000500 (Broken 28 1 (rows 7))
+    -- the same type in the other place is unknown, and its value is free
+    ∷ alike 0x301A301830050201003000300F300D06092B06010505070501010400 (Passed (rows 7))
+    -- a carried certReq
+    ∷ alike 0x301F301D300502010030003014301206092B060105050705020230050201003000 (Passed (rows 10))
+    -- an Extension with BOOLEAN FF, and with 00
+    ∷ alike 0x301530133011020100300CA90A300806012A0101FF0400 (Passed (rows 7))
+    ∷ alike 0x301530133011020100300CA90A300806012A0101000400 (Broken 18 3 (rows 7))
+    -- subject: A5 around a Name, and A5 as the Name itself
+    ∷ alike 0x301730153013020100300EA50C300A3108300606012A0C0141 (Passed (rows 6))
+    ∷ alike 0x301530133011020100300CA50A3108300606012A0C0141 (Broken 13 1 (rows 6))
+    -- a template without its key's bits
+    ∷ alike 0x3010300E300C0201003007A605300306012A (Broken 11 2 (rows 6))
+    -- validity without a time
+    ∷ alike 0x300B300930070201003002A400 (Broken 11 2 (rows 6))
+    -- 29 February of 1900, 2000, 2100 and 0000
+    ∷ alike 0x301E301C301A0201003015A413A011180F31393030303232393030303030305A (Broken 15 3 (rows 7))
+    ∷ alike 0x301E301C301A0201003015A413A011180F32303030303232393030303030305A (Passed (rows 7))
+    ∷ alike 0x301E301C301A0201003015A413A011180F32313030303232393030303030305A (Broken 15 3 (rows 7))
+    ∷ alike 0x301E301C301A0201003015A413A011180F30303030303232393030303030305A (Passed (rows 7))
+    ∷ []
+
+-- every example is walked so
+worked : Each Walks examples
+unfolding tagNumber constructed allowed valueFrom shortest longForm lengthOf base256 sizedBy headOf
+    boolean integer lastOf bitString nothingAt given read treeOf tree
+    same isEmpty isUpTo number isTrue pairAt leap daysIn isMoment century isUtcTime isGeneralizedTime keeps typeNumber selected among named order content
+    partSize size startsFrom start insideLine passOf formLines nextLine wayLine partLines containerLines linesFrom lines
+    line seekIn seek closedIn closed judged noted lengthy met walk
+worked =
+    (refl, refl, refl) & (refl, refl, refl) & (refl, refl, refl) & (refl, refl, refl) & (refl, refl, refl) & (refl, refl, refl)
+    & (refl, refl, refl) & (refl, refl, refl) & (refl, refl, refl) & (refl, refl, refl) & (refl, refl, refl) & (refl, refl, refl)
+    & (refl, refl, refl) & (refl, refl, refl) & (refl, refl, refl) & (refl, refl, refl) & (refl, refl, refl) & (refl, refl, refl)
+    & (refl, refl, refl) & (refl, refl, refl) & (refl, refl, refl) & (refl, refl, refl) & (refl, refl, refl) & (refl, refl, refl)
+    & (refl, refl, refl) & (refl, refl, refl) & (refl, refl, refl) & (refl, refl, refl) & (refl, refl, refl) & (refl, refl, refl)
+    & (refl, refl, refl) & (refl, refl, refl) & (refl, refl, refl)
+    & tt
+
+-- the two-digit years on both sides of the centuries' border
+centuries : map century (0 ∷ 49 ∷ 50 ∷ 99 ∷ []) ≡ 2000 ∷ 2049 ∷ 1950 ∷ 1999 ∷ []
+unfolding century
+centuries = refl

@@ -1,0 +1,106 @@
+-- What the fields of the packed table's words say of the grammar's lines. A test that is computed at every line holds at the line of any
+-- number, since past the end stands the end line, which is also the first. So each field is one computed test. Assumes nothing.
+use Prim.Native.Nat.{ℕ, _+_, _<_}
+use mathlib.Core.Bool.{Bool, true}
+use mathlib.Core.List.{List}
+use mathlib.Core.Path.{_≡_, refl, ap, _∙_}
+use borrow.Author.Tests.{eqb-true, ltb-true}
+use lib.Dec.{eqb, ltb}
+use lib.ListN.{length, getD, List·getD-map}
+use Rattle.crmf.specs.steps.grammar.Codes as codes
+use Rattle.crmf.specs.meaning.Notation.{order, names}
+use Rattle.crmf.specs.meaning.Grammar.{content}
+use Rattle.crmf.specs.steps.grammar.Lines.{Line, endLine, lines, linesFrom, containerLines, partLines, wayLine, nextLine, formLines, passOf, insideLine, start, startsFrom, size, partSize}
+use Rattle.crmf.specs.steps.grammar.Packed.{pack, packed, passCode, identifiersCode, judgeCode, markCode, beside, actionOf}
+use Rattle.crmf.specs.steps.grammar.Packed.{passField, identifiersField, insideField, judgeField, kindField, itemField, markField, nextField, actionField, rowsField}
+use Rattle.crmf.specs.steps.explain.Walk.{line, rowsBy}
+use Rattle.crmf.proofs.theorems.lists.Tests.{all, all-first}
+
+-- the table, to be computed: whoever unfolds it unfolds all that the lines and their words are made of
+unfoldable pub computed : List ℕ
+unfolding packed pack beside actionOf passCode identifiersCode judgeCode markCode lines linesFrom containerLines partLines wayLine nextLine formLines passOf insideLine start startsFrom size partSize order content
+computed = packed
+
+-- a test that passes at every line of the table passes at the line of any number
+pub at-line : (f : Line → Bool) → all f lines ≡ true → (k : ℕ) → f (line k) ≡ true
+unfolding line lines
+at-line f = all-first f endLine (linesFrom 1 names)
+
+-- the word of any number is its line, packed
+pub word-at : (k : ℕ) → getD packed k 0 ≡ pack (line k)
+unfolding line computed
+word-at k = List·getD-map pack lines k endLine
+
+-- a field of a word is what the line says, if it is so at every line
+field-at : (f : ℕ → ℕ) (g : Line → ℕ) → all (λ x. eqb (f (pack x)) (g x)) lines ≡ true → (k : ℕ) → f (getD packed k 0) ≡ g (line k)
+field-at f g e k = ap f (word-at k) ∙ eqb-true _ _ (at-line (λ x. eqb (f (pack x)) (g x)) e k)
+
+pub pass-at : (k : ℕ) → passField (getD packed k 0) ≡ passCode (line k .pass)
+unfolding computed
+pass-at = field-at passField (λ x. passCode (x .pass)) refl
+
+pub identifiers-at : (k : ℕ) → identifiersField (getD packed k 0) ≡ identifiersCode (line k .identifiers)
+unfolding computed
+identifiers-at = field-at identifiersField (λ x. identifiersCode (x .identifiers)) refl
+
+pub inside-at : (k : ℕ) → insideField (getD packed k 0) ≡ line k .inside
+unfolding computed
+inside-at = field-at insideField (λ x. x .inside) refl
+
+pub judge-at : (k : ℕ) → judgeField (getD packed k 0) ≡ judgeCode (line k .judge)
+unfolding computed
+judge-at = field-at judgeField (λ x. judgeCode (x .judge)) refl
+
+pub kind-at : (k : ℕ) → kindField (getD packed k 0) ≡ line k .kind
+unfolding computed
+kind-at = field-at kindField (λ x. x .kind) refl
+
+pub item-at : (k : ℕ) → itemField (getD packed k 0) ≡ line k .item
+unfolding computed
+item-at = field-at itemField (λ x. x .item) refl
+
+pub mark-at : (k : ℕ) → markField (getD packed k 0) ≡ markCode (line k .mark)
+unfolding computed
+mark-at = field-at markField (λ x. markCode (x .mark)) refl
+
+pub next-at : (k : ℕ) → nextField (getD packed k 0) ≡ line k .next
+unfolding computed
+next-at = field-at nextField (λ x. x .next) refl
+
+pub action-at : (k : ℕ) → actionField (getD packed k 0) ≡ actionOf (line k)
+unfolding computed
+action-at = field-at actionField actionOf refl
+
+pub rows-at : (k : ℕ) → rowsField (getD packed k 0) ≡ rowsBy (line k)
+unfolding computed
+rows-at = field-at rowsField rowsBy refl
+
+-- a number of a line is below a bound, if it is so at every line
+small-at : (f : Line → ℕ) (n : ℕ) → all (λ x. ltb (f x) n) lines ≡ true → (k : ℕ) → f (line k) < n
+small-at f n e k = ltb-true _ _ (at-line (λ x. ltb (f x) n) e k)
+
+-- How many lines the table has. The code has it as a constant: where a proof meets the constant's value, it is this by computing.
+unfoldable pub lineCount : ℕ
+unfolding computed
+lineCount = length lines
+
+pub next-small : (k : ℕ) → line k .next < lineCount
+unfolding computed lineCount
+next-small = small-at (λ x. x .next) lineCount refl
+
+pub rows-few : (k : ℕ) → rowsBy (line k) < 3
+unfolding computed
+rows-few = small-at rowsBy 3 refl
+
+pub action-small : (k : ℕ) → actionOf (line k) < codes.takeName + 1
+unfolding computed
+action-small = small-at actionOf (codes.takeName + 1) refl
+
+-- there are as many words
+pub lines-count : length lines ≡ lineCount
+unfolding lineCount
+lines-count = refl
+
+pub words-count : length packed ≡ lineCount
+unfolding computed lineCount
+words-count = refl

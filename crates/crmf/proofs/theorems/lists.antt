@@ -1,0 +1,2 @@
+-- Tests of lists.
+pub mod Tests

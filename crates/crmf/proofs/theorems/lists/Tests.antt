@@ -1,0 +1,55 @@
+-- Tests of lists, to be computed, and what they say of the entries: a test of all entries holds at each, and a test of some entry holds
+-- at one that can be named. Assumes nothing.
+use Prim.Native.Nat.{ℕ, zero, suc}
+use mathlib.Core.Bool.{Bool, true, false, _&&_, _||_, and-eq-true-iff, false≢true}
+use mathlib.Core.List.{List, [], _∷_}
+use mathlib.Core.Logic.{_⊎_, inl, inr, ⊎-elim}
+use mathlib.Core.Option.{some}
+use mathlib.Core.Path.{_≡_, refl}
+use native.Mathlib.Omega.{arith}
+use borrow.Author.Tests.{eqb-true}
+use lib.Dec.{eqb}
+use lib.ListN.{getD, getElem?}
+use Rattle.crmf.specs.meaning.Notation.{among}
+
+-- one of two tests passes
+pub either : (a b : Bool) → (a || b) ≡ true → (a ≡ true) ⊎ (b ≡ true)
+either true b e = inl refl
+either false b e = inr e
+
+module _ {A : Type 0} (f : A → Bool) where
+  -- the test passes at all entries; at some entry
+  abbrev pub all : List A → Bool
+  all [] = true
+  all (x ∷ xs) = f x && all xs
+
+  abbrev pub any : List A → Bool
+  any [] = false
+  any (x ∷ xs) = f x || any xs
+
+  all-getD : (d : A) → f d ≡ true → (xs : List A) → all xs ≡ true → (k : ℕ) → f (getD xs k d) ≡ true
+  all-getD d z [] e k = z
+  all-getD d z (x ∷ xs) e zero = and-eq-true-iff (f x) (all xs) .0 e .0
+  all-getD d z (x ∷ xs) e (suc k) = all-getD d z xs (and-eq-true-iff (f x) (all xs) .0 e .1) k
+
+  -- where the entry that stands past the end is also the first
+  pub all-first : (x : A) (xs : List A) → all (x ∷ xs) ≡ true → (k : ℕ) → f (getD (x ∷ xs) k x) ≡ true
+  all-first x xs e = all-getD x (and-eq-true-iff (f x) (all xs) .0 e .0) (x ∷ xs) e
+
+  pub all-getElem : (a : A) (xs : List A) → all xs ≡ true → (k : ℕ) → getElem? xs k ≡ some a → f a ≡ true
+  all-getElem a [] e k h = let z : _≡_ {A = ℕ} 0 1 = cc in absurd (omega arith)
+  all-getElem a (x ∷ xs) e zero h = let q : x ≡ a = cc in rw q at (and-eq-true-iff (f x) (all xs) .0 e .0)
+  all-getElem a (x ∷ xs) e (suc k) h = all-getElem a xs (and-eq-true-iff (f x) (all xs) .0 e .1) k h
+
+  pub any-getD : (d : A) (xs : List A) → any xs ≡ true → (k : ℕ) × (f (getD xs k d) ≡ true)
+  any-getD d [] e = absurd (false≢true e)
+  any-getD d (x ∷ xs) e =
+      ⊎-elim (λ p. (zero, p)) (λ p. let r = any-getD d xs p in (suc (r .0), r .1)) (either (f x) (any xs) e)
+
+-- a test of all octets of a list passes at each of them
+pub all-among : (f : ℕ → Bool) (xs : List ℕ) → all f xs ≡ true → (n : ℕ) → among xs n ≡ true → f n ≡ true
+unfolding among
+all-among f [] e n h = absurd (false≢true h)
+all-among f (x ∷ xs) e n h =
+    let p = and-eq-true-iff (f x) (all f xs) .0 e in
+    ⊎-elim (λ q. rw (eqb-true n x q) (p .0)) (all-among f xs (p .1) n) (either (eqb n x) (among xs n) h)

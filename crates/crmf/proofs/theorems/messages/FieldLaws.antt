@@ -1,0 +1,328 @@
+-- Lists of elements as lists of fields. Well-formed elements are well-formed fields that stand one behind the other: so a constructed field
+-- consists of the fields inside it, each stands at its place in the octets of the whole, and all of it moves with the bytes. Assumes nothing.
+use Prim.Native.Nat.{ℕ, zero, suc, _+_, _≤_}
+use native.Mathlib.Nat.{add-assoc}
+use native.Mathlib.Omega.{arith}
+use mathlib.Core.Path.{_≡_, refl, sym, ap, ap₂, _∙_, subst}
+use mathlib.Core.Logic.{_⊎_, inl, inr}
+use mathlib.Core.Bool.{Bool, true, false}
+use mathlib.Core.List.{List, [], _∷_, _++_, map, flatMap, append-assoc, List·Memᴰ, List·Memᴰ·head, List·Memᴰ·tail, List·Memᴰ·not-nil, List·Memᴰ·cases-cons}
+use mathlib.Core.Option.{Option, some, none as absent, Option·map, Option·none-ne-some, Option·some-ne-none, Option·some-injective}
+use lib.ListN.{length, length-append, length-take, length-drop, take, drop, getD, List·getD-map}
+use lib.Seq.{take-append-seam, take-take, take-add, drop-drop}
+use Rattle.der.specs.meaning.Identifier.{constructed}
+use Rattle.der.specs.meaning.Tree.{Tree, none, element, header, encode, Formed, WellFormed, moved}
+use Rattle.der.proofs.Laws.{encode-none, encode-element, encode-length, encode-moved, moved-none, moved-element, well-formed-moved, well-formed-none, well-formed-deep, well-formed-element, append-parts}
+use Rattle.crmf.specs.meaning.Notation.{among}
+use Rattle.crmf.specs.meaning.Fields.{Field, fields, chain, octets, start, finish, Runs, Consists, StandsAt, missing, nth, seek, child, listed, movedField}
+
+-- the first field with an identifier inside a field, and a field that may be missing, as a list
+pub child-seek : (id : ℕ) (f : Field) → child id f ≡ seek (id ∷ []) (fields (f .inside))
+unfolding child
+child-seek id f = refl
+
+pub listed-none : listed absent ≡ []
+unfolding listed
+listed-none = refl
+
+pub listed-some : (f : Field) → listed (some f) ≡ f ∷ []
+unfolding listed
+listed-some f = refl
+
+-- no elements have no fields
+pub fields-none : fields none ≡ []
+unfolding fields
+fields-none = refl
+
+-- the fields of some elements: the first element's, and those of the elements behind it
+pub fields-element : (id first whole : ℕ) (c : List ℕ) (inside rest : Tree)
+    → fields (element id first whole c inside rest)
+    ≡ record { identifier = id; place = first; whole = whole; content = c; inside = inside } ∷ fields rest
+unfolding fields
+fields-element id first whole c inside rest = refl
+
+-- the fields of a list make the list
+pub chain-fields : (t : Tree) → chain (fields t) ≡ t
+unfolding fields chain
+chain-fields none = refl
+chain-fields (element id first whole c inside rest) = ap (element id first whole c inside) (chain-fields rest)
+
+-- some fields are the fields of the list that they make
+pub fields-chain : (fs : List Field) → fields (chain fs) ≡ fs
+unfolding fields chain
+fields-chain [] = refl
+fields-chain (f ∷ fs) = ap (λ (gs : List Field). f ∷ gs) (fields-chain fs)
+
+-- the encoding of a list of elements is its fields' octets, one behind the other
+pub encode-fields : (t : Tree) → encode t ≡ flatMap octets (fields t)
+unfolding fields flatMap octets
+encode-fields none = encode-none
+encode-fields (element id first whole c inside rest) =
+    encode-element id first whole c inside rest ∙ ap (λ (bs : List ℕ). (header id c ++ c) ++ bs) (encode-fields rest)
+
+-- A field is well-formed with so many levels of depth left, its own among them.
+abbrev pub FormedField : ℕ → Field → Type 0
+FormedField zero f = ⊥
+FormedField (suc left) f =
+    Formed (f .place) (f .identifier) (f .place) (f .whole) (f .content) (f .inside) (WellFormed left (start f) (f .inside))
+
+-- the fields of well-formed elements are well-formed
+pub fields-formed : (left p : ℕ) (t : Tree) → WellFormed left p t → (f : Field) → List·Memᴰ f (fields t) → FormedField left f
+unfolding fields
+fields-formed left p none w f m = absurd (List·Memᴰ·not-nil m)
+fields-formed zero p (element id first whole c inside rest) w f m = absurd (well-formed-deep p id first whole c inside rest w)
+fields-formed (suc left) p (element id first whole c inside rest) w f (List·Memᴰ·head e) =
+    let one = well-formed-element left p id first whole c inside rest .0 w .0 in
+    rw e
+    (subst (λ (q : ℕ). Formed q id first whole c inside (WellFormed left (q + length (header id c)) inside)) (sym (one .placed)) one)
+fields-formed (suc left) p (element id first whole c inside rest) w f (List·Memᴰ·tail m) =
+    fields-formed (suc left) (p + whole) rest (well-formed-element left p id first whole c inside rest .0 w .1) f m
+
+-- well-formed elements stand one behind the other
+pub fields-run : (left p : ℕ) (t : Tree) → WellFormed left p t → Runs p (p + length (encode t)) (fields t)
+unfolding fields octets
+fields-run left p none w = omega (arith, ap length encode-none)
+fields-run zero p (element id first whole c inside rest) w = absurd (well-formed-deep p id first whole c inside rest w)
+fields-run (suc left) p (element id first whole c inside rest) w =
+    let (one, more) = well-formed-element left p id first whole c inside rest .0 w in
+    let size : p + whole + length (encode rest) ≡ p + length (encode (element id first whole c inside rest))
+    = omega (arith, one .sized, encode-length id first whole c inside rest) in
+    (one .placed, one .sized, subst (λ (e : ℕ). Runs (p + whole) e (fields rest)) size (fields-run (suc left) (p + whole) rest more))
+
+-- well-formed fields that stand one behind the other are well-formed elements
+pub chain-formed : (left from to : ℕ) (fs : List Field) → Runs from to fs → ((f : Field) → List·Memᴰ f fs → FormedField left f)
+    → WellFormed left from (chain fs)
+unfolding chain
+chain-formed left from to [] run each = well-formed-none left from
+chain-formed zero from to (f ∷ fs) run each = absurd (each f (List·Memᴰ·head refl))
+chain-formed (suc left) from to (f ∷ fs) run each =
+    let own = each f (List·Memᴰ·head refl) in
+    well-formed-element left from (f .identifier) (f .place) (f .whole) (f .content) (f .inside) (chain fs) .1 (
+      subst
+          (λ (q : ℕ). Formed q (f .identifier) (f .place) (f .whole) (f .content) (f .inside) (WellFormed left (q + length (header (f .identifier) (f .content))) (f .inside)))
+          (run .0)
+          own,
+      chain-formed (suc left) (from + f .whole) to fs (run .2) (λ g m. each g (List·Memᴰ·tail m)),
+    )
+
+-- fields that stand one behind the other end at or behind where they begin
+runs-up : (from to : ℕ) (fs : List Field) → Runs from to fs → from ≤ to
+runs-up from to [] run = omega arith
+runs-up from to (f ∷ fs) run = omega (arith, runs-up (from + f .whole) to fs (run .2))
+
+-- each of them lies within
+pub runs-within : (from to : ℕ) (fs : List Field) → Runs from to fs → (f : Field) → List·Memᴰ f fs → (from ≤ f .place) × (finish f ≤ to)
+runs-within from to [] run f m = absurd (List·Memᴰ·not-nil m)
+runs-within from to (g ∷ fs) run f (List·Memᴰ·head e) = rw e (omega (arith, run .0, runs-up (from + g .whole) to fs (run .2)))
+runs-within from to (g ∷ fs) run f (List·Memᴰ·tail m) =
+    omega (arith, runs-within (from + g .whole) to fs (run .2) f m)
+
+-- a field's parts lie within its content
+pub consists-within : {f : Field} {fs : List Field} → Consists f fs → (g : Field) → List·Memᴰ g fs → (start f ≤ g .place) × (finish g ≤ finish f)
+consists-within {f} {fs} c g m = runs-within (start f) (finish f) fs (c .placed) g m
+
+-- what is inside a well-formed constructed field is well-formed
+pub inside-formed : (left : ℕ) (f : Field) → FormedField (suc left) f → constructed (f .identifier) ≡ true
+    → WellFormed left (start f) (f .inside)
+inside-formed left f formed made = formed .filled made .1
+
+-- a well-formed constructed field consists of the fields inside it
+pub consists-fields : (left : ℕ) (f : Field) → FormedField left f → constructed (f .identifier) ≡ true → Consists f (fields (f .inside))
+consists-fields zero f formed made = absurd formed
+consists-fields (suc left) f formed made =
+    let filled = formed .filled made in
+    let size : start f + length (encode (f .inside)) ≡ finish f
+    = omega (arith, formed .sized, length-append (header (f .identifier) (f .content)) (f .content), ap length (filled .0)) in
+    record {
+      held = refl;
+      written = filled .0 ∙ encode-fields (f .inside);
+      placed = subst (λ (e : ℕ). Runs (start f) e (fields (f .inside))) size (fields-run left (start f) (f .inside) (filled .1));
+    }
+
+-- a field inside a well-formed constructed field is well-formed
+pub child-formed : (left : ℕ) (f : Field) → FormedField (suc left) f → constructed (f .identifier) ≡ true
+    → (g : Field) → List·Memᴰ g (fields (f .inside)) → FormedField left g
+child-formed left f formed made g m = fields-formed left (start f) (f .inside) (inside-formed left f formed made) g m
+
+-- the first of the octets that stand at a place
+pub stands-left : (s : List ℕ) (p : ℕ) (a b : List ℕ) → StandsAt s p (a ++ b) → StandsAt s p a
+stands-left s p a b h =
+    let within : length a ≤ length (a ++ b) = omega (arith, length-append a b) in
+    sym (take-take (length a) (length (a ++ b)) (drop p s) within) ∙ ap (take (length a)) h ∙ take-append-seam a b
+
+-- those behind the first
+pub stands-right : (s : List ℕ) (p : ℕ) (a b : List ℕ) → StandsAt s p (a ++ b) → StandsAt s (p + length a) b
+stands-right s p a b h =
+    let front = stands-left s p a b h in
+    let both : take (length a) (drop p s) ++ take (length b) (drop (length a) (drop p s)) ≡ a ++ b
+    = sym (take-add (length a) (length b) (drop p s)) ∙ subst (λ (n : ℕ). take n (drop p s) ≡ a ++ b) (length-append a b) h in
+    rw (drop-drop (length a) p s) at (append-parts (take (length a) (drop p s)) a (take (length b) (drop (length a) (drop p s))) b (ap length front) both .1)
+
+-- octets that stand at a place fit behind it
+pub stands-fit : (s : List ℕ) (p : ℕ) (part : List ℕ) → StandsAt s p part → 1 ≤ length part → p + length part ≤ length s
+stands-fit s p part h n = omega (arith, simp (length-take, length-drop) at (ap length h))
+
+-- fields that stand one behind the other stand each at its place
+pub runs-stand : (s : List ℕ) (from to : ℕ) (fs : List Field) → Runs from to fs → StandsAt s from (flatMap octets fs)
+    → (f : Field) → List·Memᴰ f fs → StandsAt s (f .place) (octets f)
+unfolding flatMap octets
+runs-stand s from to [] run h f m = absurd (List·Memᴰ·not-nil m)
+runs-stand s from to (g ∷ fs) run h f (List·Memᴰ·head e) = rw (e, run .0) (stands-left s from (octets g) (flatMap octets fs) h)
+runs-stand s from to (g ∷ fs) run h f (List·Memᴰ·tail m) =
+    runs-stand s (from + g .whole) to fs (run .2) (rw (run .1) (stands-right s from (octets g) (flatMap octets fs) h)) f m
+
+-- A field that stands at its place has its content there.
+pub content-stands : (s : List ℕ) (f : Field) → StandsAt s (f .place) (octets f) → StandsAt s (start f) (f .content)
+unfolding octets
+content-stands s f h = stands-right s (f .place) (header (f .identifier) (f .content)) (f .content) h
+
+-- A field that stands at its place has the fields there that it consists of.
+pub consists-stand : (s : List ℕ) (f : Field) (fs : List Field) → Consists f fs → StandsAt s (f .place) (octets f)
+    → (g : Field) → List·Memᴰ g fs → StandsAt s (g .place) (octets g)
+consists-stand s f fs c h g m =
+    runs-stand s (start f) (finish f) fs (c .placed) (subst (StandsAt s (start f)) (c .written) (content-stands s f h)) g m
+
+-- what holds of a field, if there is one
+abbrev pub IfAny : (Field → Type 0) → Option Field → Type 0
+IfAny P absent = Unit {0}
+IfAny P (some f) = P f
+
+-- what holds of a field where another thing does
+pub if-any : {P Q : Field → Type 0} (o : Option Field) → ((f : Field) → P f → Q f) → IfAny P o → IfAny Q o
+if-any absent step p = tt
+if-any (some f) step p = step f p
+
+-- what is found is one of the fields, and has one of the identifiers
+pub seek-found : (ids : List ℕ) (fs : List Field) (f : Field) → seek ids fs ≡ some f → List·Memᴰ f fs × (among ids (f .identifier) ≡ true)
+unfolding seek
+seek-found ids [] f e = absurd (Option·none-ne-some f e)
+seek-found ids (g ∷ fs) f e = by-test (among ids (g .identifier)) refl e (seek-found ids fs f)
+  where
+    by-test : (b : Bool) → among ids (g .identifier) ≡ b → elim b as (λ x. Option Field) [ true ↦ some g | false ↦ seek ids fs ] ≡ some f
+        → (seek ids fs ≡ some f → List·Memᴰ f fs × (among ids (f .identifier) ≡ true))
+        → List·Memᴰ f (g ∷ fs) × (among ids (f .identifier) ≡ true)
+    by-test true test here below =
+        let same : g ≡ f = Option·some-injective g f here in
+        (List·Memᴰ·head (sym same), subst (λ (x : Field). among ids (x .identifier) ≡ true) same test)
+    by-test false test there below = let (m, own) = below there in (List·Memᴰ·tail m, own)
+
+-- where nothing is found, no field has one of the identifiers
+pub seek-missing : (ids : List ℕ) (fs : List Field) → seek ids fs ≡ absent → (f : Field) → List·Memᴰ f fs → among ids (f .identifier) ≡ false
+unfolding seek
+seek-missing ids [] e f m = absurd (List·Memᴰ·not-nil m)
+seek-missing ids (g ∷ fs) e f m = by-test (among ids (g .identifier)) refl e (seek-missing ids fs) (List·Memᴰ·cases-cons m)
+  where
+    by-test : (b : Bool) → among ids (g .identifier) ≡ b
+        → _≡_ {A = Option Field} (elim b as (λ x. Option Field) [ true ↦ some g | false ↦ seek ids fs ]) absent
+        → (seek ids fs ≡ absent → (x : Field) → List·Memᴰ x fs → among ids (x .identifier) ≡ false)
+        → (f ≡ g) ⊎ List·Memᴰ f fs → among ids (f .identifier) ≡ false
+    by-test true test here below place = absurd (Option·some-ne-none g here)
+    by-test false test there below (inl same) = rw same test
+    by-test false test there below (inr n) = below there f n
+
+-- the first of such fields that has one of the identifiers, where there is no other
+pub seek-own : (ids : List ℕ) (o : Option Field) → IfAny (λ f. among ids (f .identifier) ≡ true) o → seek ids (listed o) ≡ o
+unfolding seek listed
+seek-own ids absent e = refl
+seek-own ids (some f) e = rw (e, seek)
+
+-- behind a field that may stand there and has none of them
+pub seek-behind : (ids : List ℕ) (o : Option Field) (fs : List Field) → IfAny (λ f. among ids (f .identifier) ≡ false) o
+    → seek ids (listed o ++ fs) ≡ seek ids fs
+unfolding seek listed
+seek-behind ids absent fs e = refl
+seek-behind ids (some f) fs e = rw (e, seek)
+
+-- before a field that has none of them
+pub seek-before : (ids : List ℕ) (o p : Option Field) → IfAny (λ f. among ids (f .identifier) ≡ true) o
+    → IfAny (λ f. among ids (f .identifier) ≡ false) p → seek ids (listed o ++ listed p) ≡ o
+unfolding seek listed
+seek-before ids absent absent e n = refl
+seek-before ids absent (some f) e n = rw (n, seek)
+seek-before ids (some f) p e n = rw (e, seek)
+
+-- the fields of elements further on are the fields further on
+pub fields-moved : (d : ℕ) (t : Tree) → fields (moved d t) ≡ map (movedField d) (fields t)
+unfolding fields movedField
+fields-moved d none = ap fields (moved-none d)
+fields-moved d (element id first whole c inside rest) =
+    ap fields (moved-element d id first whole c inside rest)
+    ∙ ap
+    (λ (fs : List Field). record { identifier = id; place = d + first; whole = whole; content = c; inside = moved d inside } ∷ fs)
+    (fields-moved d rest)
+
+-- the fields inside a field further on
+pub inside-moved : (d : ℕ) (f : Field) → fields (movedField d f .inside) ≡ map (movedField d) (fields (f .inside))
+unfolding movedField
+inside-moved d f = fields-moved d (f .inside)
+
+-- a field further on, by its number
+pub nth-moved : (d n : ℕ) (f : Field) → nth n (movedField d f) ≡ movedField d (nth n f)
+unfolding nth movedField missing
+nth-moved d n f =
+    let absence : missing (movedField d f) ≡ movedField d (missing f) =
+    ap (λ (t : Tree). record { identifier = 0; place = d + f .place; whole = 0; content = []; inside = t }) (sym (moved-none d)) in
+    ap₂ (λ (fs : List Field) (g : Field). getD fs n g) (fields-moved d (f .inside)) absence
+    ∙ List·getD-map (movedField d) (fields (f .inside)) n (missing f)
+
+-- a field further on, by its identifier
+pub seek-moved : (d : ℕ) (ids : List ℕ) (fs : List Field) → seek ids (map (movedField d) fs) ≡ Option·map (movedField d) (seek ids fs)
+unfolding seek movedField
+seek-moved d ids [] = refl
+seek-moved d ids (f ∷ fs) = by-test (among ids (f .identifier)) (seek-moved d ids fs)
+  where
+    by-test : (b : Bool) → seek ids (map (movedField d) fs) ≡ Option·map (movedField d) (seek ids fs)
+        → elim b as (λ x. Option Field) [ true ↦ some (movedField d f) | false ↦ seek ids (map (movedField d) fs) ]
+        ≡ Option·map (movedField d) (elim b as (λ x. Option Field) [ true ↦ some f | false ↦ seek ids fs ])
+    by-test true e = refl
+    by-test false e = e
+
+-- a field inside a field further on, by its identifier
+pub child-moved : (d id : ℕ) (f : Field) → child id (movedField d f) ≡ Option·map (movedField d) (child id f)
+unfolding child
+child-moved d id f = rw (inside-moved d f) (seek-moved d (id ∷ []) (fields (f .inside)))
+
+-- fields further on, behind the first ones
+pub drop-moved : (d n : ℕ) (fs : List Field) → drop n (map (movedField d) fs) ≡ map (movedField d) (drop n fs)
+drop-moved d zero fs = refl
+drop-moved d (suc n) [] = refl
+drop-moved d (suc n) (f ∷ fs) = drop-moved d n fs
+
+-- a field further on has the same octets
+pub octets-moved : (d : ℕ) (f : Field) → octets (movedField d f) ≡ octets f
+unfolding octets movedField
+octets-moved d f = refl
+
+-- a well-formed field is well-formed further on
+pub formed-moved : (d left : ℕ) (f : Field) → FormedField left f → FormedField left (movedField d f)
+unfolding movedField
+formed-moved d zero f formed = absurd formed
+formed-moved d (suc left) f formed =
+    record {
+      placed = refl;
+      sized = formed .sized;
+      identified = formed .identified;
+      filled = λ e. (
+        formed .filled e .0 ∙ sym (encode-moved d (f .inside)),
+        rw (add-assoc d (f .place) (length (header (f .identifier) (f .content)))) (well-formed-moved d left (start f) (f .inside) (formed .filled e .1)),
+      );
+      valued = λ e. (ap (moved d) (formed .valued e .0) ∙ moved-none d, formed .valued e .1);
+    }
+
+-- fields that stand one behind the other do so further on
+pub runs-moved : (d from to : ℕ) (fs : List Field) → Runs from to fs → Runs (d + from) (d + to) (map (movedField d) fs)
+unfolding movedField octets
+runs-moved d from to [] run = ap (λ (n : ℕ). d + n) run
+runs-moved d from to (f ∷ fs) run =
+    (ap (λ (n : ℕ). d + n) (run .0), run .1, rw (add-assoc d from (f .whole)) (runs-moved d (from + f .whole) to fs (run .2)))
+
+-- fields that stand one behind the other, behind others that do
+pub runs-append : (from mid to : ℕ) (fs gs : List Field) → Runs from mid fs → Runs mid to gs → Runs from to (fs ++ gs)
+runs-append from mid to [] gs run more = rw run more
+runs-append from mid to (f ∷ fs) gs run more = (run .0, run .1, runs-append (from + f .whole) mid to fs gs (run .2) more)
+
+-- the octets of fields behind others
+pub octets-append : (fs gs : List Field) → flatMap octets (fs ++ gs) ≡ flatMap octets fs ++ flatMap octets gs
+unfolding flatMap
+octets-append [] gs = refl
+octets-append (f ∷ fs) gs = rw (octets-append fs gs) (sym (append-assoc (octets f) (flatMap octets fs) (flatMap octets gs)))

@@ -1,0 +1,8 @@
+-- A batch is the assembly of the pieces that its rows show.
+pub mod AssembledOctets
+pub mod Assembly
+pub mod PieceLaws
+pub mod PiecesOf
+pub mod ShownParts
+pub mod ShownPieces
+pub mod Tiled

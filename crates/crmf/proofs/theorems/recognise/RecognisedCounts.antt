@@ -1,0 +1,243 @@
+-- What the recogniser says of a batch: the walk that reads every form passes with the same rows, and has met no long certReqId and no form
+-- of the other edition. Assumes nothing.
+use Prim.Native.Nat.{ℕ, _+_, _≤_}
+use native.Mathlib.Omega.{arith}
+use mathlib.Core.Path.{_≡_, refl, sym, _∙_, ap, subst}
+use mathlib.Core.Bool.{Bool, true, false, _&&_, not, and-eq-true-iff}
+use mathlib.Core.List.{List, [], _∷_}
+use lib.Dec.{eqb}
+use lib.ListN.{length}
+use borrow.Author.Tests.{eqb-true, not-true}
+use Rattle.der.specs.declared.explain.Nest.the-variants.{End}
+use Rattle.der.specs.meaning.Tree.{Tree, none, element, Single}
+use Rattle.der.specs.meaning.Bounds.{depth, longest}
+use Rattle.der.specs.steps.Explain.{walkAt}
+use Rattle.der.specs.steps.Recognise.{isList}
+use Rattle.der.specs.steps.Reading.{tree}
+use Rattle.der.proofs.Laws.{is-list-short, is-list-single, single-element}
+use Rattle.crmf.specs.declared.recognise.Recognition.{Recognition}
+use Rattle.crmf.specs.declared.recognise.Recognition.the-variants.{Rows, Unrecognised}
+use Rattle.crmf.specs.declared.explain.tally.Tally.{Tally}
+use Rattle.crmf.specs.declared.explain.Walked.{Walked}
+use Rattle.crmf.specs.declared.explain.Walked.the-variants.{Passed}
+use Rattle.crmf.specs.declared.grammar.judge.Onward.{Onward}
+use Rattle.crmf.specs.declared.grammar.judge.Onward.the-variants.{To, Breaks}
+use Rattle.crmf.specs.declared.grammar.table.Found.{Found}
+use Rattle.crmf.specs.declared.grammar.table.Found.the-variants.{At, Nowhere}
+use Rattle.crmf.specs.meaning.Notation.{Mark, both, alone, Top, Form, once, part}
+use Rattle.crmf.specs.meaning.Grammar.{content}
+use Rattle.crmf.specs.meaning.Language.{readable, occurs, Matches, end, pass, take}
+use Rattle.crmf.specs.meaning.Rows.{longId, longer}
+use Rattle.crmf.specs.steps.grammar.Lines.{Line, start}
+use Rattle.crmf.specs.steps.explain.Walk.{line, seek, closed, judged, rowsBy, met, walk, fresh, countOf}
+use Rattle.crmf.specs.steps.recognise.Count.{stands, counts, countsAt, quickCount}
+use Rattle.crmf.proofs.theorems.recognise.CountSteps.{not-recognised, same-rows, countsIn, within}
+use Rattle.crmf.proofs.theorems.recognise.CountSteps.{counts-closed, counts-open, counts-nowhere, counts-wrong, counts-breaks, counts-none, counts-next}
+use Rattle.crmf.proofs.theorems.explain.Passing.{innerWalk, walk-closed, walk-next}
+use Rattle.crmf.proofs.theorems.explain.EveryForm.{all, all-read}
+use Rattle.crmf.proofs.theorems.editions.ReadableSets.{firstOf}
+use Rattle.crmf.proofs.theorems.editions.FirstSeen.{Edition, first-edition, second-edition, firstSeen, after, after-none, after-known, after-unknown, met-seen}
+use Rattle.crmf.proofs.theorems.editions.OneEdition.{other, other-edition}
+use Rattle.crmf.proofs.theorems.rows.RowsOfLines.{met-count}
+use Rattle.crmf.proofs.theorems.explain.LongIds.{met-long}
+use Rattle.crmf.proofs.theorems.explain.Accepts.{accepts-sound}
+use Rattle.crmf.proofs.theorems.explain.WholeInput.{count-whole}
+
+-- What the count found for the first of elements that are recognised: its line, the rows up to its end, and the line after it.
+record FirstCounted (e k n id first whole : ℕ) (c : List ℕ) (inside rest : Tree) : Type 0 where
+  at : ℕ
+  found : seek k id ≡ At at
+  standing : stands e (line at) whole ≡ true
+  rows : ℕ
+  within : countsIn e (line at .inside) (n + rowsBy (line at)) inside ≡ Rows rows
+  next : ℕ
+  onward : judged (line at .judge) (line at .next) c ≡ To next
+  same : counts e k n (element id first whole c inside rest) ≡ counts e next rows rest
+
+module _ (e k n id first whole : ℕ) (c : List ℕ) (inside rest : Tree) where
+  -- Of elements that are recognised, the first has a line in whose form it may stand, an inside that is recognised, and a good value.
+  counted-element : (r : ℕ) → counts e k n (element id first whole c inside rest) ≡ Rows r → FirstCounted e k n id first whole c inside rest
+  counted-element r some = by-line (seek k id) refl
+    where
+      no : counts e k n (element id first whole c inside rest) ≡ Unrecognised → FirstCounted e k n id first whole c inside rest
+      no nothing = not-recognised (sym nothing ∙ some)
+
+      by-inside : (j : ℕ) → (found : seek k id ≡ At j) → stands e (line j) whole ≡ true → (next : ℕ) → judged (line j .judge) (line j .next) c ≡ To next
+          → (m : Recognition) → within e k n id first whole c inside rest j found ≡ m → FirstCounted e k n id first whole c inside rest
+      by-inside j found good next onward Unrecognised nothing = no (counts-none e k n id first whole c inside rest j found nothing)
+      by-inside j found good next onward (Rows m) inner =
+          record {
+            at = j;
+            found = found;
+            standing = good;
+            rows = m;
+            within = inner;
+            next = next;
+            onward = onward;
+            same = counts-next e k n id first whole c inside rest j found next m good onward inner;
+          }
+
+      by-onward : (j : ℕ) → (found : seek k id ≡ At j) → stands e (line j) whole ≡ true → (o : Onward) → judged (line j .judge) (line j .next) c ≡ o
+          → FirstCounted e k n id first whole c inside rest
+      by-onward j found good (Breaks d) breaks = no (counts-breaks e k n id first whole c inside rest j found d breaks)
+      by-onward j found good (To next) onward = by-inside j found good next onward (within e k n id first whole c inside rest j found) refl
+
+      by-test : (j : ℕ) → (found : seek k id ≡ At j) → (b : Bool) → stands e (line j) whole ≡ b → FirstCounted e k n id first whole c inside rest
+      by-test j found false wrong = no (counts-wrong e k n id first whole c inside rest j found wrong)
+      by-test j found true good = by-onward j found good (judged (line j .judge) (line j .next) c) refl
+
+      by-line : (f : Found) → seek k id ≡ f → FirstCounted e k n id first whole c inside rest
+      by-line Nowhere missing = no (counts-nowhere e k n id first whole c inside rest missing)
+      by-line (At j) found = by-test j found (stands e (line j) whole) refl
+
+-- a form that an edition reads leaves what is known of the other's
+own-after : {e : ℕ} → Edition e → (h : ℕ × ℕ) (m : Mark) (p : ℕ) → readable (λ y. eqb y e) m ≡ true → after (other e) h (occurs m p) ≡ h
+unfolding firstOf
+own-after {e} ed h both p read = after-none (other e) h
+own-after {e} ed h (alone f d) p read = rw (eqb-true f e read) (go ed (eqb (h .0) 0) refl)
+  where
+    go : {e : ℕ} → Edition e → (b : Bool) → eqb (h .0) 0 ≡ b → after (other e) h (occurs (alone e d) p) ≡ h
+    go {e} known-edition false known = after-known (other e) h _ known
+    go first-edition true unknown = after-unknown 2 h _ unknown
+    go second-edition true unknown = after-unknown 1 h _ unknown
+
+-- How what was met goes on from s to r, where n rows and then m are counted: with as many rows more, and with nothing that the edition refuses.
+record Adds (e n m : ℕ) (s r : Tally) : Type 0 where
+  rows : r .count + n ≡ s .count + m
+  short : r .long .whole ≡ s .long .whole
+  clear : firstSeen (other e) r ≡ firstSeen (other e) s
+
+-- how a walk passes that goes on so
+abbrev Goes : ℕ → ℕ → ℕ → Tally → Walked → Type 0
+Goes e n m s w = (r : Tally) × (w ≡ Passed r) × Adds e n m s r
+
+-- an element that may stand in a line's form, met
+adds-met : {e : ℕ} → Edition e → (x : Line) (p w n : ℕ) (s : Tally) → stands e x w ≡ true → Adds e n (n + rowsBy x) s (met x p w s)
+adds-met {e} ed x p w n s standing =
+    let good = and-eq-true-iff (readable (λ y. eqb y e) (x .mark)) (not (longId (x .kind) w)) .0 standing in
+    let unmet : longer (s .long .whole, s .long .place) (x .kind) p w ≡ (s .long .whole, s .long .place) = rw (longer, not-true (longId (x .kind) w) (good .1)) in
+    record {
+      rows = omega (arith, met-count x p w s);
+      short = ap (λ (h : ℕ × ℕ). h .0) (met-long x p w s ∙ unmet);
+      clear = met-seen (other-edition ed) x p w s ∙ own-after ed (firstSeen (other e) s) (x .mark) p (good .0);
+    }
+
+-- nothing more
+adds-none : (e n : ℕ) (s : Tally) → Adds e n n s s
+adds-none e n s = record { rows = refl; short = refl; clear = refl }
+
+-- one step and another
+adds-on : {e n m k : ℕ} {s r v : Tally} → Adds e n m s r → Adds e m k r v → Adds e n k s v
+adds-on g h = record { rows = omega (arith, g .rows, h .rows); short = h .short ∙ g .short; clear = h .clear ∙ g .clear }
+
+-- inside an element, from the elements inside it
+goes-within : (e : ℕ) (s : Tally) (i place n : ℕ) (inside : Tree) (r : ℕ)
+    → (counts e i n inside ≡ Rows r → Goes e n r s (walk all s i place inside))
+    → countsIn e i n inside ≡ Rows r → Goes e n r s (innerWalk all s i place inside)
+unfolding innerWalk
+goes-within e s i place n inside r inner some = go (eqb i 0) some
+  where
+    go : (b : Bool) → (elim b as (λ x. Recognition) [ true ↦ Rows n | false ↦ counts e i n inside ]) ≡ Rows r
+        → Goes e n r s (elim b [ true ↦ Passed s | false ↦ walk all s i place inside ])
+    go true free = (s, refl, subst (λ (m : ℕ). Adds e n m s s) (same-rows free) (adds-none e n s))
+    go false starts = inner starts
+
+-- whether elements that are recognised the walk that reads every form passes so
+abbrev Walks : ℕ → Tree → Type 0
+Walks e t = (s : Tally) (k around n r : ℕ) → counts e k n t ≡ Rows r → Goes e n r s (walk all s k around t)
+
+-- at the end of the elements
+walks-none : (e : ℕ) → Walks e none
+walks-none e s k around n r some = go (closed k) refl
+  where
+    go : (b : Bool) → closed k ≡ b → Goes e n r s (walk all s k around none)
+    go true shut =
+        (s, walk-closed all s k around shut, subst (λ (m : ℕ). Adds e n m s s) (same-rows (sym (counts-closed e k n shut) ∙ some)) (adds-none e n s))
+    go false gap = not-recognised (sym (counts-open e k n gap) ∙ some)
+
+-- at an element, from the elements inside it and those after it
+walks-element : {e : ℕ} → Edition e → (id first whole : ℕ) (c : List ℕ) (inside rest : Tree) → Walks e inside → Walks e rest
+    → Walks e (element id first whole c inside rest)
+walks-element {e} ed id first whole c inside rest inner later s k around n total some =
+    go (counted-element e k n id first whole c inside rest total some)
+  where
+    t : Tree
+    t = element id first whole c inside rest
+
+    go : FirstCounted e k n id first whole c inside rest → Goes e n total s (walk all s k around t)
+    go f =
+        let x = line (f .at) in
+        let own = n + rowsBy x in
+        let m = met x first whole s in
+        let (i, is, within) = goes-within e m (x .inside) first own inside (f .rows) (inner m (x .inside) first own (f .rows)) (f .within) in
+        let (r, passed, after-it) = later i (f .next) around (f .rows) total (sym (f .same) ∙ some) in (
+          r,
+          walk-next all s k around id first whole c inside rest (f .at) (f .next) i (f .found) (all-read (x .mark)) is (f .onward) ∙ passed,
+          adds-on (adds-on (adds-met ed x first whole n s (f .standing)) within) after-it,
+        )
+
+-- Elements that are recognised the walk that reads every form passes, with as many rows; it meets no long certReqId and no form of the other
+-- edition.
+counts-walk : {e : ℕ} → Edition e → (t : Tree) → Walks e t
+counts-walk {e} ed none = walks-none e
+counts-walk ed (element id first whole c inside rest) =
+    walks-element ed id first whole c inside rest (counts-walk ed inside) (counts-walk ed rest)
+
+-- no parts describe no elements
+none-left : {R : ℕ → Bool} {t : Tree} → Matches R [] t → t ≡ none
+none-left end = refl
+
+-- one needed part describes a single element
+one-matched : {R : ℕ → Bool} {fs : List Form} {t : Tree} → Matches R (part once fs ∷ []) t → Single t
+one-matched (pass ok m) = absurd ok
+one-matched (take f among fits read kept within m) = single-element _ _ _ _ _ _ .1 (none-left m)
+
+-- What is recognised from the grammar's top on is a single element.
+counts-single : {e : ℕ} → Edition e → (n m : ℕ) (t : Tree) → counts e (start Top) n t ≡ Rows m → Single t
+unfolding content
+counts-single ed n m t some =
+    let (r, passed, more) = counts-walk ed t fresh (start Top) 0 n m some in
+    one-matched (accepts-sound all fresh r Top 0 t passed)
+
+-- an input that is recognised has no fault in its nest
+quick-sound : (e n : ℕ) (s : List ℕ) → quickCount e s ≡ Rows n → (isList depth s ≡ true) × (counts e (start Top) 0 (tree 0 s) ≡ Rows n)
+unfolding quickCount countsAt
+quick-sound e n s is = go (isList depth s) refl
+  where
+    go : (b : Bool) → isList depth s ≡ b → (isList depth s ≡ true) × (counts e (start Top) 0 (tree 0 s) ≡ Rows n)
+    go true sound = (sound, sym (rw (quickCount, countsAt, sound)) ∙ is)
+    go false faulty = let nothing : quickCount e s ≡ Unrecognised = rw (quickCount, countsAt, faulty) in not-recognised (sym nothing ∙ is)
+
+-- What the recogniser says of an input with n rows: it is one element that is not too long, without a fault in its nest, and the walk
+-- that reads every form passes with as many rows, no long certReqId and no form of the other edition.
+pub record Quick (e : ℕ) (s : List ℕ) (n : ℕ) : Type 0 where
+  pub fits : length s ≤ longest
+  pub ends : walkAt s 0 (length s) ≡ End (length s)
+  pub seen : Tally
+  pub passed : countOf s ≡ Passed seen
+  pub rows : seen .count ≡ n
+  pub short : seen .long .whole ≡ 0
+  pub clear : firstSeen (other e) seen .0 ≡ 0
+
+-- At first no form of the other edition was met.
+pub none-met : {e : ℕ} → Edition e → firstSeen (other e) fresh .0 ≡ 0
+unfolding fresh
+none-met first-edition = refl
+none-met second-edition = refl
+
+-- An input that is recognised with n rows is such an input.
+pub quick-walk : {e : ℕ} → Edition e → (s : List ℕ) (n : ℕ) → quickCount e s ≡ Rows n → Quick e s n
+unfolding fresh
+quick-walk {e} ed s n is =
+    let (sound, counted) = quick-sound e n s is in
+    let (r, passed, g) = counts-walk ed (tree 0 s) fresh (start Top) 0 0 n counted in
+    let fits = is-list-short depth s sound in
+    record {
+      fits = fits;
+      ends = is-list-single s sound (counts-single ed 0 n (tree 0 s) counted);
+      seen = r;
+      passed = count-whole s fits ∙ passed;
+      rows = omega (arith, g .rows);
+      short = g .short;
+      clear = ap (λ (h : ℕ × ℕ). h .0) (g .clear) ∙ none-met ed;
+    }

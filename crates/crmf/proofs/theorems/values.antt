@@ -1,0 +1,3 @@
+-- The value rules.
+pub mod ValueRules
+pub mod ValueVectors

@@ -1,0 +1,110 @@
+-- The grammar of document 01, a line for each of its own: what each container holds. Identifiers in hex, kinds by name. Assumes nothing.
+use mathlib.Core.List.{List, [], _∷_}
+use Rattle.crmf.specs.meaning.Value.{integer, boolean, bitString, empty, zeroOrOne, true-only, utcTime, generalizedTime, some, never}
+use Rattle.crmf.specs.meaning.Value.{action, method, controlType, infoType}
+use Rattle.crmf.specs.meaning.Kinds as kinds
+use Rattle.crmf.specs.meaning.Notation.{Name, Part, select, plain, holding, ruled, aGeneralName, aValue, row, itemRow, only, one, maybe, any, oneOf, maybeOneOf, plus}
+use Rattle.crmf.specs.meaning.Notation.{Top, Batch, Message, CertReq, Template, Validity, Time, AlgId, Spki, OneName, RdnSequence, Rdn, Attribute, Extensions, Extension}
+use Rattle.crmf.specs.meaning.Notation.{Signature, PoposkInput, Sender, PkMac, KeyProof}
+use Rattle.crmf.specs.meaning.Notation.{Controls, Control, UnknownControl, RegToken, Authenticator, PublicationInfo, ArchiveOptions, OldCertId, ProtocolKey}
+use Rattle.crmf.specs.meaning.Notation.{PubInfo, NotPublished, Published, Locations, Location, DontCare, Where, Archived, CertId}
+use Rattle.crmf.specs.meaning.Notation.{RegInfo, Info, UnknownInfo, Pairs, Carried}
+
+unfoldable pub content : Name → List Part
+-- "Batch 30": the input's one element
+content Top = one (row kinds.batch (holding 0x30 Batch)) ∷ []
+-- "message+"
+content Batch = plus (row kinds.message (holding 0x30 Message))
+-- "Message 30: certReq, proof?, regInfo?"; "raVerified 80 empty", "signature A1", "keyEncipherment A2 or keyAgreement A3"
+content Message =
+    one (row kinds.certReq (holding 0x30 CertReq))
+    ∷ maybeOneOf (row kinds.raVerified (ruled empty (plain 0x80)) ∷ row kinds.signature (holding 0xA1 Signature) ∷ row kinds.keyEncipherment (holding 0xA2 KeyProof) ∷ row kinds.keyAgreement (holding 0xA3 KeyProof) ∷ [])
+    ∷ maybe (row kinds.regInfo (holding 0x30 RegInfo))
+    ∷ []
+-- "certReq 30: certReqId 02, template 30, controls 30?"
+content CertReq = one (row kinds.certReqId (plain 0x02)) ∷ one (row kinds.template (holding 0x30 Template)) ∷ maybe (row kinds.controls (holding 0x30 Controls)) ∷ []
+-- "Template, each optional, in order"
+content Template =
+    -- "version 80 INTEGER, serialNumber 81 INTEGER"
+    maybe (row kinds.version (ruled integer (plain 0x80)))
+    ∷ maybe (row kinds.serialNumber (ruled integer (plain 0x81)))
+    -- "signingAlg A2 AlgId content, issuer A3 (Name), validity A4" with "at least one", "subject A5 (Name)"
+    ∷ maybe (row kinds.signingAlg (holding 0xA2 AlgId))
+    ∷ maybe (row kinds.issuer (holding 0xA3 OneName))
+    ∷ maybe (row kinds.validity (ruled some (holding 0xA4 Validity)))
+    ∷ maybe (row kinds.subject (holding 0xA5 OneName))
+    -- "publicKey A6 Spki content, issuerUID 87 and subjectUID 88 BIT STRING, extensions A9"
+    ∷ maybe (row kinds.publicKey (holding 0xA6 Spki))
+    ∷ maybe (row kinds.issuerUID (ruled bitString (plain 0x87)))
+    ∷ maybe (row kinds.subjectUID (ruled bitString (plain 0x88)))
+    ∷ maybe (row kinds.extensions (holding 0xA9 Extensions))
+    ∷ []
+-- "Validity: notBefore A0 (Time)?, notAfter A1 (Time)?"
+content Validity = maybe (row kinds.notBefore (holding 0xA0 Time)) ∷ maybe (row kinds.notAfter (holding 0xA1 Time)) ∷ []
+-- "Time: 17, YYMMDDHHMMSSZ, or 18, YYYYMMDDHHMMSSZ"
+content Time = oneOf (ruled utcTime (plain 0x17) ∷ ruled generalizedTime (plain 0x18) ∷ []) ∷ []
+-- "AlgId 30: 06, any?"
+content AlgId = one (plain 0x06) ∷ maybe aValue ∷ []
+-- "Spki 30: AlgId, 03"
+content Spki = one (holding 0x30 AlgId) ∷ one (plain 0x03) ∷ []
+-- "Name 30: (31: (30: 06, any)+)*"
+content OneName = one (holding 0x30 RdnSequence) ∷ []
+content RdnSequence = any (holding 0x31 Rdn) ∷ []
+content Rdn = plus (holding 0x30 Attribute)
+content Attribute = one (plain 0x06) ∷ one aValue ∷ []
+-- "Extensions: Extension+"
+content Extensions = plus (row kinds.extension (holding 0x30 Extension))
+-- "Extension 30: 06, 01?, 04, and a BOOLEAN present must be FF"
+content Extension = one (plain 0x06) ∷ maybe (ruled true-only (plain 0x01)) ∷ one (plain 0x04) ∷ []
+-- "signature A1: poposkInput A0?, AlgId, 03"
+content Signature = maybe (row kinds.poposkInput (holding 0xA0 PoposkInput)) ∷ one (row kinds.algId (holding 0x30 AlgId)) ∷ one (row kinds.bits (plain 0x03)) ∷ []
+-- "poposkInput: sender A0 (GeneralName) or PkMac, then Spki"
+content PoposkInput = oneOf (holding 0xA0 Sender ∷ holding 0x30 PkMac ∷ []) ∷ one (holding 0x30 Spki) ∷ []
+content Sender = one aGeneralName ∷ []
+-- "PkMac 30: AlgId, 03"
+content PkMac = one (holding 0x30 AlgId) ∷ one (plain 0x03) ∷ []
+-- "one choice: 80 BIT STRING; 81 INTEGER 0 or 1; 82 BIT STRING; A3 PkMac content; A4 any nest"; "(D1) choices A3 and A4 are edition 2 only"
+content KeyProof =
+    oneOf (row kinds.thisMessage (ruled bitString (plain 0x80))
+    ∷ row kinds.subsequentMessage (ruled zeroOrOne (plain 0x81))
+    ∷ row kinds.dhMac (ruled bitString (plain 0x82))
+    ∷ only 2 1 (row kinds.agreeMac (holding 0xA3 PkMac))
+    ∷ only 2 1 (row kinds.encryptedKey (plain 0xA4))
+    ∷ [])
+    ∷ []
+-- "Controls and regInfo 30: item+. Item 30: type 06, any value"; the value gives the item's row
+content Controls = plus (holding 0x30 Control)
+-- "n of 1 to 6, fix the value"
+content Control =
+    select 0x06 controlType (UnknownControl ∷ RegToken ∷ Authenticator ∷ PublicationInfo ∷ ArchiveOptions ∷ OldCertId ∷ ProtocolKey ∷ []) ∷ []
+content UnknownControl = one (itemRow kinds.unknownControl aValue) ∷ []
+-- "1, 2: 0C"
+content RegToken = one (itemRow kinds.regToken (plain 0x0C)) ∷ []
+content Authenticator = one (itemRow kinds.authenticator (plain 0x0C)) ∷ []
+-- "3: 30: 02 (0 or 1), (30: (30: 02 (0 to 3), GeneralName?)+)?, the list only with 1"
+content PublicationInfo = one (itemRow kinds.publicationInfo (holding 0x30 PubInfo)) ∷ []
+content PubInfo = select 0x02 action (NotPublished ∷ Published ∷ []) ∷ []
+content NotPublished = maybe (ruled never (holding 0x30 Locations)) ∷ []
+content Published = maybe (holding 0x30 Locations) ∷ []
+content Locations = plus (holding 0x30 Location)
+content Location = select 0x02 method (DontCare ∷ Where ∷ Where ∷ Where ∷ []) ∷ []
+-- "(D3) a location beside method 0 is edition 1 only"
+content DontCare = maybe (only 1 3 aGeneralName) ∷ []
+content Where = maybe aGeneralName ∷ []
+-- "4: A0 around one 30 or A0; or 81; or 82 BOOLEAN"
+content ArchiveOptions =
+    oneOf (itemRow kinds.archiveOptions (holding 0xA0 Archived) ∷ itemRow kinds.archiveOptions (plain 0x81) ∷ itemRow kinds.archiveOptions (ruled boolean (plain 0x82)) ∷ []) ∷ []
+content Archived = oneOf (plain 0x30 ∷ plain 0xA0 ∷ []) ∷ []
+-- "5: 30: GeneralName, 02"
+content OldCertId = one (itemRow kinds.oldCertId (holding 0x30 CertId)) ∷ []
+content CertId = one aGeneralName ∷ one (plain 0x02) ∷ []
+-- "6: Spki"
+content ProtocolKey = one (itemRow kinds.protocolKey (holding 0x30 Spki)) ∷ []
+content RegInfo = plus (holding 0x30 Info)
+-- "In regInfo ... n: 1: pairs; 2: a certReq. A type in the other place is unknown, and its value is free"
+content Info = select 0x06 infoType (UnknownInfo ∷ Pairs ∷ Carried ∷ []) ∷ []
+content UnknownInfo = one (itemRow kinds.unknownInfo aValue) ∷ []
+-- "(D2) pairs are 04 in edition 1, 0C in edition 2"
+content Pairs = oneOf (only 1 2 (itemRow kinds.octetPairs (plain 0x04)) ∷ only 2 2 (itemRow kinds.utf8Pairs (plain 0x0C)) ∷ []) ∷ []
+-- "carried certReq item 74 (its child is a 3)"
+content Carried = one (itemRow kinds.carried (row kinds.certReq (holding 0x30 CertReq))) ∷ []

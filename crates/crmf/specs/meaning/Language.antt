@@ -1,0 +1,75 @@
+-- What the grammar means: which element trees a container's parts describe, and where forms of one edition alone occur in them. It names
+-- no line, no search and no order of judging. Assumes nothing.
+use Prim.Native.Nat.{ℕ}
+use mathlib.Core.Path.{_≡_}
+use mathlib.Core.Bool.{Bool, true, false}
+use mathlib.Core.List.{List, [], _∷_, _++_}
+use mathlib.Core.Option.{some}
+use lib.Dec.{T}
+use lib.ListN.{getElem?}
+use Rattle.der.specs.meaning.Tree.{Tree, none, element}
+use Rattle.crmf.specs.meaning.Value.{keeps, Selector, selected}
+use Rattle.crmf.specs.meaning.Notation.{named, Mark, both, alone, Name, Inside, free, holds, Form, Occurs, once, optional, repeated, Part, part, select}
+use Rattle.crmf.specs.meaning.Grammar.{content}
+
+-- A form is readable where both editions allow it, or where R says that the forms of its edition alone may be read.
+abbrev pub readable : (ℕ → Bool) → Mark → Bool
+readable R both = true
+readable R (alone e d) = R e
+
+-- a part that may stand no time
+abbrev pub passable : Occurs → Bool
+passable once = false
+passable optional = true
+passable repeated = true
+
+-- the parts that may stand behind an element of a part
+abbrev pub behind : Occurs → List Form → List Part → List Part
+behind once fs ps = ps
+behind optional fs ps = ps
+behind repeated fs ps = part repeated fs ∷ ps
+
+-- the form is one of the list's
+pub data OneOf (f : Form) : List Form → Type 0 where
+  first : {fs : List Form} → OneOf f (f ∷ fs)
+  later : {g : Form} {fs : List Form} → OneOf f fs → OneOf f (g ∷ fs)
+
+mutual
+  -- The elements are what the parts describe, in the parts' order.
+  pub data Matches (R : ℕ → Bool) : List Part → Tree → Type 0 where
+    end : Matches R [] none
+    pass : {o : Occurs} {fs : List Form} {ps : List Part} {t : Tree} → T (passable o) → Matches R ps t → Matches R (part o fs ∷ ps) t
+    take : {o : Occurs} {fs : List Form} {ps : List Part} {id first whole : ℕ} {c : List ℕ} {inside rest : Tree} (f : Form)
+        → OneOf f fs → T (named (f .identifiers) id) → T (readable R (f .mark)) → T (keeps (f .rule) c) → Within R (f .inside) inside
+        → Matches R (behind o fs ps) rest → Matches R (part o fs ∷ ps) (element id first whole c inside rest)
+    choose : {s : Selector} {names : List Name} {ps : List Part} {id first whole : ℕ} {c : List ℕ} {inside rest : Tree} (n : Name)
+        → getElem? names (selected s c) ≡ some n → Matches R (content n) rest
+        → Matches R (select id s names ∷ ps) (element id first whole c inside rest)
+
+  -- The elements inside an element are what its form asks, if it asks for any.
+  pub data Within (R : ℕ → Bool) : Inside → Tree → Type 0 where
+    unseen : {t : Tree} → Within R free t
+    parts : {n : Name} {t : Tree} → Matches R (content n) t → Within R (holds n) t
+
+-- An element in a form of one edition alone: its place, the edition and the difference's number.
+pub record Occurrence : Type 0 where
+  pub place : ℕ
+  pub edition : ℕ
+  pub difference : ℕ
+
+-- what a form's mark says of an element at a place
+abbrev pub occurs : Mark → ℕ → List Occurrence
+occurs both p = []
+occurs (alone e d) p = record { place = p; edition = e; difference = d } ∷ []
+
+-- The occurrences in the elements, and in the elements inside an element: nothing occurs where a form leaves the inside free.
+unfoldable mutual
+  pub occurrences : {R : ℕ → Bool} {ps : List Part} {t : Tree} → Matches R ps t → List Occurrence
+  occurrences end = []
+  occurrences (pass ok m) = occurrences m
+  occurrences (take {first = p} f among fits read kept w m) = occurs (f .mark) p ++ (occurrencesIn w ++ occurrences m)
+  occurrences (choose n way m) = occurrences m
+
+  pub occurrencesIn : {R : ℕ → Bool} {i : Inside} {t : Tree} → Within R i t → List Occurrence
+  occurrencesIn unseen = []
+  occurrencesIn (parts m) = occurrences m

@@ -1,0 +1,83 @@
+-- Rows: document 01's table of an accepted element tree's fields, on the meaning of the grammar alone. Assumes nothing.
+use Prim.Native.Nat.{ℕ, _+_}
+use mathlib.Core.Bool.{Bool, true, false, _&&_, not}
+use mathlib.Core.List.{List, [], _∷_, _++_}
+use lib.Dec.{ltb, eqb}
+use lib.ListN.{length}
+use Rattle.der.specs.meaning.Tree.{Tree, none, element}
+use Rattle.crmf.specs.meaning.Kinds as kinds
+use Rattle.crmf.specs.meaning.Notation.{among, Inside, Form, Part, Top}
+use Rattle.crmf.specs.meaning.Grammar.{content}
+use Rattle.crmf.specs.meaning.Language.{Matches, end, pass, take, choose, Within, unseen, parts}
+
+-- "A row is kind, first byte, whole length, parent's row"
+pub record Row : Type 0 where
+  pub kind : ℕ
+  pub first : ℕ
+  pub whole : ℕ
+  pub parent : ℕ
+
+-- the numbers of a row
+abbrev pub width : ℕ
+width = 4
+
+-- "Containers: batch 1, message 2, certReq 3, template 5, validity 14, extensions 19, controls 30, signature 51, keyEncipherment 52,
+-- keyAgreement 53, regInfo 70, carried certReq item 74"
+unfoldable pub container : ℕ → Bool
+container =
+    among (kinds.batch ∷ kinds.message ∷ kinds.certReq ∷ kinds.template ∷ kinds.validity ∷ kinds.extensions ∷ kinds.controls ∷ kinds.signature ∷ kinds.keyEncipherment ∷ kinds.keyAgreement ∷ kinds.regInfo ∷ kinds.carried ∷ [])
+
+-- the row of an element that has a kind
+abbrev pub rowIf : ℕ → ℕ → ℕ → ℕ → List Row
+rowIf kind first whole parent =
+    elim (eqb kind kinds.none) [ true ↦ [] | false ↦ record { kind = kind; first = first; whole = whole; parent = parent } ∷ [] ]
+
+-- the row that the rows behind it have for their parent: the element's own, with the number n, if it has one
+abbrev pub parentIf : ℕ → ℕ → ℕ → ℕ
+parentIf kind n up = elim (eqb kind kinds.none) [ true ↦ up | false ↦ n ]
+
+-- The rows of the elements of a container, in order of first byte, where n is the number of the next row, up the number of the row
+-- around them, and place and whole are the container's own: a value that settles its item's kind gives the item its row.
+unfoldable mutual
+  pub rows : {R : ℕ → Bool} {ps : List Part} {t : Tree} → Matches R ps t → (n up place whole : ℕ) → List Row
+  rows end n up place whole = []
+  rows (pass ok m) n up place whole = rows m n up place whole
+  rows (take {first = p} {whole = w} f among fits read kept within m) n up place whole =
+      let item = rowIf (f .item) place whole up in
+      let above = parentIf (f .item) n up in
+      let own = rowIf (f .kind) p w above in
+      let next = n + length item in
+      let inner = rowsIn within (next + length own) (parentIf (f .kind) next above) p w in
+      item ++ (own ++ (inner ++ rows m (next + length own + length inner) up place whole))
+  rows (choose name way m) n up place whole = rows m n up place whole
+
+  pub rowsIn : {R : ℕ → Bool} {i : Inside} {t : Tree} → Within R i t → (n up place whole : ℕ) → List Row
+  rowsIn unseen n up place whole = []
+  rowsIn (parts m) n up place whole = rows m n up place whole
+
+-- "the batch is row 0, its own parent"
+unfoldable pub batchRows : {R : ℕ → Bool} {t : Tree} → Matches R (content Top) t → List Row
+batchRows m = rows m 0 0 0 0
+
+-- the numbers of rows, one after the other
+unfoldable pub numbers : List Row → List ℕ
+numbers [] = []
+numbers (r ∷ rs) = r .kind ∷ r .first ∷ r .whole ∷ r .parent ∷ numbers rs
+
+-- a row of a kind and a whole length is a certReqId "of more than 8 content octets", which stand behind two others
+abbrev pub longId : ℕ → ℕ → Bool
+longId kind whole = eqb kind kinds.certReqId && ltb 10 whole
+
+-- what is known of long certReqIds (whole length, 0: none, and place), with a row more: the first stays
+abbrev pub longer : ℕ × ℕ → ℕ → ℕ → ℕ → ℕ × ℕ
+longer h kind first whole = elim (longId kind whole && eqb (h .0) 0) [ true ↦ (whole, first) | false ↦ h ]
+
+-- the first row of some that is a certReqId "of more than 8 content octets", unless one was known
+unfoldable pub firstLong : ℕ × ℕ → List Row → ℕ × ℕ
+firstLong h [] = h
+firstLong h (r ∷ rs) = firstLong (longer h (r .kind) (r .first) (r .whole)) rs
+
+-- whether no row of some is such a certReqId
+unfoldable pub allShort : List Row → Bool
+allShort [] = true
+allShort (r ∷ rs) = not (longId (r .kind) (r .whole)) && allShort rs

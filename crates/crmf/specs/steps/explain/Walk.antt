@@ -1,0 +1,180 @@
+-- The walk of document 01 over an element tree: parts left to right, insides first, a part chosen by identifier alone. Assumes nothing.
+use Prim.Native.Nat.{ℕ, suc, _+_}
+use mathlib.Core.Bool.{Bool, true, false, _&&_}
+use mathlib.Core.List.{List, [], _∷_, _++_}
+use lib.Dec.{leb, ltb, eqb}
+use lib.ListN.{length, getD, drop}
+use Rattle.der.specs.meaning.Tree.{Tree, none, element}
+use Rattle.der.specs.meaning.Bounds.{longest}
+use Rattle.der.specs.steps.Reading.{tree}
+use Rattle.crmf.specs.declared.explain.tally.Tally.{Tally}
+use Rattle.crmf.specs.declared.explain.Walked.{Walked}
+use Rattle.crmf.specs.declared.explain.Walked.the-variants.{Passed, Broken}
+use Rattle.crmf.specs.declared.grammar.judge.Onward.{Onward}
+use Rattle.crmf.specs.declared.grammar.judge.Onward.the-variants.{To, Breaks}
+use Rattle.crmf.specs.declared.grammar.table.Found.{Found}
+use Rattle.crmf.specs.declared.grammar.table.Found.the-variants.{At, Nowhere}
+use Rattle.crmf.specs.meaning.Kinds as kinds
+use Rattle.crmf.specs.meaning.Value.{Rule, always, integer, boolean, bitString, empty, zeroOrOne, true-only, utcTime, generalizedTime, some, never}
+use Rattle.crmf.specs.meaning.Value.{keeps, Selector, action, method, controlType, infoType, selected}
+use Rattle.crmf.specs.meaning.Notation.{named, Mark, both, alone, Top}
+use Rattle.crmf.specs.meaning.Language.{readable, Occurrence, occurs}
+use Rattle.crmf.specs.meaning.Rows.{longId}
+use Rattle.crmf.specs.steps.grammar.Lines.{Judge, keep, choose, Pass, ends, needed, another, over, Line, endLine, lines, start}
+
+-- the line of a number
+unfoldable pub line : ℕ → Line
+line k = getD lines k endLine
+
+-- whether the search goes on behind a line whose form the element isn't in
+abbrev pub goesOn : Pass → Bool
+goesOn ends = false
+goesOn needed = false
+goesOn another = true
+goesOn over = true
+
+-- "the element that fits no part it can reach, a needed part never being passed over": the first line from k on that has the identifier
+unfoldable pub seekIn : List Line → ℕ → ℕ → Found
+seekIn [] k id = Nowhere
+seekIn (x ∷ xs) k id =
+    elim (named (x .identifiers) id) [ true ↦ At k | false ↦ elim (goesOn (x .pass)) [ true ↦ seekIn xs (suc k) id | false ↦ Nowhere ] ]
+
+unfoldable pub seek : ℕ → ℕ → Found
+seek k id = seekIn (drop k lines) k id
+
+-- "the container where a needed part is missing at its end": whether a container may end at a line
+unfoldable pub closedIn : List Line → Bool
+closedIn [] = true
+closedIn (x ∷ xs) = elim (x .pass) [ ends ↦ true | needed ↦ false | another ↦ false | over ↦ closedIn xs ]
+
+unfoldable pub closed : ℕ → Bool
+closed k = closedIn (drop k lines)
+
+-- request A9's detail of a broken rule: 2 where a part is missing, 4 for control 3's list, else 3
+abbrev pub ruleDetail : Rule → ℕ
+ruleDetail always = 3
+ruleDetail integer = 3
+ruleDetail boolean = 3
+ruleDetail bitString = 3
+ruleDetail empty = 3
+ruleDetail zeroOrOne = 3
+ruleDetail true-only = 3
+ruleDetail utcTime = 3
+ruleDetail generalizedTime = 3
+ruleDetail some = 2
+ruleDetail never = 4
+
+-- how many ways a value may select
+abbrev pub ways : Selector → ℕ
+ways action = 2
+ways method = 4
+ways controlType = 7
+ways infoType = 3
+
+-- behind an element's inside: the line to go on with, or the detail of the rule that its value breaks
+unfoldable pub judged : Judge → ℕ → List ℕ → Onward
+judged (keep r) next c = elim (keeps r c) [ true ↦ To next | false ↦ Breaks (ruleDetail r) ]
+judged (choose s) next c =
+    let w = selected s c in
+    elim (ltb w (ways s)) [ true ↦ To (line (next + w) .next) | false ↦ Breaks 3 ]
+
+-- request A9's detail of a form that may not be read: 4 for D3's location, else 1, that the element fits no part
+abbrev pub unreadDetail : Mark → ℕ
+unreadDetail both = 1
+unreadDetail (alone e d) = elim (eqb d 3) [ true ↦ 4 | false ↦ 1 ]
+
+-- one row for each kind but none
+abbrev pub rowsOf : ℕ → ℕ
+rowsOf k = elim (eqb k kinds.none) [ true ↦ 0 | false ↦ 1 ]
+
+-- the rows that an element of a line's form gives by itself: an item's, and its own
+abbrev pub rowsBy : Line → ℕ
+rowsBy x = rowsOf (x .item) + rowsOf (x .kind)
+
+-- the tally with an element at a place in a form of a mark: the first of each edition stays
+unfoldable pub noted : Mark → ℕ → Tally → Tally
+noted both p s = s
+noted (alone e d) p s =
+    elim (eqb e 1 && eqb (s .one .number) 0) [
+      | true ↦ record { count = s .count; one = record { number = d; place = p }; two = s .two; long = s .long }
+      | false ↦ elim (eqb e 2 && eqb (s .two .number) 0) [
+        | true ↦ record { count = s .count; one = s .one; two = record { number = d; place = p }; long = s .long }
+        | false ↦ s
+      ]
+    ]
+
+-- the tally with an element of a kind at a place that has a whole length: the first long certReqId stays
+unfoldable pub lengthy : ℕ → ℕ → ℕ → Tally → Tally
+lengthy kind p whole s =
+    elim (longId kind whole && eqb (s .long .whole) 0) [
+      | true ↦ record { count = s .count; one = s .one; two = s .two; long = record { whole = whole; place = p } }
+      | false ↦ s
+    ]
+
+-- the tally with some rows more
+abbrev pub counted : ℕ → Tally → Tally
+counted n s = record { count = s .count + n; one = s .one; two = s .two; long = s .long }
+
+-- the tally with an element at a place and of a whole length that a line is chosen for
+unfoldable pub met : Line → ℕ → ℕ → Tally → Tally
+met x p whole s = counted (rowsBy x) (lengthy (x .kind) p whole (noted (x .mark) p s))
+
+-- The walk over the elements of a container from a line on, where the container's own place is `around`, and R says which editions' own
+-- forms may be read: an element's line is chosen by its identifier alone, its inside is walked first, then its value is judged.
+unfoldable pub walk : (ℕ → Bool) → Tally → ℕ → ℕ → Tree → Walked
+walk R s k around none = elim (closed k) [ true ↦ Passed s | false ↦ Broken around 2 s ]
+walk R s k around (element id first whole c inside rest) =
+    elim (seek k id) [
+      | Nowhere ↦ Broken first 1 s
+      | At n ↦
+          let x = line n in
+          let m = met x first whole s in
+          elim (readable R (x .mark)) [
+            | false ↦ Broken first (unreadDetail (x .mark)) s
+            | true ↦
+                let within : Walked = elim (eqb (x .inside) 0) [ true ↦ Passed m | false ↦ walk R m (x .inside) first inside ] in
+                elim within [
+                  | Broken q d r ↦ Broken q d r
+                  | Passed r ↦ elim (judged (x .judge) (x .next) c) [ Breaks d ↦ Broken first d r | To next ↦ walk R r next around rest ]
+                ]
+          ]
+    ]
+
+-- whether the walk that reads every form passes
+unfoldable pub passes : ℕ → Tree → Bool
+passes k none = closed k
+passes k (element id first whole c inside rest) =
+    elim (seek k id) [
+      | Nowhere ↦ false
+      | At n ↦
+          let x = line n in
+          let within : Bool = elim (eqb (x .inside) 0) [ true ↦ true | false ↦ passes (x .inside) inside ] in
+          elim within [ false ↦ false | true ↦ elim (judged (x .judge) (x .next) c) [ Breaks d ↦ false | To next ↦ passes next rest ] ]
+    ]
+
+-- the elements in a form of one edition alone that the walk that reads every form meets, up to its first break
+unfoldable pub trail : ℕ → Tree → List Occurrence
+trail k none = []
+trail k (element id first whole c inside rest) =
+    elim (seek k id) [
+      | Nowhere ↦ []
+      | At n ↦
+          let x = line n in
+          let within : List Occurrence = elim (eqb (x .inside) 0) [ true ↦ [] | false ↦ trail (x .inside) inside ] in
+          let whole : Bool = elim (eqb (x .inside) 0) [ true ↦ true | false ↦ passes (x .inside) inside ] in
+          let onward : List Occurrence = elim (judged (x .judge) (x .next) c) [ Breaks d ↦ [] | To next ↦ trail next rest ] in
+          occurs (x .mark) first ++ (within ++ (elim whole [ false ↦ [] | true ↦ onward ]))
+    ]
+
+-- every form may be read
+abbrev pub every : ℕ → Bool
+every e = true
+
+-- the tally before the first element
+unfoldable pub fresh : Tally
+fresh =
+    record { count = 0; one = record { number = 0; place = 0 }; two = record { number = 0; place = 0 }; long = record { whole = 0; place = 0 } }
+
+-- The walk over a whole input, which is to be one batch, where every form is read; in a longer input no element stands.
+unfoldable pub countOf : List ℕ → Walked
+countOf s = elim (leb (length s) longest) [ true ↦ walk every fresh (start Top) 0 (tree 0 s) | false ↦ Broken 0 1 fresh ]

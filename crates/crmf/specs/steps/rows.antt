@@ -1,0 +1,3 @@
+-- The table filled with rows, and a batch assembled from its pieces.
+pub mod Assembly
+pub mod Fill

@@ -1,0 +1,133 @@
+-- The rows as the walk over the lines finds them, for a tree that it passes. Assumes nothing.
+use Prim.Native.Nat.{ℕ, _+_, _-_, _*_, _≤_, _<_}
+use mathlib.Core.Bool.{Bool, true, false}
+use mathlib.Core.List.{List, [], _∷_, _++_}
+use lib.Dec.{eqb, leb}
+use lib.Seq.{slice}
+use lib.ListN.{length, take}
+use mathlib.Core.Path.{_≡_}
+use Rattle.der.specs.meaning.Tree.{Tree, none, element}
+use Rattle.der.specs.meaning.Bounds.{longest}
+use Rattle.der.specs.steps.Reading.{tree}
+use Rattle.crmf.specs.meaning.Lists.{over}
+use Rattle.crmf.specs.declared.grammar.element.Fit.{Fit}
+use Rattle.crmf.specs.declared.rows.Around.{Around}
+use Rattle.crmf.specs.declared.rows.Bounds.{Bounds}
+use Rattle.crmf.specs.declared.rows.Entry.{Entry}
+use Rattle.crmf.specs.declared.rows.Numbers.{Numbers}
+use Rattle.crmf.specs.declared.rows.Spot.{Spot}
+use Rattle.crmf.specs.declared.grammar.table.Found.the-variants.{At, Nowhere}
+use Rattle.crmf.specs.meaning.Value.{selected}
+use Rattle.crmf.specs.meaning.Notation.{among, Top, Time, AlgId, Spki, OneName, Extension}
+use Rattle.crmf.specs.steps.grammar.Lines.{Judge, keep, choose, Line, start}
+use Rattle.crmf.specs.steps.grammar.Packed.{packed}
+use Rattle.crmf.specs.steps.explain.Walk.{line, seek, rowsOf as rowsGiven}
+use Rattle.crmf.specs.meaning.Rows.{Row, rowIf, parentIf, width, numbers}
+
+-- the line to go on with after an element whose value is known to keep its rule
+unfoldable pub goes : Judge → ℕ → List ℕ → ℕ
+goes (keep r) next c = next
+goes (choose s) next c = line (next + selected s c) .next
+
+-- the rows from a line on, as `rows` has them from the parts
+unfoldable pub rowsFrom : ℕ → Tree → (n up place whole : ℕ) → List Row
+rowsFrom k none n up place whole = []
+rowsFrom k (element id p w c inside rest) n up place whole =
+    elim (seek k id) [
+      | Nowhere ↦ []
+      | At m ↦
+          let x = line m in
+          let item = rowIf (x .item) place whole up in
+          let above = parentIf (x .item) n up in
+          let own = rowIf (x .kind) p w above in
+          let next = n + length item in
+          let inner : List Row = elim (eqb (x .inside) 0) [
+            | true ↦ []
+            | false ↦ rowsFrom (x .inside) inside (next + length own) (parentIf (x .kind) next above) p w
+          ] in
+          item ++ (own ++ (inner ++ rowsFrom (goes (x .judge) (x .next) c) rest (next + length own + length inner) up place whole))
+    ]
+
+-- whether the lines of an inside give no row: it is free, or the inside of a container without rows
+unfoldable pub rowless : ℕ → Bool
+rowless k = among (0 ∷ start Time ∷ start AlgId ∷ start Spki ∷ start OneName ∷ start Extension ∷ []) k
+
+-- Rows written into a table of numbers, the first as row n, as far as their numbers are below a limit.
+abbrev pub written : List ℕ → ℕ → ℕ → List Row → List ℕ
+written old n limit rs = over old (width * n) (numbers (take (limit - n) rs))
+
+-- whether a table has room for a count of rows
+unfoldable pub fits : ℕ → List ℕ → Bool
+fits count old = leb (width * count) (length old)
+
+-- the rows of a whole input, which is to be one batch; a longer input has none
+unfoldable pub rowsOf : List ℕ → List Row
+rowsOf s = elim (leb (length s) longest) [ true ↦ rowsFrom (start Top) (tree 0 s) 0 0 0 0 | false ↦ [] ]
+
+-- a table with the rows of an input written into it as far as their numbers are below a count; with no room for that many it stays
+unfoldable pub filled : List ℕ → ℕ → List ℕ → List ℕ
+filled s count old = elim (fits count old) [ true ↦ written old 0 count (rowsOf s) | false ↦ old ]
+
+-- What the inner functions are lent: a part of an input, the number of the next row, no more than two for each place before it, the lines,
+-- and a table with room up to the limit.
+pub record Room (bytes : List ℕ) (at end row limit : ℕ) (lines out : List ℕ) : Type 0 where
+  pub short : length bytes ≤ longest
+  pub order : at ≤ end
+  pub inside : end ≤ length bytes
+  pub few : row ≤ 2 * at
+  pub right : lines ≡ packed
+  pub room : width * limit ≤ length out
+
+-- the rows of the elements from a spot to an end
+abbrev pub rowsAt : List ℕ → Spot → ℕ → Around → List Row
+rowsAt bytes spot end around =
+    rowsFrom (spot .state) (tree (spot .at) (slice (spot .at) end bytes)) (spot .row) (around .up) (around .place) (around .whole)
+
+-- the row that an entry gives, if it has a kind
+abbrev pub rowOf : Entry → List Row
+rowOf new = rowIf (new .kind) (new .first) (new .whole) (new .parent)
+
+-- Rows are written, and the next number is after theirs.
+pub record Wrote (rs : List Row) (row limit : ℕ) (old : List ℕ) (next : ℕ) (new : List ℕ) : Type 0 where
+  pub next-row : next ≡ row + length rs
+  pub kept : new ≡ written old row limit rs
+
+-- the rows of a list of elements
+pub record Listed (bytes : List ℕ) (spot : Spot) (bounds : Bounds) (around : Around) (old : List ℕ) (next : ℕ) (new : List ℕ) : Type 0 where
+  pub wrote : Wrote (rowsAt bytes spot (bounds .end) around) (spot .row) (bounds .limit) old next new
+  pub few : next ≤ 2 * bounds .end
+
+-- the rows that an element in a line's form gives by itself, and the number of the row above its inside
+abbrev pub ownRows : Line → ℕ → ℕ → ℕ → Around → List Row
+ownRows x p w row around =
+    rowIf (x .item) (around .place) (around .whole) (around .up) ++ rowIf (x .kind) p w (parentIf (x .item) row (around .up))
+
+abbrev pub rowAbove : Line → ℕ → ℕ → ℕ
+rowAbove x row up = parentIf (x .kind) (row + rowsGiven (x .item)) (parentIf (x .item) row up)
+
+-- what is around the rows inside an element in a line's form
+abbrev pub within : Line → Fit → Numbers → Around
+within x fit n = record { up = rowAbove x (n .row) (n .up); place = fit .first; whole = fit .end - fit .first }
+
+-- the rows inside an element in a line's form
+abbrev pub innerRows : ℕ → List ℕ → ℕ → ℕ → ℕ → Around → List Row
+innerRows k bytes at end row around =
+    elim (eqb (line k .inside) 0) [ true ↦ [] | false ↦ rowsAt bytes (record { state = line k .inside; at = at; row = row }) end around ]
+
+abbrev pub Inner : ℕ → List ℕ → Fit → Numbers → ℕ → List ℕ → ℕ → List ℕ → Type 0
+Inner k bytes fit n limit old next new =
+    Wrote (innerRows k bytes (fit .content) (fit .end) (n .next) (within (line k) fit n)) (n .next) limit old next new
+
+-- Some rows of a list of elements are written, and the list goes on after them.
+pub record Going (bytes : List ℕ) (spot : Spot) (bounds : Bounds) (around : Around) (old : List ℕ) (r : Spot) (new : List ℕ) : Type 0 where
+  pub these : List Row
+  pub split : rowsAt bytes spot (bounds .end) around ≡ these ++ rowsAt bytes r (bounds .end) around
+  pub wrote : Wrote these (spot .row) (bounds .limit) old (r .row) new
+  pub past : spot .at ≤ r .at
+  pub within : r .at ≤ bounds .end
+  pub few : r .row ≤ 2 * r .at
+
+-- the rows of one element
+pub record Shown (bytes : List ℕ) (spot : Spot) (bounds : Bounds) (around : Around) (old : List ℕ) (r : Spot) (new : List ℕ) : Type 0 where
+  pub going : Going bytes spot bounds around old r new
+  pub forward : spot .at < r .at

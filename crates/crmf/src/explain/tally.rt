@@ -1,0 +1,119 @@
+// What the exact walk tallies: the rows, the first form of each edition alone, and the first certReqId that is too long.
+use crate::grammar::codes;
+use crate::grammar::element::Fit;
+use crate::grammar::table;
+use crate::kinds;
+ghost use Prim.Native.Nat.{ℕ, _+_, _-_, _≤_};
+ghost use mathlib.Core.Path.{_≡_};
+ghost use lib.ListN.{getD};
+ghost use Rattle.crmf.specs.steps.grammar.Packed.{packed, markCode};
+ghost use Rattle.crmf.specs.steps.explain.Walk.{line, noted, lengthy, met, fresh};
+
+// A form of one edition alone: its difference's number (0: none was met) and its place.
+pub struct Difference {
+    pub number: usize,
+    pub place: usize,
+}
+
+// A certReqId of more than 8 content octets: its whole length (0: none was met) and its place.
+pub struct LongId {
+    pub whole: usize,
+    pub place: usize,
+}
+
+// The count of rows, the first form of edition 1 alone, the first of edition 2 alone, and the first long certReqId.
+pub struct Tally {
+    pub count: usize,
+    pub one: Difference,
+    pub two: Difference,
+    pub long: LongId,
+}
+
+// The tally before the first element.
+pub(crate) fn empty() -> Tally
+    ensures { λ r. ⌜ r ≡ fresh ⌝ }
+{
+    let none = Difference {
+        number: 0,
+        place: 0,
+    };
+    let short = LongId { whole: 0, place: 0 };
+    Tally {
+        count: 0,
+        one: none,
+        two: none,
+        long: short,
+    }
+}
+
+// The tally with one more element, which fits a line.
+pub(crate) fn with_element(fit: Fit, tally: Tally) -> Tally
+    requires { ⌜ (fit .first ≤ fit .end) × (tally .count ≤ 131070) ⌝ }
+    ensures { λ r. ⌜ ((k : ℕ) → fit .word ≡ getD packed k 0 → r ≡ met (line k) (fit .first) (fit .end - fit .first) tally) × (r .count ≤ tally .count + 2) ⌝ }
+{
+    let kind = table::kind_of(fit.word);
+    let whole = fit.end - fit.first;
+    let marked = with_form(table::mark_of(fit.word), fit.first, tally);
+    let mut after = with_long_id(kind, fit.first, whole, marked);
+    after.count = add_rows(
+        after.count,
+        kinds::row_of(table::item_of(fit.word)),
+        kinds::row_of(kind),
+    );
+    after
+}
+
+// The tally with an element of a kind at a place, of a whole length: a certReqId of more than 8 content octets, if it is the first.
+fn with_long_id(kind: usize, place: usize, whole: usize, tally: Tally) -> Tally
+    ensures { λ r. ⌜ (r ≡ lengthy kind place whole tally) × (r .count ≡ tally .count) ⌝ }
+{
+    if (kind == kinds::CERT_REQ_ID) & (10 < whole) & (tally.long.whole == 0) {
+        let one = tally.one;
+        let two = tally.two;
+        return Tally {
+            count: tally.count,
+            one,
+            two,
+            long: LongId { whole, place },
+        };
+    }
+    tally
+}
+
+// The tally with an element at a place by the code of its form's mark: a form of one edition alone, if it is the edition's first.
+fn with_form(mark: usize, place: usize, tally: Tally) -> Tally
+    ensures { λ r. ⌜ ((k : ℕ) → markCode (line k .mark) ≡ mark → r ≡ noted (line k .mark) place tally) × (r .count ≡ tally .count) ⌝ }
+{
+    let one = tally.one;
+    let two = tally.two;
+    let long = tally.long;
+    let new = Difference {
+        number: mark % codes::EDITION,
+        place,
+    };
+    if (mark / codes::EDITION == 1) & (one.number == 0) {
+        return Tally {
+            count: tally.count,
+            one: new,
+            two,
+            long,
+        };
+    }
+    if (mark / codes::EDITION == 2) & (two.number == 0) {
+        return Tally {
+            count: tally.count,
+            one,
+            two: new,
+            long,
+        };
+    }
+    tally
+}
+
+// The rows so far, with those of an element: its item's and its own.
+fn add_rows(before: usize, item: usize, own: usize) -> usize
+    requires { ⌜ (before ≤ 131070) × (item ≤ 1) × (own ≤ 1) ⌝ }
+    ensures { λ r. ⌜ r ≡ before + item + own ⌝ }
+{
+    before + item + own
+}

@@ -1,0 +1,222 @@
+// The value rules, each on the content octets of one element.
+use crate::grammar::codes;
+use der::content;
+ghost use Prim.Native.Nat.{_+_, _≤_, _<_};
+ghost use mathlib.Core.Path.{_≡_};
+ghost use lib.ListN.{length};
+ghost use Rattle.crmf.specs.meaning.Value as value;
+ghost use Rattle.crmf.specs.meaning.Value.{Rule, Selector};
+ghost use Rattle.crmf.specs.steps.grammar.Lines.{keep, choose};
+ghost use Rattle.crmf.specs.steps.grammar.Packed.{judgeCode};
+ghost use Rattle.crmf.specs.steps.explain.Walk as walk;
+
+// Whether there are no octets.
+fn is_empty(content: &[u8]) -> bool
+    ensures { λ r. ⌜ r ≡ value.isEmpty (now (content .entry)) ⌝ }
+{
+    content.len() == 0
+}
+
+// Whether there is a single octet of at most the number `most`.
+fn is_up_to(most: u8, content: &[u8]) -> bool
+    ensures { λ r. ⌜ r ≡ value.isUpTo most (now (content .entry)) ⌝ }
+{
+    if content.len() != 1 {
+        return false;
+    }
+    content[0] <= most
+}
+
+// Whether the octets are the content of a BOOLEAN that is true.
+fn is_true(content: &[u8]) -> bool
+    ensures { λ r. ⌜ r ≡ value.isTrue (now (content .entry)) ⌝ }
+{
+    if content.len() != 1 {
+        return false;
+    }
+    content[0] == 0xFF
+}
+
+// Whether an octet is a decimal digit.
+fn is_digit(octet: u8) -> bool
+    ensures { λ r. ⌜ r ≡ value.digit octet ⌝ }
+{
+    (0x30 <= octet) & (octet <= 0x39)
+}
+
+// The number of the two decimal digits at i, and 100 where they are none.
+fn pair_at(content: &[u8], i: usize) -> usize
+    requires { ⌜ i + 1 < length (now content) ⌝ }
+    ensures { λ r. ⌜ r ≡ value.pairAt (now (content .entry)) i ⌝ }
+{
+    let tens = content[i];
+    let ones = content[i + 1];
+    if is_digit(tens) & is_digit(ones) {
+        return ((tens - 0x30) as usize) * 10 + ((ones - 0x30) as usize);
+    }
+    100
+}
+
+// Whether a year is a leap year.
+fn leap(year: usize) -> bool
+    ensures { λ r. ⌜ r ≡ value.leap year ⌝ }
+{
+    (year % 4 == 0) & ((year % 100 != 0) | (year % 400 == 0))
+}
+
+// The days of the months of a common year, January at 1.
+const MONTH_DAYS: [usize; 13] = [0, 31, 28, 31, 30, 31, 30, 31, 31, 30, 31, 30, 31];
+
+// The days of a month of a year, and none where the number is no month's.
+fn days_in(year: usize, month: usize) -> usize
+    ensures { λ r. ⌜ r ≡ value.daysIn year month ⌝ }
+{
+    if 12 < month {
+        return 0;
+    }
+    let days = MONTH_DAYS[month];
+    if leap(year) & (month == 2) {
+        return days + 1;
+    }
+    days
+}
+
+// Whether month, day, hour, minute, second and Z stand from i on, a moment of the year.
+fn is_moment(year: usize, content: &[u8], i: usize) -> bool
+    requires { ⌜ i + 10 < length (now content) ⌝ }
+    ensures { λ r. ⌜ r ≡ value.isMoment year (now (content .entry)) i ⌝ }
+{
+    let day = pair_at(content, i + 2);
+    let days = days_in(year, pair_at(content, i));
+    let hour = pair_at(content, i + 4);
+    let minute = pair_at(content, i + 6);
+    let second = pair_at(content, i + 8);
+    (1 <= day)
+        & (day <= days)
+        & (hour <= 23)
+        & (minute <= 59)
+        & (second <= 59)
+        & (content[i + 10] == 0x5A)
+}
+
+// The year of a two-digit year.
+fn century(year: usize) -> usize
+    requires { ⌜ year ≤ 100 ⌝ }
+    ensures { λ r. ⌜ r ≡ value.century year ⌝ }
+{
+    if 50 <= year {
+        return 1900 + year;
+    }
+    2000 + year
+}
+
+// Whether the octets are the content of a UTCTime.
+fn is_utc_time(content: &[u8]) -> bool
+    ensures { λ r. ⌜ r ≡ value.isUtcTime (now (content .entry)) ⌝ }
+{
+    if content.len() != 13 {
+        return false;
+    }
+    let year = pair_at(content, 0);
+    (year <= 99) & is_moment(century(year), content, 2)
+}
+
+// Whether the octets are the content of a GeneralizedTime.
+fn is_generalized_time(content: &[u8]) -> bool
+    ensures { λ r. ⌜ r ≡ value.isGeneralizedTime (now (content .entry)) ⌝ }
+{
+    if content.len() != 15 {
+        return false;
+    }
+    let hundreds = pair_at(content, 0);
+    let rest = pair_at(content, 2);
+    (hundreds <= 99) & (rest <= 99) & is_moment(hundreds * 100 + rest, content, 4)
+}
+
+// The number of a single octet of at most `most`, and one more than that where the octets break the rule.
+fn number(most: u8, content: &[u8]) -> usize
+    ensures { λ r. ⌜ r ≡ value.number most (now (content .entry)) ⌝ }
+{
+    if is_up_to(most, content) {
+        return content[0] as usize;
+    }
+    (most as usize) + 1
+}
+
+// The number of a known type with the arc and at most the number `most`, and 0 where the type is unknown.
+fn type_number(arc: u8, most: u8, content: &[u8]) -> usize
+    ensures { λ r. ⌜ r ≡ value.typeNumber arc most (now (content .entry)) ⌝ }
+{
+    if content.len() != 9 {
+        return 0;
+    }
+    let front = (content[0] == 0x2B)
+        & (content[1] == 0x06)
+        & (content[2] == 0x01)
+        & (content[3] == 0x05);
+    let back = (content[4] == 0x05)
+        & (content[5] == 0x07)
+        & (content[6] == 0x05)
+        & (content[7] == arc);
+    let last = content[8];
+    if front & back & (last <= most) {
+        return last as usize;
+    }
+    0
+}
+
+// Whether the content keeps the rule of a code of specs/steps/grammar/Packed.antt.
+pub(crate) fn keeps(code: usize, content: &[u8]) -> bool
+    ensures { λ r. ⌜ ((x : Rule) → judgeCode (keep x) ≡ code → r ≡ value.keeps x (now (content .entry))) ⌝ }
+{
+    match code {
+        codes::ALWAYS => true,
+        codes::INTEGER => content::integer(content),
+        codes::BOOLEAN => content::boolean(content),
+        codes::BIT_STRING => content::bit_string(content),
+        codes::EMPTY => is_empty(content),
+        codes::ZERO_OR_ONE => is_up_to(1, content),
+        codes::TRUE_ONLY => is_true(content),
+        codes::UTC_TIME => is_utc_time(content),
+        codes::GENERALIZED_TIME => is_generalized_time(content),
+        codes::SOME => !is_empty(content),
+        _ => false,
+    }
+}
+
+// The way that the content selects for the selector of a code of specs/steps/grammar/Packed.antt, and 0 where the code is none's.
+pub(crate) fn selected(code: usize, content: &[u8]) -> usize
+    ensures { λ r. ⌜ ((s : Selector) → judgeCode (choose s) ≡ code → r ≡ value.selected s (now (content .entry))) × (r ≤ 6) ⌝ }
+{
+    match code {
+        codes::BY_ACTION => number(1, content),
+        codes::BY_METHOD => number(3, content),
+        codes::BY_CONTROL_TYPE => type_number(0x01, 6, content),
+        codes::BY_INFO_TYPE => type_number(0x02, 2, content),
+        _ => 0,
+    }
+}
+
+// How many ways there are for the selector of a code, and 0 where the code is none's.
+pub(crate) fn ways(code: usize) -> usize
+    ensures { λ r. ⌜ ((s : Selector) → judgeCode (choose s) ≡ code → r ≡ walk.ways s) × (r ≤ 7) ⌝ }
+{
+    match code {
+        codes::BY_ACTION => 2,
+        codes::BY_METHOD => 4,
+        codes::BY_CONTROL_TYPE => 7,
+        codes::BY_INFO_TYPE => 3,
+        _ => 0,
+    }
+}
+
+// Request A9's detail of a content that breaks the rule of a code.
+pub(crate) fn rule_detail(code: usize) -> usize
+    ensures { λ r. ⌜ ((x : Rule) → judgeCode (keep x) ≡ code → r ≡ walk.ruleDetail x) ⌝ }
+{
+    match code {
+        codes::SOME => 2,
+        codes::NEVER => 4,
+        _ => 3,
+    }
+}

@@ -1,0 +1,172 @@
+// The recogniser: nest, grammar and rows of a batch in one pass, which stops at the first thing that the edition doesn't accept.
+mod common;
+mod step;
+
+use crate::grammar::lines::LINES;
+use crate::grammar::lines::TOP;
+use crate::grammar::table;
+use crate::grammar::table::Found;
+use crate::recognise::step::Visit;
+use crate::rows;
+use der::bounds::DEPTH;
+use der::element::length::measure;
+ghost use Prim.Native.Nat.{ℕ, _≤_, _<_};
+ghost use mathlib.Core.Path.{_≡_};
+ghost use lib.ListN.{length, drop, getD};
+ghost use Rattle.der.specs.meaning.Bounds.{longest};
+ghost use Rattle.crmf.specs.steps.grammar.Packed.{packed};
+ghost use Rattle.crmf.specs.steps.recognise.Count.{quickCount, quickTable};
+ghost use Rattle.crmf.specs.steps.recognise.Inner.{Countable, decode, ListCounted, ElementCounted};
+
+// What the recogniser answers.
+pub enum Recognition {
+    // A batch of the edition with this many rows, and no certReqId of more than 8 octets.
+    Rows(usize),
+    // Anything else: the exact passes say what is wrong.
+    Unrecognised,
+}
+
+// Recognises a batch of an edition and counts its rows.
+pub fn count(edition: usize, bytes: &[u8]) -> Recognition
+    ensures { λ r. ⌜ r ≡ quickCount edition (now (bytes .entry)) ⌝ }
+{
+    let table = table::words();
+    count_by(edition, bytes, &table)
+}
+
+// The same, and writes the rows into the lent table if it has room for them.
+pub fn read(edition: usize, bytes: &[u8], out: &mut [usize]) -> Recognition
+    ensures { λ r. ⌜ (r ≡ quickCount edition (now (bytes .entry))) × (now (out .exit) ≡ quickTable edition (now (bytes .entry)) (now (out .entry))) ⌝ }
+{
+    let table = table::words();
+    let recognition = count_by(edition, bytes, &table);
+    if let Recognition::Rows(rows) = recognition {
+        rows::fill(bytes, rows, &table, out);
+    }
+    recognition
+}
+
+// The count by a table of lines that is lent.
+fn count_by(edition: usize, bytes: &[u8], table: &[usize; LINES]) -> Recognition
+    requires { ⌜ now table ≡ packed ⌝ }
+    ensures { λ r. ⌜ r ≡ quickCount edition (now (bytes .entry)) ⌝ }
+{
+    if der::bounds::LONGEST < bytes.len() {
+        return Recognition::Unrecognised;
+    }
+    decoded(list(bytes, TOP, DEPTH, 0, edition, table))
+}
+
+// What the number means that `list` answers.
+fn decoded(number: usize) -> Recognition
+    ensures { λ r. ⌜ r ≡ decode number ⌝ }
+{
+    if number == 0 {
+        return Recognition::Unrecognised;
+    }
+    Recognition::Rows(number - 1)
+}
+
+// Where the count goes on after an element.
+enum Advance {
+    // With a line of the table, at a place of the bytes, with this many rows so far.
+    Past {
+        line: usize,
+        at: usize,
+        count: usize,
+    },
+    // Nowhere: the element isn't recognised.
+    Stop,
+}
+
+// Recognises the elements that the bytes are, from a line on, after `before` rows. Answers one more than the rows up to their end, or 0 where
+// they aren't recognised: this number stays in a register, where `Recognition` would go through memory at each level.
+fn list(
+    bytes: &[u8],
+    state: usize,
+    left: usize,
+    before: usize,
+    edition: usize,
+    table: &[usize; LINES],
+) -> usize
+    requires { ⌜ Countable (now bytes) before (now table) ⌝ }
+    ensures { λ r. ⌜ ListCounted edition left state before (now (bytes .entry)) r ⌝ }
+{
+    let mut at = 0;
+    let mut line = state;
+    let mut count = before;
+    while at < bytes.len() {
+        let advance = element(bytes, at, line, left, count, edition, table);
+        let Advance::Past {
+            line: next,
+            at: end,
+            count: total,
+        } = advance
+        else {
+            return 0;
+        };
+        line = next;
+        at = end;
+        count = total;
+    }
+    if table::closed(table, line) {
+        return count + 1;
+    }
+    0
+}
+
+// Recognises the element at a place of the bytes, from a line on, after `before` rows; `left` levels of depth are left.
+fn element(
+    bytes: &[u8],
+    at: usize,
+    line: usize,
+    left: usize,
+    before: usize,
+    edition: usize,
+    table: &[usize; LINES],
+) -> Advance
+    requires { ⌜ Countable (drop at (now bytes)) before (now table) × (at < length (now bytes)) × (length (now bytes) ≤ longest) ⌝ }
+    ensures { λ r. ⌜ ElementCounted edition left line before at (now (bytes .entry)) r ⌝ }
+{
+    let x = measure(&bytes[at..]);
+    if x.octets == 0 {
+        return Advance::Stop;
+    }
+    if left == 0 {
+        return Advance::Stop;
+    }
+    let from = at + x.octets;
+    let to = from + x.length;
+    let found = table::seek(table, line, bytes[at]);
+    let Found::At(k) = found else {
+        return Advance::Stop;
+    };
+    let word = table::word(table, k);
+    let count = before + table::rows_of(word);
+    match step::take(word, bytes[at], &bytes[from..to], left - 1, edition, table) {
+        Visit::Refuse => Advance::Stop,
+        Visit::Skip(next) => Advance::Past {
+            line: next,
+            at: to,
+            count,
+        },
+        Visit::Descend(next) => {
+            let inside = decoded(list(
+                &bytes[from..to],
+                table::inside_of(word),
+                left - 1,
+                count,
+                edition,
+                table,
+            ));
+            let Recognition::Rows(total) = inside else {
+                return Advance::Stop;
+            };
+            Advance::Past {
+                line: next,
+                at: to,
+                count: total,
+            }
+        }
+    }
+}

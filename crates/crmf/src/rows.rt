@@ -1,0 +1,262 @@
+// The rows of a batch, written into a lent table of numbers. What was counted before is not judged again.
+use crate::grammar::codes;
+use crate::grammar::element::Fit;
+use crate::grammar::element::Fitting;
+use crate::grammar::element::line_for;
+use crate::grammar::lines;
+use crate::grammar::lines::LINES;
+use crate::grammar::lines::TOP;
+use crate::grammar::table;
+use crate::grammar::value;
+use crate::kinds;
+use der::element::reading::read_at;
+ghost use Prim.Native.Nat.{ℕ, _+_, _-_, _*_, _≤_, _<_};
+ghost use mathlib.Core.Path.{_≡_};
+ghost use lib.ListN.{length, getD};
+ghost use lib.Seq.{slice};
+ghost use Rattle.crmf.specs.steps.grammar.Packed.{packed};
+ghost use Rattle.crmf.specs.steps.explain.Walk.{line};
+ghost use Rattle.crmf.specs.meaning.Rows.{parentIf, width};
+ghost use Rattle.crmf.specs.steps.rows.Fill as spec;
+ghost use Rattle.crmf.specs.steps.rows.Fill.{goes, rowOf, fits, filled, ownRows, rowAbove, Room, Wrote, Shown, Listed, Inner};
+
+// The numbers of a row.
+pub const WIDTH: usize = 4;
+
+// The element around some rows: the row above them, its first byte and its whole length.
+struct Around {
+    up: usize,
+    place: usize,
+    whole: usize,
+}
+
+// Where the rows go on: the line, the place and the number of the next row.
+struct Spot {
+    state: usize,
+    at: usize,
+    row: usize,
+}
+
+// The place where the elements end, and the number of rows that may be written.
+struct Bounds {
+    end: usize,
+    limit: usize,
+}
+
+// The row numbers at an element: of the row above it, of the first that it gives and of the next after its own.
+struct Numbers {
+    up: usize,
+    row: usize,
+    next: usize,
+}
+
+// What a row holds: its kind (0: there is no row), its element's first byte and whole length, and its parent's row.
+struct Entry {
+    kind: usize,
+    first: usize,
+    whole: usize,
+    parent: usize,
+}
+
+// Writes the rows of the bytes as far as their numbers are below the count, and answers whether the table has room for that many; where it
+// has not, it stays as it is. For an accepted batch and its own count these are the batch's rows. The table of lines is lent.
+pub(crate) fn fill(bytes: &[u8], count: usize, table: &[usize; LINES], out: &mut [usize]) -> bool
+    requires { ⌜ now table ≡ packed ⌝ }
+    ensures { λ r. ⌜ (r ≡ fits count (now (out .entry))) × (now (out .exit) ≡ filled (now (bytes .entry)) count (now (out .entry))) ⌝ }
+{
+    if out.len() / WIDTH < count {
+        return false;
+    }
+    if der::bounds::LONGEST < bytes.len() {
+        return true;
+    }
+    let start = Spot {
+        state: TOP,
+        at: 0,
+        row: 0,
+    };
+    let bounds = Bounds {
+        end: bytes.len(),
+        limit: count,
+    };
+    let around = Around {
+        up: 0,
+        place: 0,
+        whole: 0,
+    };
+    list(bytes, start, bounds, around, table, out);
+    true
+}
+
+// The rows of the elements from a spot to the end; answers the number of the next row.
+fn list(
+    bytes: &[u8],
+    start: Spot,
+    bounds: Bounds,
+    around: Around,
+    table: &[usize; LINES],
+    out: &mut [usize],
+) -> usize
+    requires { ⌜ Room (now bytes) (start .at) (bounds .end) (start .row) (bounds .limit) (now table) (now out) ⌝ }
+    ensures { λ r. ⌜ Listed (now (bytes .entry)) start bounds around (now (out .entry)) r (now (out .exit)) ⌝ }
+{
+    let mut spot = start;
+    while spot.at < bounds.end {
+        spot = element(bytes, spot, bounds, around, table, out);
+    }
+    spot.row
+}
+
+// The rows of the element at a spot and of those inside it; answers where the rows go on.
+fn element(
+    bytes: &[u8],
+    spot: Spot,
+    bounds: Bounds,
+    around: Around,
+    table: &[usize; LINES],
+    out: &mut [usize],
+) -> Spot
+    requires { ⌜ Room (now bytes) (spot .at) (bounds .end) (spot .row) (bounds .limit) (now table) (now out) × (spot .at < bounds .end) ⌝ }
+    ensures { λ r. ⌜ Shown (now (bytes .entry)) spot bounds around (now (out .entry)) r (now (out .exit)) ⌝ }
+{
+    let element = read_at(bytes, spot.at, bounds.end);
+    let fitting = line_for(element, spot.at, spot.state, table);
+    let Fitting::Fits(fit) = fitting else {
+        return Spot {
+            state: spot.state,
+            at: bounds.end,
+            row: spot.row,
+        };
+    };
+    let numbers = Numbers {
+        up: around.up,
+        row: spot.row,
+        next: own_rows(fit, spot.row, around, bounds.limit, out),
+    };
+    let row = inside(bytes, fit, numbers, bounds.limit, table, out);
+    Spot {
+        state: onward(bytes, fit, table),
+        at: fit.end,
+        row,
+    }
+}
+
+// The rows that an element gives by itself, from the number `row` on: the one of the element around it, if the line says its kind, and its
+// own. Answers the number of the next row.
+fn own_rows(fit: Fit, row: usize, around: Around, limit: usize, out: &mut [usize]) -> usize
+    requires { ⌜ (fit .first ≤ fit .end) × (row ≤ 131070) × (width * limit ≤ length (now out)) ⌝ }
+    ensures { λ r. ⌜ ((k : ℕ) → fit .word ≡ getD packed k 0 → Wrote (ownRows (line k) (fit .first) (fit .end - fit .first) row around) row limit (now (out .entry)) r (now (out .exit))) × (r ≤ row + 2) ⌝ }
+{
+    let item = table::item_of(fit.word);
+    let outer = Entry {
+        kind: item,
+        first: around.place,
+        whole: around.whole,
+        parent: around.up,
+    };
+    let next = put(outer, row, limit, out);
+    let own = Entry {
+        kind: table::kind_of(fit.word),
+        first: fit.first,
+        whole: fit.end - fit.first,
+        parent: parent_if(item, row, around.up),
+    };
+    put(own, next, limit, out)
+}
+
+// The row above what is inside an element in a line's form.
+fn row_above(word: usize, row: usize, up: usize) -> usize
+    requires { ⌜ row ≤ 131070 ⌝ }
+    ensures { λ r. ⌜ ((k : ℕ) → word ≡ getD packed k 0 → r ≡ rowAbove (line k) row up) ⌝ }
+{
+    let item = table::item_of(word);
+    let own = row + kinds::row_of(item);
+    parent_if(table::kind_of(word), own, parent_if(item, row, up))
+}
+
+// Whether no row comes from the lines of an inside: there are none, or they are Time's, AlgId's, Spki's, OneName's or Extension's.
+fn rowless(start: usize) -> bool
+    ensures { λ r. ⌜ r ≡ spec.rowless start ⌝ }
+{
+    (start == codes::FREE)
+        | (start == lines::TIME)
+        | (start == lines::ALG_ID)
+        | (start == lines::SPKI)
+        | (start == lines::ONE_NAME)
+        | (start == lines::EXTENSION)
+}
+
+// The rows inside an element, if its line has an inside that has some; answers the number of the next row.
+fn inside(
+    bytes: &[u8],
+    fit: Fit,
+    numbers: Numbers,
+    limit: usize,
+    table: &[usize; LINES],
+    out: &mut [usize],
+) -> usize
+    requires { ⌜ Room (now bytes) (fit .content) (fit .end) (numbers .next) limit (now table) (now out) × (fit .first ≤ fit .end) × (numbers .row ≤ 131070) ⌝ }
+    ensures { λ r. ⌜ ((k : ℕ) → fit .word ≡ getD packed k 0 → Inner k (now (bytes .entry)) fit numbers limit (now (out .entry)) r (now (out .exit))) × (r ≤ 2 * fit .end) ⌝ }
+{
+    let state = table::inside_of(fit.word);
+    if rowless(state) {
+        return numbers.next;
+    }
+    let start = Spot {
+        state,
+        at: fit.content,
+        row: numbers.next,
+    };
+    let bounds = Bounds {
+        end: fit.end,
+        limit,
+    };
+    let whole = fit.end - fit.first;
+    let around = Around {
+        up: row_above(fit.word, numbers.row, numbers.up),
+        place: fit.first,
+        whole,
+    };
+    list(bytes, start, bounds, around, table, out)
+}
+
+// The line to go on with after an element whose value keeps its rule.
+fn onward(bytes: &[u8], fit: Fit, table: &[usize; LINES]) -> usize
+    requires { ⌜ (now table ≡ packed) × (fit .content ≤ fit .end) × (fit .end ≤ length (now bytes)) ⌝ }
+    ensures { λ r. ⌜ ((k : ℕ) → fit .word ≡ getD packed k 0 → r ≡ goes (line k .judge) (line k .next) (slice (fit .content) (fit .end) (now (bytes .entry)))) ⌝ }
+{
+    let code = table::judge_of(fit.word);
+    let next = table::next_of(fit.word);
+    if code < codes::SELECTORS {
+        return next;
+    }
+    let from = fit.content;
+    let to = fit.end;
+    table::next_of(table::word(table, next + value::selected(code, &bytes[from..to])))
+}
+
+// Writes a row where it has a kind and its number is below the limit; answers the number of the next row.
+fn put(new: Entry, row: usize, limit: usize, out: &mut [usize]) -> usize
+    requires { ⌜ (row ≤ 131072) × (width * limit ≤ length (now out)) ⌝ }
+    ensures { λ r. ⌜ Wrote (rowOf new) row limit (now (out .entry)) r (now (out .exit)) ⌝ }
+{
+    if new.kind == kinds::NONE {
+        return row;
+    }
+    if limit <= row {
+        return row + 1;
+    }
+    let at = WIDTH * row;
+    out[at] = new.kind;
+    out[at + 1] = new.first;
+    out[at + 2] = new.whole;
+    out[at + 3] = new.parent;
+    row + 1
+}
+
+// The row above what is inside an element: its own, if it has a kind.
+fn parent_if(kind: usize, row: usize, up: usize) -> usize
+    ensures { λ r. ⌜ r ≡ parentIf kind row up ⌝ }
+{
+    if kind == kinds::NONE { up } else { row }
+}

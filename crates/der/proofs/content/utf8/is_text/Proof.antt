@@ -1,0 +1,23 @@
+-- `der::utf8::is_text` meets its contract: octets below 80 are UTF-8, and its table is one of the classes, which is computed. Assumes nothing.
+use mathlib.Core.Path.{refl, sym}
+use borrow.Author.Needs.{needs}
+use Rattle.der.specs.steps.Utf8Classes.{classOf}
+use Rattle.der.proofs.theorems.content.Utf8Steps.{classes-right}
+use Rattle.der.proofs.content.utf8.is_text.Statement.{statement}
+use Rattle.der.proofs.content.utf8.is_text.Tie as tie
+
+ascii-requires : tie.Need-ascii-requires
+ascii-requires c κs = search needs
+
+returns : tie.Need-returns
+returns c = sym (c .before .ascii .ensures (c .if1 .taken))
+
+text-requires : tie.Need-text-requires
+unfolding classOf
+text-requires c κs = classes-right _ refl
+
+returns-2 : tie.Need-returns-2
+returns-2 c = c .text .ensures
+
+pub is-text-spec : {M : Type 1} → statement M
+is-text-spec = tie.close (tie.spec ascii-requires returns text-requires returns-2)

@@ -1,0 +1,115 @@
+-- How the header's answer and the walk go on, one step at a time, with what was found before as equations. Assumes nothing.
+use Prim.Native.Nat.{ℕ, zero, suc, _+_, _-_, _≤_, _<_}
+use mathlib.Core.Path.{_≡_, refl, _∙_}
+use mathlib.Core.Bool.{true, false}
+use mathlib.Core.List.{List, [], _∷_}
+use native.Mathlib.Numerals.{sub-one}
+use native.Mathlib.Omega.{arith}
+use lib.ListN.{length, take, drop}
+use lib.Seq.{slice, take-length}
+use borrow.Author.Tests.{le-leb, lt-leb}
+use Rattle.der.specs.declared.cause.Cause.{Cause}
+use Rattle.der.specs.declared.cause.Cause.the-variants.{WrongIdentifier, PastEnd}
+use Rattle.der.specs.declared.element.header.Head.the-variants.{Stands, Broken}
+use Rattle.der.specs.declared.explain.Nest.{Nest}
+use Rattle.der.specs.declared.explain.Nest.the-variants.{End, Fault}
+use Rattle.der.specs.meaning.Identifier.{allowed, constructed, tagNumber}
+use Rattle.der.specs.meaning.Length.{Length, octets, lengthOf}
+use Rattle.der.specs.steps.Header.{fitting, sizedBy, headOf}
+use Rattle.der.specs.steps.ContentTest.{holds}
+use Rattle.der.specs.meaning.Bounds.{depth, longest}
+use Rattle.der.specs.steps.Explain.{faultAt, listOf, primitiveOf, elementOf, walkAt}
+
+-- The header, by the identifier and the octets after it.
+module _ (id : ℕ) (bs : List ℕ) where
+  -- the identifier is not allowed
+  pub head-wrong : allowed id ≡ false → headOf (id ∷ bs) ≡ Broken WrongIdentifier
+  unfolding headOf
+  head-wrong e = rw (e, headOf)
+
+  -- the identifier is allowed: what the length octets say decides
+  pub head-sized : {l : Length} → allowed id ≡ true → lengthOf bs ≡ l → headOf (id ∷ bs) ≡ sizedBy id bs l
+  unfolding headOf
+  head-sized e f = rw (e, f, headOf)
+
+  -- the content fits
+  pub head-stands : {k n : ℕ} → allowed id ≡ true → lengthOf bs ≡ octets k n → k + n ≤ length bs → headOf (id ∷ bs) ≡ Stands id (suc k) n
+  unfolding sizedBy
+  head-stands e f fits = rw (head-sized e f, fitting, le-leb _ _ fits)
+
+  -- the content runs past the end
+  pub head-past : {k n : ℕ} → allowed id ≡ true → lengthOf bs ≡ octets k n → length bs < k + n → headOf (id ∷ bs) ≡ Broken PastEnd
+  unfolding sizedBy
+  head-past e f far = rw (head-sized e f, fitting, lt-leb _ _ far)
+
+-- A primitive element, by its content's rule.
+module _ (p q id : ℕ) (c : List ℕ) where
+  -- the content keeps it
+  pub value-kept : holds id c ≡ true → primitiveOf p q id c ≡ End q
+  unfolding primitiveOf
+  value-kept e = rw (e, primitiveOf)
+
+  -- the content breaks it
+  pub value-unkept : holds id c ≡ false → primitiveOf p q id c ≡ Fault 5 p (tagNumber id)
+  unfolding primitiveOf
+  value-unkept e = rw (e, primitiveOf)
+
+-- The walk over an element with a level of depth left, by its header.
+module _ (left p : ℕ) (bs : List ℕ) where
+  -- the header has a fault
+  pub element-broken : {c : Cause} → headOf bs ≡ Broken c → elementOf (suc left) p bs ≡ faultAt c p
+  unfolding elementOf
+  element-broken e = rw (e, elementOf)
+
+  module _ {id h n : ℕ} (e : headOf bs ≡ Stands id h n) where
+    -- constructed: the list inside answers
+    pub element-inside : constructed id ≡ true → elementOf (suc left) p bs ≡ listOf (elementOf left) n (p + h) (take n (drop h bs))
+    unfolding elementOf
+    element-inside f = rw (e, elementOf) (rw f)
+
+    -- primitive: the content answers
+    pub element-value : constructed id ≡ false → elementOf (suc left) p bs ≡ primitiveOf p (p + h + n) id (take n (drop h bs))
+    unfolding elementOf
+    element-value f = rw (e, elementOf) (rw f)
+
+-- a list without octets ends where it starts
+pub list-empty : (judge : ℕ → List ℕ → Nest) (n p : ℕ) → listOf judge n p [] ≡ End p
+unfolding listOf
+list-empty judge zero p = refl
+list-empty judge (suc n) p = refl
+
+-- a list's first element ends: the list goes on after it
+pub list-next : (judge : ℕ → List ℕ → Nest) (n p : ℕ) (bs : List ℕ) {q : ℕ} → 0 < length bs → length bs ≤ n → judge p bs ≡ End q
+    → listOf judge n p bs ≡ listOf judge (n - 1) q (drop (q - p) bs)
+unfolding listOf
+list-next judge n p [] some enough e = absurd (omega arith)
+list-next judge zero p (b ∷ bs) some enough e = absurd (omega arith)
+list-next judge (suc n) p (b ∷ bs) some enough e = rw (e, listOf, sub-one)
+
+-- a list's first element has a fault: so has the list
+pub list-stop : (judge : ℕ → List ℕ → Nest) (n p : ℕ) (bs : List ℕ) {m q k : ℕ} → 0 < length bs → length bs ≤ n → judge p bs ≡ Fault m q k
+    → listOf judge n p bs ≡ Fault m q k
+unfolding listOf
+list-stop judge n p [] some enough e = absurd (omega arith)
+list-stop judge zero p (b ∷ bs) some enough e = absurd (omega arith)
+list-stop judge (suc n) p (b ∷ bs) some enough e = rw (e, listOf)
+
+-- no answer is an end and a fault
+pub end-fault : {A : Type 0} {r : Nest} {e n q k : ℕ} → r ≡ End e → r ≡ Fault n q k → A
+end-fault ends faulty = let z : _≡_ {A = ℕ} 0 1 = cc in absurd (omega arith)
+
+-- The walk over an input.
+module _ (s : List ℕ) where
+  -- one that is not too long
+  pub walk-short : (at end : ℕ) → length s ≤ longest → walkAt s at end ≡ elementOf depth at (slice at end s)
+  unfolding walkAt
+  walk-short at end short = rw (walkAt, le-leb _ _ short)
+
+  -- the whole of one that is not too long
+  pub walk-whole : length s ≤ longest → walkAt s 0 (length s) ≡ elementOf depth 0 s
+  walk-whole short = walk-short 0 (length s) short ∙ rw take-length
+
+  -- one that is too long
+  pub walk-long : (at end : ℕ) → longest < length s → walkAt s at end ≡ Fault 1 0 0
+  unfolding walkAt
+  walk-long at end long = rw (walkAt, lt-leb _ _ long)

@@ -1,0 +1,4 @@
+-- Lists and parts of lists.
+pub mod Ends
+pub mod Parts
+pub mod Range

@@ -1,0 +1,3 @@
+-- Element trees, and the tree that octets are read as.
+pub mod Readings
+pub mod Trees

@@ -1,0 +1,3 @@
+-- Octets without a fault.
+pub mod RecogniseWays
+pub mod Recognising

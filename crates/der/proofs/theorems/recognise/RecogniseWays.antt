@@ -1,0 +1,64 @@
+-- The recogniser as the code takes it: the loop over a list of elements, of which a law says each way on from `at`. The octets
+-- that are lent on stand as the code writes them. Assumes nothing.
+use Prim.Native.Nat.{ℕ, suc, _+_, _-_, _≤_, _<_}
+use mathlib.Core.Path.{_≡_, sym, ap, ap₂, _∙_}
+use mathlib.Core.Bool.{true, false, _&&_}
+use mathlib.Core.List.{List}
+use native.Mathlib.Nat.{add-zero}
+use native.Mathlib.Omega.{arith}
+use lib.ListN.{length, take, drop, getD, length-drop}
+use lib.Seq.{slice, drop-drop, drop-length, getD-drop}
+use Rattle.der.specs.declared.element.length.Span.{Span}
+use Rattle.der.specs.steps.Span.{spanOf}
+use Rattle.der.specs.steps.Recognise.{isList, isElement}
+use Rattle.der.specs.meaning.Bounds.{longest}
+use Rattle.der.proofs.theorems.lists.Parts.{take-from, take-drop}
+use Rattle.der.proofs.theorems.recognise.Recognising.{is-list-none, is-list-deep, is-list-lost, is-list-step}
+use Rattle.der.proofs.theorems.element.Spans.{span-fits}
+
+-- after the last element
+pub from-done : (left at : ℕ) (bs : List ℕ) → at ≡ length bs → isList left (drop at bs) ≡ true
+from-done left at bs all = ap (isList left) (ap (λ (k : ℕ). drop k bs) all ∙ drop-length bs) ∙ is-list-none left
+
+-- Where an octet stands, and the span there is found.
+module _ (left at : ℕ) (bs : List ℕ) (x : Span) (inside : at < length bs) (found : x ≡ spanOf (take (length bs - at) (drop at bs))) where
+  -- it is the span of the octets from there on
+  there : x ≡ spanOf (drop at bs)
+  there = found ∙ ap spanOf (take-from at bs)
+
+  -- there are octets
+  some : 0 < length (drop at bs)
+  some = omega (arith, length-drop at bs)
+
+  -- there is no span
+  pub from-lost : x .octets ≡ 0 → isList left (drop at bs) ≡ false
+  from-lost lost = is-list-lost left (drop at bs) some (ap (λ (y : Span). y .octets) (sym there) ∙ lost)
+
+  -- there is no level of depth left
+  pub from-deep : left ≡ 0 → isList left (drop at bs) ≡ false
+  from-deep deep = ap (λ (l : ℕ). isList l (drop at bs)) deep ∙ is-list-deep (drop at bs) some
+
+  module _ (one : x .octets ≡ 0 → ⊥) where
+    -- the span's own octets are some
+    span-some : spanOf (drop at bs) .octets ≡ 0 → ⊥
+    span-some lost = one (ap (λ (y : Span). y .octets) there ∙ lost)
+
+    -- it and its content end within the list
+    pub from-within : (2 ≤ x .octets) × (at + x .octets + x .length ≤ length bs)
+    from-within = rw there (omega (arith, span-fits (drop at bs) span-some, length-drop at bs))
+
+    -- with a level of depth left, the element there and the octets after it decide
+    pub from-next : length bs ≤ longest → (left ≡ 0 → ⊥) → let from = at + x .octets in let to = from + x .length in
+        isList left (drop at bs) ≡ (isElement (getD bs at 0) (left - 1) (take (to - from) (drop from bs)) && isList left (drop to bs))
+    from-next short level =
+        let h = spanOf (drop at bs) .octets in
+        let n = spanOf (drop at bs) .length in
+        let more : left ≡ suc (left - 1) = omega arith in
+        let first : getD (drop at bs) 0 0 ≡ getD bs at 0 = getD-drop at bs 0 0 ∙ ap (λ (k : ℕ). getD bs k 0) (add-zero at) in
+        let size : n ≡ at + h + n - (at + h) = omega arith in
+        let content : slice h (h + n) (drop at bs) ≡ take (at + h + n - (at + h)) (drop (at + h) bs) =
+        sym (take-drop n h (drop at bs)) ∙ ap₂ (λ (k : ℕ) (l : List ℕ). take k l) size (drop-drop h at bs) in
+        let end : at + (h + n) ≡ at + h + n = omega arith in
+        let behind : drop (h + n) (drop at bs) ≡ drop (at + h + n) bs = drop-drop (h + n) at bs ∙ ap (λ (k : ℕ). drop k bs) end in
+        let step = is-list-step (left - 1) (drop at bs) (omega (arith, length-drop at bs)) span-some in
+        rw there (cc (step, more, first, content, behind))

@@ -1,0 +1,2 @@
+-- What the worked examples are stated with.
+pub mod Each

@@ -1,0 +1,10 @@
+-- What a reader has to believe of DER elements, in the order of document 01's section "The nest of elements".
+pub mod Refusal
+pub mod Octets
+pub mod Bounds
+pub mod Identifier
+pub mod Length
+pub mod Utf8
+pub mod Content
+pub mod Tree
+pub mod Fault

@@ -1,0 +1,50 @@
+-- Document 01's batches marked [P], read: one statement over the list of them, computed on the definitions. Assumes nothing.
+use mathlib.Core.Path.{_≡_, refl}
+use Rattle.der.specs.examples.Each.{Each, _&_}
+use Rattle.der.specs.meaning.Identifier.{tagNumber, constructed, allowed}
+use Rattle.der.specs.meaning.Length.{valueFrom, shortest, longForm, lengthOf}
+use Rattle.der.specs.steps.Header.{sizedBy, headOf}
+use Rattle.der.specs.steps.Utf8Classes.{classOf, leads, tails, lowest, highest, utf8From, utf8}
+use Rattle.der.specs.meaning.Content.{integer, lastOf, unpadded, objectIdentifier}
+use Rattle.der.specs.steps.ContentTest.{holds}
+use Rattle.der.specs.steps.Explain.{listOf, primitiveOf, elementOf, walkAt}
+use Rattle.der.specs.steps.Reading.{given, read, treeOf, tree, nothingAt}
+use Rattle.crmf.specs.meaning.Value.{isUpTo, keeps, typeNumber, selected}
+use Rattle.crmf.specs.meaning.Lists.{same, over}
+use Rattle.crmf.specs.meaning.Notation.{among, named, order}
+use Rattle.crmf.specs.meaning.Grammar.{content}
+use Rattle.crmf.specs.steps.grammar.Lines.{partSize, size, startsFrom, start, insideLine, passOf, formLines, nextLine, wayLine, partLines, containerLines, linesFrom, lines}
+use Rattle.crmf.specs.steps.explain.Walk.{line, seekIn, seek, closedIn, closed, judged, noted, lengthy, met, walk, fresh}
+use Rattle.crmf.specs.meaning.Rows.{numbers, firstLong}
+use Rattle.crmf.specs.steps.rows.Fill.{goes, rowsFrom, rowsOf, fits}
+use Rattle.editions.specs.meaning.Reading.{batchAnswer, answer, readAnswer, tableAfter}
+use Rattle.editions.specs.examples.Paper.{Entry, entries}
+
+-- reading answers the entry's numbers and leaves the entry's table
+abbrev pub Reads : Entry → Type 0
+Reads x =
+    (readAnswer (x .edition) (x .octets) (x .table) ≡ record { number = x .number; place = x .place; count = x .count })
+    × (tableAfter (x .edition) (x .octets) (x .table) ≡ x .after)
+
+-- Every entry of the list is read as document 01 says.
+pub paper : Each Reads entries
+unfolding tagNumber constructed allowed valueFrom shortest longForm lengthOf sizedBy headOf
+    classOf leads tails lowest highest utf8From utf8 integer lastOf unpadded objectIdentifier holds listOf primitiveOf elementOf walkAt
+    nothingAt given read treeOf tree same isUpTo keeps typeNumber selected among named order content
+    partSize size startsFrom start insideLine passOf formLines nextLine wayLine partLines containerLines linesFrom lines
+    line seekIn seek closedIn closed judged noted lengthy met walk fresh numbers firstLong goes rowsFrom rowsOf over fits
+    batchAnswer answer readAnswer tableAfter
+paper =
+    (refl, refl) & (refl, refl)
+    & (refl, refl) & (refl, refl)
+    & (refl, refl) & (refl, refl)
+    & (refl, refl) & (refl, refl)
+    & (refl, refl) & (refl, refl)
+    & (refl, refl) & (refl, refl)
+    & (refl, refl) & (refl, refl)
+    & (refl, refl) & (refl, refl)
+    & (refl, refl) & (refl, refl)
+    & (refl, refl) & (refl, refl)
+    & (refl, refl) & (refl, refl)
+    & (refl, refl) & (refl, refl)
+    & tt

@@ -1,0 +1,3 @@
+-- The theorems and laws about the definitions.
+pub mod verdict
+pub mod duplicates

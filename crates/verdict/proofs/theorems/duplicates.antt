@@ -1,0 +1,7 @@
+-- The duplicate search.
+pub mod Collecting
+pub mod FirstPairs
+pub mod Magnitudes
+pub mod Numbers
+pub mod SearchAnswers
+pub mod SearchVectors

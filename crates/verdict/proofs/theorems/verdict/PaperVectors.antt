@@ -1,0 +1,55 @@
+-- Document 01's batches marked [P]: one statement over the list of them, of reading and of the verdicts that it prints. Assumes nothing.
+use Prim.Native.Nat.{ℕ, suc}
+use mathlib.Core.Path.{_≡_, refl}
+use mathlib.Core.List.{List, [], _∷_}
+use Rattle.der.specs.examples.Each.{Each, _&_}
+use Rattle.der.specs.meaning.Identifier.{tagNumber, constructed, allowed}
+use Rattle.der.specs.meaning.Length.{valueFrom, shortest, longForm, lengthOf}
+use Rattle.der.specs.steps.Header.{sizedBy, headOf}
+use Rattle.der.specs.meaning.Content.{integer, lastOf, unpadded, objectIdentifier}
+use Rattle.der.specs.steps.ContentTest.{holds}
+use Rattle.der.specs.steps.Explain.{listOf, primitiveOf, elementOf, walkAt}
+use Rattle.der.specs.steps.Reading.{given, read, treeOf, tree, nothingAt}
+use Rattle.crmf.specs.meaning.Value.{isUpTo, keeps, typeNumber, selected}
+use Rattle.crmf.specs.meaning.Lists.{same}
+use Rattle.crmf.specs.meaning.Notation.{among, named, order}
+use Rattle.crmf.specs.meaning.Grammar.{content}
+use Rattle.crmf.specs.steps.grammar.Lines.{partSize, size, startsFrom, start, insideLine, passOf, formLines, nextLine, wayLine, partLines, containerLines, linesFrom, lines}
+use Rattle.crmf.specs.steps.explain.Walk.{line, seekIn, seek, closedIn, closed, judged, noted, lengthy, met, walk, fresh}
+use Rattle.crmf.specs.meaning.Rows.{firstLong}
+use Rattle.crmf.specs.steps.rows.Fill.{goes, rowsFrom, rowsOf}
+use Rattle.crmf.specs.meaning.Fields.{fields, missing, nth, child}
+use Rattle.crmf.specs.meaning.Fields
+use Rattle.crmf.specs.meaning.Messages.{messageOf, batch, messages}
+use Rattle.editions.specs.meaning.Reading.{batchAnswer, answer}
+use Rattle.editions.specs.examples.Paper.{Entry, entries}
+use Rattle.editions.proofs.theorems.PaperVectors.{Reads}
+use Rattle.editions.proofs.theorems.PaperVectors as readings
+use Rattle.verdict.specs.meaning.Verdict.{verdictOf, signedOf, verdictAnswer}
+
+-- the verdicts on an entry's messages, from a position on
+abbrev pub Judges : Entry → ℕ → List ℕ → Type 0
+Judges x i [] = Unit {0}
+Judges x i (v ∷ vs) =
+    (verdictAnswer (x .edition) (x .octets) i .number ≡ 0) × (verdictAnswer (x .edition) (x .octets) i .verdict ≡ v) × Judges x (suc i) vs
+
+judgings : Each (λ x. Judges x 0 (x .verdicts)) entries
+unfolding tagNumber constructed allowed valueFrom shortest longForm lengthOf sizedBy headOf
+    integer lastOf unpadded objectIdentifier holds listOf primitiveOf elementOf walkAt nothingAt given read treeOf tree same isUpTo keeps typeNumber selected
+    among named order content partSize size startsFrom start insideLine passOf formLines nextLine wayLine partLines containerLines linesFrom lines
+    line seekIn seek closedIn closed judged noted lengthy met walk fresh firstLong goes rowsFrom rowsOf fields missing nth Fields.seek child messageOf batch messages
+    batchAnswer answer verdictOf signedOf verdictAnswer
+judgings =
+    tt & tt & tt & tt & tt & tt & tt & tt & tt & tt & tt & tt & tt & tt
+    & (refl, refl, tt) & (refl, refl, tt)
+    & tt & tt & tt & tt & tt & tt & tt & tt
+    & tt
+
+-- two facts of each
+both : {A : Type 0} (P Q : A → Type 0) (xs : List A) → Each P xs → Each Q xs → Each (λ x. P x × Q x) xs
+both P Q [] p q = tt
+both P Q (x ∷ xs) p q = (p .0, q .0) & both P Q xs (p .1) (q .1)
+
+-- Every entry of the list is read and judged as document 01 says.
+pub paper : Each (λ x. Reads x × Judges x 0 (x .verdicts)) entries
+paper = both Reads (λ x. Judges x 0 (x .verdicts)) entries readings.paper judgings

@@ -1,0 +1,134 @@
+-- The verdict on a message's proof, and the part that its signature covers, on the messages of the batch. Assumes nothing.
+use Prim.Native.Nat.{ℕ, _+_}
+use mathlib.Core.Path.{_≡_}
+use mathlib.Core.Bool.{Bool, true, false, not, _&&_}
+use mathlib.Core.List.{List}
+use mathlib.Core.Option.{some, none as absent}
+use lib.Dec.{eqb, ltb}
+use lib.ListN.{length, getD}
+use lib.Seq.{slice}
+use denote.Ref.{RefT, ptr, now}
+use Rattle.der.specs.meaning.Refusal.{accepted, noSuchMessage}
+use Rattle.der.specs.steps.Reading.{tree}
+use Rattle.crmf.specs.meaning.Fields.{Field, child, missing}
+use Rattle.crmf.specs.meaning.Messages.{Message, messageOf, batch, messages}
+use Rattle.editions.specs.declared.reader.Answer.{Answer}
+use Rattle.editions.specs.meaning.Reading.{answer}
+use Rattle.verdict.specs.declared.verdict.Verdict.{Verdict}
+
+-- "0 no proof."
+abbrev pub noProof : ℕ
+noProof = 0
+
+-- "1 raVerified."
+abbrev pub raVerified : ℕ
+raVerified = 1
+
+-- "2 signature over the certReq: no poposkInput, subject and publicKey both in the template."
+abbrev pub signedRequest : ℕ
+signedRequest = 2
+
+-- "3 signature over poposkInput: present, subject or publicKey missing."
+abbrev pub signedInput : ℕ
+signedInput = 3
+
+-- "4 signature otherwise."
+abbrev pub signatureNeither : ℕ
+signatureNeither = 4
+
+-- "5 other keyEncipherment"
+abbrev pub keyEncipherment : ℕ
+keyEncipherment = 5
+
+-- "6 other keyAgreement."
+abbrev pub keyAgreement : ℕ
+keyAgreement = 6
+
+-- "7 choice 82 under keyEncipherment, or without both subject and publicKey."
+abbrev pub macMisplaced : ℕ
+macMisplaced = 7
+
+-- whether an element with the identifier stands in a field
+abbrev pub has : ℕ → Field → Bool
+has id f = elim (child id f) [ absent ↦ false | some x ↦ true ]
+
+-- "subject and publicKey both in the template"
+abbrev pub named : Message → Bool
+named m = has 0xA5 (m .template) && has 0xA6 (m .template)
+
+-- "signature A1": by whether poposkInput is there, and whether the template has both
+abbrev pub signatureVerdict : (input named : Bool) → ℕ
+signatureVerdict input named =
+    elim input [
+      | true ↦ elim named [ true ↦ signatureNeither | false ↦ signedInput ]
+      | false ↦ elim named [ true ↦ signedRequest | false ↦ signatureNeither ]
+    ]
+
+-- "keyEncipherment A2" and "keyAgreement A3": by whether the choice is 82, and whether the template has both
+abbrev pub enciphermentVerdict : (mac : Bool) → ℕ
+enciphermentVerdict mac = elim mac [ true ↦ macMisplaced | false ↦ keyEncipherment ]
+
+abbrev pub agreementVerdict : (mac named : Bool) → ℕ
+agreementVerdict mac named = elim (mac && not named) [ true ↦ macMisplaced | false ↦ keyAgreement ]
+
+-- the verdict on a proof, by its identifier: "raVerified 80", "signature A1", "keyEncipherment A2 or keyAgreement A3"
+abbrev pub proofVerdict : Message → Field → ℕ
+proofVerdict m p =
+    elim (eqb (p .identifier) 0x80) [
+      | true ↦ raVerified
+      | false ↦ elim (eqb (p .identifier) 0xA1) [
+        | true ↦ signatureVerdict (has 0xA0 p) (named m)
+        | false ↦ elim (eqb (p .identifier) 0xA2) [ true ↦ enciphermentVerdict (has 0x82 p) | false ↦ agreementVerdict (has 0x82 p) (named m) ]
+      ]
+    ]
+
+-- the verdict on a message
+unfoldable pub verdictOf : Message → ℕ
+verdictOf m = elim (m .proof) [ absent ↦ noProof | some p ↦ proofVerdict m p ]
+
+-- "Verdicts 2 and 3 hand back the signed element's bytes as they stand: the certReq, or poposkInput from its A0": its place and length; "Other
+-- verdicts and refusals hand back an empty part", from place 0
+abbrev pub inputOf : Message → ℕ × ℕ
+inputOf m = elim (m .proof) [ absent ↦ (0, 0) | some p ↦ elim (child 0xA0 p) [ absent ↦ (0, 0) | some x ↦ (x .place, x .whole) ] ]
+
+unfoldable pub signedOf : Message → ℕ × ℕ
+signedOf m =
+    elim (eqb (verdictOf m) signedRequest) [
+      | true ↦ (m .certReq .place, m .certReq .whole)
+      | false ↦ elim (eqb (verdictOf m) signedInput) [ true ↦ inputOf m | false ↦ (0, 0) ]
+    ]
+
+-- no message
+abbrev pub noMessage : List ℕ → Message
+noMessage s = messageOf (missing (batch (tree 0 s)))
+
+-- the message at a position, from 0
+abbrev pub messageAt : List ℕ → ℕ → Message
+messageAt s position = getD (messages (tree 0 s)) position (noMessage s)
+
+-- a refusal, with the numbers that the papers leave free
+abbrev pub refused : ℕ → ℕ → Verdict
+refused n p = record { number = n; place = p; verdict = noProof; from = 0; length = 0 }
+
+-- what a message's verdict answers
+abbrev pub judged : Message → Verdict
+judged m = record { number = accepted; place = 0; verdict = verdictOf m; from = signedOf m .0; length = signedOf m .1 }
+
+-- "Refusals: as reading without 11, then 14"
+unfoldable pub verdictAnswer : ℕ → List ℕ → ℕ → Verdict
+verdictAnswer e s position =
+    let a = answer e s in
+    elim (eqb (a .number) accepted) [
+      | false ↦ refused (a .number) (a .place)
+      | true ↦ elim (ltb position (length (messages (tree 0 s)))) [ false ↦ refused noSuchMessage 0 | true ↦ judged (messageAt s position) ]
+    ]
+
+-- the octets of the signed part, as a verdict gives its place and length
+abbrev pub signedOctets : List ℕ → Verdict → List ℕ
+signedOctets s v = slice (v .from) (v .from + v .length) s
+
+-- "hand back the signed element's bytes as they stand": a part of the bytes that were lent, at the same address, and no copy of them
+pub record HandedBack (bytes part : RefT (List ℕ)) (v : Verdict) : Type 0 where
+  pub octets : now part ≡ signedOctets (now bytes) v
+  pub block : ptr part .0 ≡ ptr bytes .0
+  pub offset : ptr part .1 ≡ ptr bytes .1 + v .from

@@ -1,0 +1,35 @@
+-- The walk that collects the certReqIds of a batch's messages: what it is lent and what it leaves. Assumes nothing.
+use Prim.Native.Nat.{ℕ, _+_, _≤_, _<_}
+use mathlib.Core.Path.{_≡_}
+use mathlib.Core.List.{List}
+use lib.IntN.{ℤ}
+use lib.ListN.{length, take}
+use Rattle.der.specs.declared.element.reading.Element.{Element}
+use Rattle.der.specs.meaning.Refusal.{accepted}
+use Rattle.der.specs.steps.Reading.{readAt}
+use Rattle.editions.specs.meaning.Reading.{answer}
+use Rattle.verdict.specs.meaning.Duplicates.{ids}
+
+-- The bytes of a batch that an edition accepts.
+pub record Accepted (s : List ℕ) : Type 0 where
+  pub edition : ℕ
+  pub zero : answer edition s .number ≡ accepted
+
+-- the most messages that a batch can have: each has at least 9 of its 65,535 octets
+abbrev pub most : ℕ
+most = 7281
+
+-- So many numbers at the front of a list are the certReqIds.
+pub record Collected (s : List ℕ) (numbers : List ℤ) (count : ℕ) : Type 0 where
+  pub within : count ≤ length numbers
+  pub same : take count numbers ≡ ids s
+
+-- the certReqId of the message whose inside stands from a place to another: what is read first inside what is read first there
+abbrev pub idIn : List ℕ → ℕ → ℕ → Element
+idIn s at end = let request = readAt s at end in readAt s (request .content) (request .end)
+
+-- An element has 1 to 8 content octets.
+pub record Short (s : List ℕ) (x : Element) : Type 0 where
+  pub some : x .content < x .end
+  pub eight : x .end ≤ x .content + 8
+  pub within : x .end ≤ length s

@@ -1,0 +1,11 @@
+-- The theorems and laws about the definitions.
+pub mod AddingUp
+pub mod Answering
+pub mod Assembling
+pub mod Comparing
+pub mod Demand2
+pub mod Described
+pub mod Describing
+pub mod DraftRows
+pub mod OctetRuns
+pub mod WholeLengths

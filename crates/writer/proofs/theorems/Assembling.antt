@@ -1,0 +1,97 @@
+-- Assembling from the first row to the last: what stands in the scratch before a row, one row more, and the whole. Assumes nothing.
+use Prim.Native.Nat.{ℕ, suc, _+_, _≤_, _<_}
+use native.Mathlib.Numerals.{add-one}
+use native.Mathlib.Omega.{arith}
+use mathlib.Core.Path.{_≡_, refl, sym, ap, _∙_}
+use mathlib.Core.Bool.{true, and-eq-true-iff}
+use mathlib.Core.List.{List, [], _∷_, _++_, append-assoc, append-nil}
+use lib.Dec.{leb}
+use lib.ListN.{length, take, drop, length-append}
+use lib.Seq.{drop-length, length-take-le}
+use borrow.Author.Tests.{leb-true}
+use Rattle.der.specs.meaning.Bounds.{longest}
+use Rattle.crmf.specs.meaning.Rows.{Row}
+use Rattle.crmf.specs.meaning.Pieces.{pieceOf, piecesOf}
+use Rattle.crmf.specs.steps.rows.Assembly.{own, wholeOf, assembled, within}
+use Rattle.crmf.proofs.Laws.{pieces-none, pieces-row, assembled-none, assembled-piece, within-piece}
+use Rattle.writer.specs.steps.Inner.{children, Appended, Begins}
+use Rattle.writer.proofs.theorems.WholeLengths.{stands-same, stands-past}
+
+-- The octets of the rows before number i stand in the scratch's first ones, and the others' come after them.
+pub record Joined (bytes : List ℕ) (rs : List Row) (i at : ℕ) (old scratch : List ℕ) : Type 0 where
+  pub room : longest ≤ length old
+  pub sized : length scratch ≡ length old
+  pub below : i ≤ length rs
+  pub short : at ≤ longest
+  pub fit : within longest i (piecesOf bytes (drop i rs)) ≡ true
+  pub whole : assembled 0 (piecesOf bytes rs) ≡ take at scratch ++ assembled i (piecesOf bytes (drop i rs))
+
+module _ (bytes : List ℕ) (rs : List Row) where
+  -- nothing stands before the first row
+  pub joined-first : (scratch : List ℕ) → longest ≤ length scratch → within longest 0 (piecesOf bytes rs) ≡ true → Joined bytes rs 0 0 scratch scratch
+  joined-first scratch room fit = record { room = room; sized = refl; below = omega arith; short = omega arith; fit = fit; whole = refl }
+
+  module _ (i at : ℕ) (old scratch : List ℕ) (j : Joined bytes rs i at old scratch) where
+    before : length (take at scratch) ≡ at
+    before = length-take-le at scratch (omega (arith, j .room, j .sized, j .short))
+
+    -- after the last row the whole stands there
+    pub joined-last : length rs ≤ i → Begins (assembled 0 (piecesOf bytes rs)) at scratch
+    joined-last last =
+        let end : i ≡ length rs = omega (arith, j .below) in
+        let none : assembled i (piecesOf bytes (drop i rs)) ≡ [] =
+        rw (end, drop-length rs, pieces-none bytes) (assembled-none (length rs)) in
+        let all : assembled 0 (piecesOf bytes rs) ≡ take at scratch =
+        j .whole ∙ ap (λ (l : List ℕ). take at scratch ++ l) none ∙ append-nil (take at scratch) in
+        record { counted = stands-same (sym (ap length all ∙ before)); first = λ short. sym all }
+
+    module _ (r : Row) (cut : drop i rs ≡ r ∷ drop (suc i) rs) (there : i < length rs) (inner : ℕ) (sum : inner ≡ children bytes rs i) where
+      rest : List ℕ
+      rest = assembled (suc i) (piecesOf bytes (drop (suc i) rs))
+
+      -- the pieces from this row on
+      pieces : piecesOf bytes (drop i rs) ≡ pieceOf bytes r ∷ piecesOf bytes (drop (suc i) rs)
+      pieces = ap (piecesOf bytes) cut ∙ pieces-row bytes r (drop (suc i) rs)
+
+      -- the row's whole length isn't too long, and neither is that of one after it
+      fits : (leb (wholeOf (pieceOf bytes r) inner) longest ≡ true) × (within longest (suc i) (piecesOf bytes (drop (suc i) rs)) ≡ true)
+      fits =
+          rw sum
+          (and-eq-true-iff (leb (wholeOf (pieceOf bytes r) (children bytes rs i)) longest) (within longest (suc i) (piecesOf bytes (drop (suc i) rs))) .0
+          (sym (ap (within longest i) pieces ∙ within-piece longest i (pieceOf bytes r) (piecesOf bytes (drop (suc i) rs))) ∙ j .fit))
+
+      pub row-fits : wholeOf (pieceOf bytes r) inner ≤ longest
+      row-fits = leb-true (wholeOf (pieceOf bytes r) inner) longest (fits .0)
+
+      -- the row's own octets stand before the others'
+      parted : assembled 0 (piecesOf bytes rs) ≡ (take at scratch ++ own (pieceOf bytes r) inner) ++ rest
+      unfolding rest
+      parted =
+          j .whole
+          ∙ ap (λ (l : List ℕ). take at scratch ++ l)
+          (ap (assembled i) pieces ∙ assembled-piece i (pieceOf bytes r) (piecesOf bytes (drop (suc i) rs))
+          ∙ ap (λ (n : ℕ). own (pieceOf bytes r) n ++ rest) (sym sum))
+          ∙ sym (append-assoc (take at scratch) (own (pieceOf bytes r) inner) rest)
+
+      module _ (next : ℕ) (new : List ℕ) (sized : length new ≡ length scratch) (a : Appended scratch at (own (pieceOf bytes r) inner) next new) where
+        -- with the row's octets
+        pub joined-next : next ≤ longest → Joined bytes rs (i + 1) next old new
+        unfolding rest
+        joined-next short =
+            let kept = a .kept (omega (arith, j .room, j .sized)) in
+            rw add-one
+            (record {
+              room = j .room;
+              sized = sized ∙ j .sized;
+              below = there;
+              short = short;
+              fit = fits .1;
+              whole = parted ∙ ap (λ (l : List ℕ). l ++ rest) (sym kept);
+            })
+
+        -- which may be too many
+        pub joined-stops : longest < next → Begins (assembled 0 (piecesOf bytes rs)) next new
+        joined-stops long =
+            let size = ap length parted ∙ length-append (take at scratch ++ own (pieceOf bytes r) inner) rest in
+            let front = length-append (take at scratch) (own (pieceOf bytes r) inner) in
+            record { counted = stands-past long (omega (arith, size, front, before, a .place)); first = λ short. absurd (omega arith) }

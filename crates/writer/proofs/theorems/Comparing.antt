@@ -1,0 +1,101 @@
+-- Comparing pieces one by one. Assumes nothing.
+use Prim.Native.Nat.{ℕ, suc, _+_, _<_}
+use native.Mathlib.Numerals.{add-one}
+use native.Mathlib.Omega.{arith}
+use mathlib.Core.Path.{_≡_, refl, sym, ap, ap₂, _∙_}
+use mathlib.Core.Bool.{Bool, true, false, _&&_, and-false}
+use mathlib.Core.List.{List, [], _∷_}
+use lib.Dec.{eqb}
+use lib.ListN.{length, getD, take, drop}
+use lib.Seq.{slice, drop-length, take-length}
+use borrow.Author.Tests.{eq-eqb, ne-eqb}
+use Rattle.crmf.specs.meaning.Lists.{same}
+use Rattle.crmf.specs.meaning.Rows.{Row, container}
+use Rattle.crmf.specs.meaning.Pieces.{Piece, pieceOf, piecesOf}
+use Rattle.crmf.proofs.Laws.{pieces-none, pieces-row, same-none, same-more, pieces-length}
+use Rattle.writer.specs.meaning.Writing.{samePieces}
+use Rattle.writer.specs.steps.Inner.{samePiece}
+use Rattle.writer.proofs.theorems.WholeLengths.{leaf-octets}
+
+-- octets of one length, compared as far as a place
+pub same-start : (a b : List ℕ) → true ≡ same (take 0 a) (take 0 b)
+same-start a b = sym same-none
+
+pub same-step : (a b : List ℕ) (i : ℕ) (alike : Bool) → i < length a → length a ≡ length b → alike ≡ same (take i a) (take i b)
+    → (alike && eqb (getD a i 0) (getD b i 0)) ≡ same (take (i + 1) a) (take (i + 1) b)
+same-step a b i alike there sized is =
+    rw add-one (ap (λ (x : Bool). x && eqb (getD a i 0) (getD b i 0)) is ∙ sym (same-more a b i there (omega arith)))
+
+pub same-whole : (a b : List ℕ) (i : ℕ) (alike : Bool) → i ≡ length a → length a ≡ length b → alike ≡ same (take i a) (take i b) → alike ≡ same a b
+same-whole a b i alike end sized is =
+    is ∙ ap₂ same (ap (λ (n : ℕ). take n a) end ∙ take-length a) (ap (λ (n : ℕ). take n b) (end ∙ sized) ∙ take-length b)
+
+-- the pieces of two rows
+module _ (bytes octets : List ℕ) (r s : Row) where
+  abbrev x : Piece
+  x = pieceOf bytes r
+
+  abbrev y : Piece
+  y = pieceOf octets s
+
+  pub other-kind : (r .kind ≡ s .kind → ⊥) → false ≡ samePiece x y
+  other-kind other = sym (ap (λ (b : Bool). b && (eqb (x .parent) (y .parent) && same (x .octets) (y .octets))) (ne-eqb (r .kind) (s .kind) other))
+
+  module _ (kinds : r .kind ≡ s .kind) where
+    same-kind : samePiece x y ≡ (eqb (x .parent) (y .parent) && same (x .octets) (y .octets))
+    same-kind = ap (λ (b : Bool). b && (eqb (x .parent) (y .parent) && same (x .octets) (y .octets))) (eq-eqb (r .kind) (s .kind) kinds)
+
+    pub other-parent : (r .parent ≡ s .parent → ⊥) → false ≡ samePiece x y
+    other-parent other = sym (same-kind ∙ ap (λ (b : Bool). b && same (x .octets) (y .octets)) (ne-eqb (r .parent) (s .parent) other))
+
+    module _ (parents : r .parent ≡ s .parent) where
+      same-parent : samePiece x y ≡ same (x .octets) (y .octets)
+      same-parent = same-kind ∙ ap (λ (b : Bool). b && same (x .octets) (y .octets)) (eq-eqb (r .parent) (s .parent) parents)
+
+      -- containers show no octets
+      pub both-containers : container (r .kind) ≡ true → true ≡ samePiece x y
+      both-containers is =
+          sym (same-parent ∙ ap₂ same (no-octets bytes r is) (no-octets octets s (ap container (sym kinds) ∙ is)) ∙ same-none)
+        where
+          no-octets : (l : List ℕ) (q : Row) → container (q .kind) ≡ true → pieceOf l q .octets ≡ []
+          no-octets l q is = rw (pieceOf, is)
+
+      -- and leaves those that they point at
+      pub both-leaves : container (r .kind) ≡ false → (a b : List ℕ) → a ≡ slice (r .first) (r .first + r .whole) bytes
+          → b ≡ slice (s .first) (s .first + s .whole) octets → same a b ≡ samePiece x y
+      both-leaves is a b first second =
+          ap₂ same (first ∙ sym (leaf-octets bytes r is)) (second ∙ sym (leaf-octets octets s (ap container (sym kinds) ∙ is))) ∙ sym same-parent
+
+-- pieces of another number are not the same
+pub other-count : (xs ys : List Piece) → (length xs ≡ length ys → ⊥) → samePieces xs ys ≡ false
+unfolding samePieces
+other-count [] [] other = absurd (other refl)
+other-count [] (y ∷ ys) other = refl
+other-count (x ∷ xs) [] other = refl
+other-count (x ∷ xs) (y ∷ ys) other = rw (other-count xs ys (λ is. other (ap suc is))) (and-false (samePiece x y))
+
+module _ (bytes octets : List ℕ) (rs ss : List Row) where
+  -- the pieces from a row on
+  abbrev pub from : ℕ → Bool
+  from i = samePieces (piecesOf bytes (drop i rs)) (piecesOf octets (drop i ss))
+
+  pub other-rows : (length ss ≡ length rs → ⊥) → false ≡ from 0
+  other-rows other =
+      sym (other-count (piecesOf bytes rs) (piecesOf octets ss) (λ is. other (sym (sym (pieces-length bytes rs) ∙ is ∙ pieces-length octets ss))))
+
+  -- after the last row nothing is compared
+  pub from-end : (i : ℕ) → i ≡ length rs → i ≡ length ss → from i ≡ true
+  unfolding samePieces
+  from-end i one other = ap₂ samePieces (none bytes rs one) (none octets ss other)
+    where
+      none : (l : List ℕ) (qs : List Row) → i ≡ length qs → piecesOf l (drop i qs) ≡ []
+      none l qs end = ap (λ (n : ℕ). piecesOf l (drop n qs)) end ∙ ap (piecesOf l) (drop-length qs) ∙ pieces-none l
+
+  -- a row is compared before those after it
+  pub from-row : (i : ℕ) (r s : Row) → drop i rs ≡ r ∷ drop (suc i) rs → drop i ss ≡ s ∷ drop (suc i) ss
+      → from i ≡ (samePiece (pieceOf bytes r) (pieceOf octets s) && from (i + 1))
+  unfolding samePieces
+  from-row i r s one other = rw add-one (ap₂ samePieces (cut bytes rs r one) (cut octets ss s other))
+    where
+      cut : (l : List ℕ) (qs : List Row) (q : Row) → drop i qs ≡ q ∷ drop (suc i) qs → piecesOf l (drop i qs) ≡ pieceOf l q ∷ piecesOf l (drop (suc i) qs)
+      cut l qs q is = ap (piecesOf l) is ∙ pieces-row l q (drop (suc i) qs)

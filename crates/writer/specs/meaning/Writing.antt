@@ -1,0 +1,82 @@
+-- Writing a draft in an edition: the answer and the output for every input, in document 01's order of refusals. Assumes nothing.
+use Prim.Native.Nat.{ℕ, _*_}
+use mathlib.Core.Bool.{Bool, true, false, _&&_, _||_}
+use mathlib.Core.List.{List, [], _∷_}
+use lib.Dec.{eqb, leb}
+use lib.ListN.{length}
+use Rattle.der.specs.meaning.Refusal.{accepted as acceptance, noRoom, noSuchBatch, unknownEdition}
+use Rattle.der.specs.meaning.Bounds.{longest}
+use Rattle.crmf.specs.meaning.Lists.{same, over}
+use Rattle.crmf.specs.meaning.Rows.{Row, width}
+use Rattle.crmf.specs.steps.rows.Fill.{rowsOf}
+use Rattle.crmf.specs.meaning.Pieces.{Piece, piecesOf}
+use Rattle.crmf.specs.steps.rows.Assembly.{assembled, within}
+use Rattle.editions.specs.declared.reader.Answer.{Answer}
+use Rattle.editions.specs.meaning.Edition.{rfc2511, rfc4211}
+use Rattle.editions.specs.meaning.Reading.{refusal, accepted, answer}
+use Rattle.writer.specs.meaning.Draft.{inside}
+
+-- the rows of a draft, each four of its numbers; fewer than four after the last row are ignored
+unfoldable pub rowsIn : List ℕ → List Row
+rowsIn [] = []
+rowsIn (k ∷ []) = []
+rowsIn (k ∷ p ∷ []) = []
+rowsIn (k ∷ p ∷ w ∷ []) = []
+rowsIn (k ∷ p ∷ w ∷ u ∷ more) = record { kind = k; first = p; whole = w; parent = u } ∷ rowsIn more
+
+-- the most rows that a batch can have: each has two octets of its own
+abbrev pub most : ℕ
+most = 32767
+
+-- "12 also if the row numbers aren't a multiple of four"; no batch has more rows than `most`
+abbrev pub shaped : List ℕ → Bool
+shaped draft = eqb (width * length (rowsIn draft)) (length draft) && leb (length (rowsIn draft)) most
+
+-- the pieces that a draft shows, and the only batch that can have them
+abbrev pub drafted : List ℕ → List ℕ → List Piece
+drafted draft bytes = piecesOf bytes (rowsIn draft)
+
+abbrev pub candidate : List ℕ → List ℕ → List ℕ
+candidate draft bytes = assembled 0 (drafted draft bytes)
+
+-- the same pieces
+unfoldable pub samePieces : List Piece → List Piece → Bool
+samePieces [] [] = true
+samePieces [] (y ∷ ys) = false
+samePieces (x ∷ xs) [] = false
+samePieces (x ∷ xs) (y ∷ ys) =
+    (eqb (x .kind) (y .kind) && (eqb (x .parent) (y .parent) && same (x .octets) (y .octets))) && samePieces xs ys
+
+-- whether a batch can be put together from a draft: its leaves lie in the slice, and nothing is too long
+abbrev pub assembles : List ℕ → List ℕ → Bool
+assembles draft bytes =
+    inside bytes (rowsIn draft) && (within longest 0 (drafted draft bytes) && leb (length (candidate draft bytes)) longest)
+
+-- and whether reading it accepts it and shows the draft's pieces
+abbrev pub shows : ℕ → List ℕ → List ℕ → Bool
+shows e draft bytes =
+    let s = candidate draft bytes in
+    eqb (answer e s .number) acceptance && samePieces (drafted draft bytes) (piecesOf s (rowsOf s))
+
+-- Whether a draft describes a batch.
+unfoldable pub described : ℕ → List ℕ → List ℕ → Bool
+described e draft bytes = shaped draft && (assembles draft bytes && shows e draft bytes)
+
+-- "Order of writing refusals: 13, 12, 11"; "Writing answers 0 and the batch's length"
+unfoldable pub writeAnswer : ℕ → List ℕ → List ℕ → List ℕ → Answer
+writeAnswer e draft bytes old =
+    elim (eqb e rfc2511 || eqb e rfc4211) [
+      | false ↦ refusal unknownEdition 0
+      | true ↦ elim (described e draft bytes) [
+        | false ↦ refusal noSuchBatch 0
+        | true ↦ elim (leb (length (candidate draft bytes)) (length old)) [
+          | false ↦ refusal noRoom 0
+          | true ↦ accepted (length (candidate draft bytes))
+        ]
+      ]
+    ]
+
+-- "Output past the batch stays", and a refusal changes nothing
+unfoldable pub outputAfter : ℕ → List ℕ → List ℕ → List ℕ → List ℕ
+outputAfter e draft bytes old =
+    elim (eqb (writeAnswer e draft bytes old .number) acceptance) [ true ↦ over old 0 (candidate draft bytes) | false ↦ old ]
