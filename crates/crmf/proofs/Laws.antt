@@ -56,7 +56,7 @@
 --     fields-at             between two places of some bytes, the fields are the one that is read first (`fieldAt`) and those behind it; from an
 --                           end on there are none (`fields-end`); and where there is a first, it is that one (`fields-begin`, `Begins`)
 --     inside-fields         those inside a constructed field are the ones between its content's first place and its end
---     seek-none, seek-here, seek-next    the search for an identifier, field by field; what is found has it (`child-identified`)
+--     first-with-none, first-with-here, first-with-next    the search for an identifier, field by field; what is found has it (`child-identified`)
 --     batch-at              the input's one element is read at its first byte
 --     messages-inside       its messages are those of the fields inside it, and each has its field as its own (`message-field`)
 --     proof-cases           a proof's identifier is one of the four
@@ -72,9 +72,9 @@
 --     whole-count           the rows that the lines find in it are as many as were counted
 --     whole-long            and their first long certReqId is the one that was met
 --     none-met              at first no form of the other edition was met
---     quick-walk            an input that is recognised is one element, and counting passes with as many rows and nothing to refuse (`Quick`)
---     walk-quick            conversely, one element that the edition's own walk passes is recognised, where no row is a long certReqId
---     quick-stays           the recogniser leaves the table as it is for an input that isn't recognised, and else fills it (`quick-fills`)
+--     recognised-walk            an input that is recognised is one element, and counting passes with as many rows and nothing to refuse (`Quick`)
+--     walk-recognised            conversely, one element that the edition's own walk passes is recognised, where no row is a long certReqId
+--     unrecognised-stays           the recogniser leaves the table as it is for an input that isn't recognised, and else fills it (`recognised-fills`)
 --     not-recognised        the recogniser has one answer
 --     numbers-row           the definitions of rows' numbers and of pieces, one step at a time: `pieces-row`, `own-container`, `own-leaf`,
 --                           `whole-container`, `whole-leaf`, `children-piece`, `assembled-piece`, `within-piece`; and where there is
@@ -84,7 +84,7 @@
 --     same-more             the first octets of two lists and one more are compared; with none, `same-none`; of other lengths, `other-length`
 --     over-parts            what is written over a list stands between what was before its place and after its end
 --     fits-room             there is room for rows where a table has `width` numbers for each
---     child-seek            the first field inside a field with an identifier; and a field that may be missing, as a list (`listed-none`, `listed-some`)
+--     child-first            the first field inside a field with an identifier; and a field that may be missing, as a list (`listed-none`, `listed-some`)
 pub use Rattle.crmf.proofs.theorems.explain.Accepts.{accepts}
 pub use Rattle.crmf.proofs.theorems.explain.EveryForm.{all, isPassed, walk-passes, passes-accepts}
 pub use Rattle.crmf.proofs.theorems.grammar.Choices.{Choice, taking, choosing, identifiersOf, choices, deterministic}
@@ -103,8 +103,8 @@ pub use Rattle.crmf.proofs.theorems.rows.RowsMoved.{shift, matches-move
 pub use Rattle.crmf.proofs.theorems.pieces.PiecesOf.{pieceIf, pieces, piecesIn}
 pub use Rattle.crmf.proofs.theorems.pieces.ShownPieces.{pieces-length, rows-pieces, batch-pieces}
 pub use Rattle.crmf.proofs.theorems.rows.FilledRows.{fits-room, Holds, over-holds, rows-of, rows-counted, filled-rows, filled-short, filled-whole}
-pub use Rattle.crmf.proofs.theorems.messages.FieldLaws.{child-seek, listed-none, listed-some, FormedField, IfAny}
-pub use Rattle.crmf.proofs.theorems.messages.FieldSteps.{fieldAt, Begins, fields-end, fields-at, fields-begin, inside-fields, seek-none, seek-here, seek-next, child-identified, batch-at, messages-inside, message-field, proof-cases, proof-child-stands, stands-part}
+pub use Rattle.crmf.proofs.theorems.messages.FieldLaws.{child-first, listed-none, listed-some, FormedField, IfAny}
+pub use Rattle.crmf.proofs.theorems.messages.FieldSteps.{fieldAt, Begins, fields-end, fields-at, fields-begin, inside-fields, first-with-none, first-with-here, first-with-next, child-identified, batch-at, messages-inside, message-field, proof-cases, proof-child-stands, stands-part}
 pub use Rattle.crmf.proofs.theorems.messages.FieldsMatch.{Holding}
 pub use Rattle.crmf.proofs.theorems.messages.MessageLaws.{ProofMatches, raVerified, signature, keyEncipherment, keyAgreement, MessageMatches, MessageParts, BatchContent, MessageStands}
 pub use Rattle.crmf.proofs.theorems.messages.MessageLaws.{batch-content, message-parts, messages-match, messages-formed, messages-stand, messages-moved, batch-of-matches, batch-of-formed, at-position}
@@ -116,9 +116,9 @@ pub use Rattle.crmf.proofs.theorems.messages.MessageSizes.{ids-some, id
 pub use Rattle.crmf.proofs.theorems.explain.LongIds.{rows-long, walk-long, long-none}
 pub use Rattle.crmf.proofs.theorems.explain.WholeInput.{count-whole, rows-whole, whole-count, whole-long}
 pub use Rattle.crmf.proofs.theorems.recognise.CountSteps.{not-recognised}
-pub use Rattle.crmf.proofs.theorems.recognise.CountWays.{quick-stays, quick-fills}
-pub use Rattle.crmf.proofs.theorems.recognise.RecognisedCounts.{none-met, Quick, quick-walk}
-pub use Rattle.crmf.proofs.theorems.recognise.PassedCounts.{walk-quick}
+pub use Rattle.crmf.proofs.theorems.recognise.CountWays.{unrecognised-stays, recognised-fills}
+pub use Rattle.crmf.proofs.theorems.recognise.RecognisedCounts.{none-met, Quick, recognised-walk}
+pub use Rattle.crmf.proofs.theorems.recognise.PassedCounts.{walk-recognised}
 pub use Rattle.crmf.proofs.theorems.values.ValueRules.{other-length, same-none, same-more, same-octets, same-itself}
 pub use Rattle.crmf.proofs.theorems.pieces.PieceLaws.{container-kinds, identifier-of, implied-type, implied-none, pieces-none, pieces-row, own-container, own-leaf}
 pub use Rattle.crmf.proofs.theorems.pieces.PieceLaws.{whole-container, whole-leaf, children-none, children-piece, assembled-none, assembled-piece}

@@ -19,7 +19,7 @@ ghost use lib.Seq.{slice};
 ghost use Rattle.der.specs.steps.Reading.{tree};
 ghost use Rattle.crmf.specs.steps.grammar.Packed.{packed};
 ghost use Rattle.crmf.specs.steps.explain.Walk.{line, judged, countOf};
-ghost use Rattle.crmf.specs.steps.explain.Inner.{Lent, within, Passing, walkFrom, stepped, Stepped};
+ghost use Rattle.crmf.specs.steps.explain.Inner.{Lent, insideWalk, Passing, walkFrom, stepped, Stepped};
 
 // What the walk over a container answers.
 pub enum Walked {
@@ -41,7 +41,7 @@ struct Cursor {
 }
 
 // What the walk over one element answers: where to go on, or the break.
-enum Step {
+enum WalkStep {
     On(Cursor),
     Stop {
         place: usize,
@@ -79,10 +79,10 @@ fn list(bytes: &[u8], start: Cursor, end: usize, around: usize, table: &[usize; 
     let mut cursor = start;
     while cursor.at < end {
         match element(bytes, cursor, end, table) {
-            Step::On(next) => {
+            WalkStep::On(next) => {
                 cursor = next;
             }
-            Step::Stop {
+            WalkStep::Stop {
                 place: broken,
                 detail,
                 tally,
@@ -107,7 +107,7 @@ fn list(bytes: &[u8], start: Cursor, end: usize, around: usize, table: &[usize; 
 }
 
 // The element at the cursor before `end`: the line is found by the identifier alone, the inside goes first, then the value.
-fn element(bytes: &[u8], cursor: Cursor, end: usize, table: &[usize; LINES]) -> Step
+fn element(bytes: &[u8], cursor: Cursor, end: usize, table: &[usize; LINES]) -> WalkStep
     requires { ⌜ Lent (now bytes) (cursor .at) end (cursor .tally .count) (now table) × (cursor .at < end) ⌝ }
     ensures { λ r. ⌜ Stepped (now (bytes .entry)) cursor end r ⌝ }
 {
@@ -115,7 +115,7 @@ fn element(bytes: &[u8], cursor: Cursor, end: usize, table: &[usize; LINES]) -> 
     let element = read_at(bytes, cursor.at, end);
     let fitting = line_for(element, cursor.at, cursor.state, table);
     let Fitting::Fits(fit) = fitting else {
-        return Step::Stop {
+        return WalkStep::Stop {
             place: cursor.at,
             detail: 1,
             tally,
@@ -126,7 +126,7 @@ fn element(bytes: &[u8], cursor: Cursor, end: usize, table: &[usize; LINES]) -> 
             place,
             detail,
             tally: before,
-        } => Step::Stop {
+        } => WalkStep::Stop {
             place,
             detail,
             tally: before,
@@ -138,7 +138,7 @@ fn element(bytes: &[u8], cursor: Cursor, end: usize, table: &[usize; LINES]) -> 
 // The inside of an element, if its line has any.
 fn inside(bytes: &[u8], fit: Fit, tally: Tally, table: &[usize; LINES]) -> Walked
     requires { ⌜ Lent (now bytes) (fit .content) (fit .end) (tally .count) (now table) ⌝ }
-    ensures { λ r. ⌜ ((k : ℕ) → fit .word ≡ getD packed k 0 → r ≡ within k tally (fit .first) (tree (fit .content) (slice (fit .content) (fit .end) (now (bytes .entry))))) × Passing (fit .end) r ⌝ }
+    ensures { λ r. ⌜ ((k : ℕ) → fit .word ≡ getD packed k 0 → r ≡ insideWalk k tally (fit .first) (tree (fit .content) (slice (fit .content) (fit .end) (now (bytes .entry))))) × Passing (fit .end) r ⌝ }
 {
     let state = table::inside_of(fit.word);
     if state == codes::FREE {
@@ -153,19 +153,19 @@ fn inside(bytes: &[u8], fit: Fit, tally: Tally, table: &[usize; LINES]) -> Walke
 }
 
 // The step that an element's value makes, after its inside.
-fn after_inside(bytes: &[u8], fit: Fit, tally: Tally, table: &[usize; LINES]) -> Step
+fn after_inside(bytes: &[u8], fit: Fit, tally: Tally, table: &[usize; LINES]) -> WalkStep
     requires { ⌜ (fit .content ≤ fit .end) × (fit .end ≤ length (now bytes)) × (now table ≡ packed) ⌝ }
     ensures { λ r. ⌜ ((k : ℕ) → fit .word ≡ getD packed k 0 → r ≡ stepped (fit .first) (fit .end) tally (judged (line k .judge) (line k .next) (slice (fit .content) (fit .end) (now (bytes .entry))))) ⌝ }
 {
     let from = fit.content;
     let to = fit.end;
-    match judge::value_says(table, fit.word, &bytes[from..to]) {
-        Onward::To(state) => Step::On(Cursor {
+    match judge::judge_value(table, fit.word, &bytes[from..to]) {
+        Onward::To(state) => WalkStep::On(Cursor {
             state,
             at: to,
             tally,
         }),
-        Onward::Breaks(detail) => Step::Stop {
+        Onward::Breaks(detail) => WalkStep::Stop {
             place: fit.first,
             detail,
             tally,

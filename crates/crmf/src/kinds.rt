@@ -1,7 +1,7 @@
 // The kinds of rows: document 01, section "Rows". specs/meaning/Kinds.antt has the same names.
 ghost use Prim.Native.Nat.{_≤_};
 ghost use mathlib.Core.Path.{_≡_};
-ghost use Rattle.crmf.specs.steps.explain.Walk.{rowsOf};
+ghost use Rattle.crmf.specs.steps.explain.Walk.{rowsOfKind};
 
 // No row.
 pub const NONE: usize = 0;
@@ -99,7 +99,7 @@ pub const CARRIED: usize = 74;
 
 // The rows that a kind gives: none for 0.
 pub(crate) fn row_of(kind: usize) -> usize
-    ensures { λ r. ⌜ (r ≡ rowsOf kind) × (r ≤ 1) ⌝ }
+    ensures { λ r. ⌜ (r ≡ rowsOfKind kind) × (r ≤ 1) ⌝ }
 {
     if kind == NONE { 0 } else { 1 }
 }

@@ -5,7 +5,7 @@ mod step;
 use crate::grammar::lines::LINES;
 use crate::grammar::lines::TOP;
 use crate::grammar::table;
-use crate::grammar::table::Found;
+use crate::grammar::table::FoundLine;
 use crate::recognise::step::Visit;
 use crate::rows;
 use der::bounds::DEPTH;
@@ -15,7 +15,7 @@ ghost use mathlib.Core.Path.{_≡_};
 ghost use lib.ListN.{length, drop, getD};
 ghost use Rattle.der.specs.meaning.Bounds.{longest};
 ghost use Rattle.crmf.specs.steps.grammar.Packed.{packed};
-ghost use Rattle.crmf.specs.steps.recognise.Count.{quickCount, quickTable};
+ghost use Rattle.crmf.specs.steps.recognise.Count.{recognised, recognisedTable};
 ghost use Rattle.crmf.specs.steps.recognise.Inner.{Countable, decode, ListCounted, ElementCounted};
 
 // What the recogniser answers.
@@ -28,7 +28,7 @@ pub enum Recognition {
 
 // Recognises a batch of an edition and counts its rows.
 pub fn count(edition: usize, bytes: &[u8]) -> Recognition
-    ensures { λ r. ⌜ r ≡ quickCount edition (now (bytes .entry)) ⌝ }
+    ensures { λ r. ⌜ r ≡ recognised edition (now (bytes .entry)) ⌝ }
 {
     let table = table::words();
     count_by(edition, bytes, &table)
@@ -36,7 +36,7 @@ pub fn count(edition: usize, bytes: &[u8]) -> Recognition
 
 // The same, and writes the rows into the lent table if it has room for them.
 pub fn read(edition: usize, bytes: &[u8], out: &mut [usize]) -> Recognition
-    ensures { λ r. ⌜ (r ≡ quickCount edition (now (bytes .entry))) × (now (out .exit) ≡ quickTable edition (now (bytes .entry)) (now (out .entry))) ⌝ }
+    ensures { λ r. ⌜ (r ≡ recognised edition (now (bytes .entry))) × (now (out .exit) ≡ recognisedTable edition (now (bytes .entry)) (now (out .entry))) ⌝ }
 {
     let table = table::words();
     let recognition = count_by(edition, bytes, &table);
@@ -49,7 +49,7 @@ pub fn read(edition: usize, bytes: &[u8], out: &mut [usize]) -> Recognition
 // The count by a table of lines that is lent.
 fn count_by(edition: usize, bytes: &[u8], table: &[usize; LINES]) -> Recognition
     requires { ⌜ now table ≡ packed ⌝ }
-    ensures { λ r. ⌜ r ≡ quickCount edition (now (bytes .entry)) ⌝ }
+    ensures { λ r. ⌜ r ≡ recognised edition (now (bytes .entry)) ⌝ }
 {
     if der::bounds::LONGEST < bytes.len() {
         return Recognition::Unrecognised;
@@ -137,8 +137,8 @@ fn element(
     }
     let from = at + x.octets;
     let to = from + x.length;
-    let found = table::seek(table, line, bytes[at]);
-    let Found::At(k) = found else {
+    let found = table::find_line(table, line, bytes[at]);
+    let FoundLine::At(k) = found else {
         return Advance::Stop;
     };
     let word = table::word(table, k);

@@ -38,7 +38,7 @@ pub fn read(edition: usize, bytes: &[u8], table: &mut [usize]) -> Answer
     ensures { λ r. ⌜ (r ≡ readAnswer edition (now (bytes .entry)) (now (table .entry)))
         × (now (table .exit) ≡ tableAfter edition (now (bytes .entry)) (now (table .entry))) ⌝ }
 {
-    if is_none(edition) {
+    if is_unknown(edition) {
         return refuse(UNKNOWN_EDITION, 0);
     }
     match crmf::recognise::read(edition, bytes, table) {
@@ -61,7 +61,7 @@ fn shown(count: usize, room: usize) -> Answer
 pub fn accept(edition: usize, bytes: &[u8]) -> Answer
     ensures { λ r. ⌜ r ≡ answer edition (now (bytes .entry)) ⌝ }
 {
-    if is_none(edition) {
+    if is_unknown(edition) {
         return refuse(UNKNOWN_EDITION, 0);
     }
     match crmf::recognise::count(edition, bytes) {
@@ -71,7 +71,7 @@ pub fn accept(edition: usize, bytes: &[u8]) -> Answer
 }
 
 // Whether a number is neither edition.
-fn is_none(edition: usize) -> bool
+fn is_unknown(edition: usize) -> bool
     ensures { λ r. ⌜ r ≡ (not (eqb edition rfc2511) && not (eqb edition rfc4211)) ⌝ }
 {
     (edition != RFC2511) & (edition != RFC4211)

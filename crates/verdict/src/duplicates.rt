@@ -5,8 +5,8 @@ ghost use Prim.Native.Nat.{_≤_};
 ghost use mathlib.Core.Path.{_≡_};
 ghost use lib.ListN.{length};
 ghost use lib.Seq.{slice};
-ghost use Rattle.verdict.specs.meaning.Duplicates.{part, signed, sameNumber, pairOf, searched, duplicatesAnswer};
-ghost use Rattle.verdict.specs.steps.Collecting.{Accepted, most, Collected, idIn, Short};
+ghost use Rattle.verdict.specs.meaning.Duplicates.{magnitudeOctet, signed, sameNumber, pairOf, searched, duplicatesAnswer};
+ghost use Rattle.verdict.specs.steps.Collecting.{Accepted, mostMessages, Collected, idIn, Short};
 
 // A message's certReqId, a signed whole number. It is never a position.
 pub struct ReqId(pub i64);
@@ -22,7 +22,7 @@ pub struct Duplicates {
 }
 
 // The most messages that a batch can have: each has at least 9 of its 65,535 octets.
-const MOST: usize = 7281;
+const MOST_MESSAGES: usize = 7281;
 
 // Searches the messages of a batch for the first two with the same certReqId, in an edition: the refusal, or the pair if there is one.
 pub fn search(edition: usize, bytes: &[u8]) -> Duplicates
@@ -38,14 +38,14 @@ pub fn search(edition: usize, bytes: &[u8]) -> Duplicates
             later: 0,
         };
     }
-    let mut numbers = [0i64; MOST];
+    let mut numbers = [0i64; MOST_MESSAGES];
     let count = collect(bytes, &mut numbers);
     first_pair(&numbers[..count])
 }
 
 // Collects the certReqIds of an accepted batch's messages, by position: how many they are.
 fn collect(bytes: &[u8], numbers: &mut [i64]) -> usize
-    requires { ⌜ Accepted (now bytes) × (length (now numbers) ≡ most) ⌝ }
+    requires { ⌜ Accepted (now bytes) × (length (now numbers) ≡ mostMessages) ⌝ }
     ensures { λ r. ⌜ Collected (now (bytes .entry)) (now (numbers .exit)) r ⌝ }
 {
     let end = bytes.len();
@@ -90,7 +90,7 @@ fn signed(content: &[u8]) -> i64
 
 // An octet's part in the magnitude of a number: itself, or its complement where the number is negative.
 fn magnitude(octet: u8, negative: bool) -> u64
-    ensures { λ r. ⌜ r ≡ part negative octet ⌝ }
+    ensures { λ r. ⌜ r ≡ magnitudeOctet negative octet ⌝ }
 {
     if negative {
         255 - octet as u64

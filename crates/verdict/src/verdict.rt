@@ -8,11 +8,11 @@ ghost use mathlib.Core.Path.{_≡_};
 ghost use mathlib.Core.List.{List, [], _∷_};
 ghost use mathlib.Core.Option.{Option};
 ghost use lib.ListN.{drop};
-ghost use Rattle.crmf.specs.meaning.Fields.{Field, fieldsBetween, seek};
+ghost use Rattle.crmf.specs.meaning.Fields.{Field, fieldsBetween, firstWith};
 ghost use Rattle.crmf.specs.meaning.Messages.{Message};
 ghost use Rattle.crmf.proofs.Laws.{MessageParts};
-ghost use Rattle.verdict.specs.meaning.Verdict.{named, enciphermentVerdict, agreementVerdict, refused, judged, verdictAnswer, HandedBack};
-ghost use Rattle.verdict.specs.steps.Judging.{Places, holds, Found, told, bare, signatureAnswer, proofAnswer};
+ghost use Rattle.verdict.specs.meaning.Verdict.{hasSubjectAndKey, enciphermentVerdict, agreementVerdict, refused, verdictOn, verdictAnswer, HandedBack};
+ghost use Rattle.verdict.specs.steps.Judging.{Places, holds, FieldFound, told, bare, signatureAnswer, proofAnswer};
 
 // The verdicts.
 
@@ -54,7 +54,7 @@ pub struct Verdict {
 }
 
 // A part of the bytes: its first byte and its length.
-struct Part {
+struct Extent {
     from: usize,
     length: usize,
 }
@@ -107,22 +107,22 @@ fn skip(bytes: &[u8], at: usize, end: usize, count: usize) -> usize
 }
 
 // The part of the first element with an identifier, of those from `at` to `end`; 0 and 0 where there is none.
-fn find(bytes: &[u8], at: usize, end: usize, id: u8) -> Part
+fn find(bytes: &[u8], at: usize, end: usize, id: u8) -> Extent
     requires { ⌜ Places (now bytes) at end ⌝ }
-    ensures { λ r. ⌜ Found (seek (id ∷ []) (fieldsBetween (now (bytes .entry)) at end)) r ⌝ }
+    ensures { λ r. ⌜ FieldFound (firstWith (id ∷ []) (fieldsBetween (now (bytes .entry)) at end)) r ⌝ }
 {
     let mut place = at;
     while place < end {
         let x = read_at(bytes, place, end);
         if x.identifier == id {
-            return Part {
+            return Extent {
                 from: place,
                 length: x.end - place,
             };
         }
         place = x.end;
     }
-    Part { from: 0, length: 0 }
+    Extent { from: 0, length: 0 }
 }
 
 // Whether an element with an identifier stands among those from `at` to `end`.
@@ -136,7 +136,7 @@ fn has(bytes: &[u8], at: usize, end: usize, id: u8) -> bool
 // Whether subject and publicKey both stand in the template of the certReq whose inside is from `at` to `end`.
 fn is_named(bytes: &[u8], at: usize, end: usize) -> bool
     requires { ⌜ Places (now bytes) at end ⌝ }
-    ensures { λ r. ⌜ ((m : Message) (more : List Field) → fieldsBetween (now (bytes .entry)) at end ≡ m .certReqId ∷ m .template ∷ more → m .template .identifier ≡ 0x30 → r ≡ named m) ⌝ }
+    ensures { λ r. ⌜ ((m : Message) (more : List Field) → fieldsBetween (now (bytes .entry)) at end ≡ m .certReqId ∷ m .template ∷ more → m .template .identifier ≡ 0x30 → r ≡ hasSubjectAndKey m) ⌝ }
 {
     let id = read_at(bytes, at, end);
     let template = read_at(bytes, id.end, end);
@@ -147,7 +147,7 @@ fn is_named(bytes: &[u8], at: usize, end: usize) -> bool
 // The verdict on the message from `at` before `end`.
 fn message(bytes: &[u8], at: usize, end: usize) -> Verdict
     requires { ⌜ Places (now bytes) at end ⌝ }
-    ensures { λ r. ⌜ ((m : Message) (more : List Field) → fieldsBetween (now (bytes .entry)) at end ≡ m .own ∷ more → MessageParts m → r ≡ judged m) ⌝ }
+    ensures { λ r. ⌜ ((m : Message) (more : List Field) → fieldsBetween (now (bytes .entry)) at end ≡ m .own ∷ more → MessageParts m → r ≡ verdictOn m) ⌝ }
 {
     let own = read_at(bytes, at, end);
     let first = own.content;
@@ -155,7 +155,7 @@ fn message(bytes: &[u8], at: usize, end: usize) -> Verdict
     let request = read_at(bytes, first, last);
     let after = request.end;
     let both = is_named(bytes, request.content, after);
-    let part = Part {
+    let part = Extent {
         from: first,
         length: after - first,
     };
@@ -163,7 +163,7 @@ fn message(bytes: &[u8], at: usize, end: usize) -> Verdict
 }
 
 // The verdict by what stands after the certReq.
-fn proof_verdict(bytes: &[u8], proof: Element, both: bool, request: Part) -> Verdict
+fn proof_verdict(bytes: &[u8], proof: Element, both: bool, request: Extent) -> Verdict
     requires { ⌜ Places (now bytes) (proof .content) (proof .end) ⌝ }
     ensures { λ r. ⌜ r ≡ proofAnswer (proof .identifier) (fieldsBetween (now (bytes .entry)) (proof .content) (proof .end)) both request ⌝ }
 {
@@ -180,8 +180,8 @@ fn proof_verdict(bytes: &[u8], proof: Element, both: bool, request: Part) -> Ver
 }
 
 // The verdict on a signature: over the certReq, over the poposkInput, or neither.
-fn signature(input: Part, both: bool, request: Part) -> Verdict
-    ensures { λ r. ⌜ ((o : Option Field) → Found o input → r ≡ signatureAnswer o both request) ⌝ }
+fn signature(input: Extent, both: bool, request: Extent) -> Verdict
+    ensures { λ r. ⌜ ((o : Option Field) → FieldFound o input → r ≡ signatureAnswer o both request) ⌝ }
 {
     if input.length == 0 {
         if both {
@@ -214,7 +214,7 @@ fn agreement(mac: bool, both: bool) -> usize
 }
 
 // A verdict with the part that is signed.
-fn tell(verdict: usize, part: Part) -> Verdict
+fn tell(verdict: usize, part: Extent) -> Verdict
     ensures { λ r. ⌜ r ≡ told verdict part ⌝ }
 {
     Verdict {

@@ -17,19 +17,19 @@ ghost use Rattle.writer.specs.meaning.Writing.{rowsIn, shaped, candidate
 ghost use Rattle.writer.specs.steps.Inner.{few, Room, AddedUp, Built};
 
 // What a draft is found to describe: a batch, by its length, or nothing.
-pub(crate) enum Found {
+pub(crate) enum Outcome {
     Batch(usize),
     Nothing,
 }
 
 // The most rows that a batch can have.
-pub(crate) const MOST: usize = 32767;
+pub(crate) const MOST_ROWS: usize = 32767;
 
 // The most rows for which a small table is made. Clearing the largest table takes longer than the rest of a small draft.
 const FEW: usize = 256;
 
 // Finds what a draft describes; the scratch then begins with the batch.
-pub(crate) fn build(edition: usize, draft: &[usize], bytes: &[u8], scratch: &mut [u8]) -> Found
+pub(crate) fn build(edition: usize, draft: &[usize], bytes: &[u8], scratch: &mut [u8]) -> Outcome
     requires { ⌜ (shaped (now draft) ≡ true) × (longest ≤ length (now scratch)) ⌝ }
     ensures { λ r. ⌜ Built edition (now (draft .entry)) (now (bytes .entry)) (now (scratch .exit)) r ⌝ }
 {
@@ -40,7 +40,7 @@ pub(crate) fn build(edition: usize, draft: &[usize], bytes: &[u8], scratch: &mut
 }
 
 // The same for a draft of few rows.
-fn build_few(edition: usize, draft: &[usize], bytes: &[u8], scratch: &mut [u8]) -> Found
+fn build_few(edition: usize, draft: &[usize], bytes: &[u8], scratch: &mut [u8]) -> Outcome
     requires { ⌜ (shaped (now draft) ≡ true) × (longest ≤ length (now scratch)) × (length (rowsIn (now draft)) ≤ few) ⌝ }
     ensures { λ r. ⌜ Built edition (now (draft .entry)) (now (bytes .entry)) (now (scratch .exit)) r ⌝ }
 {
@@ -49,11 +49,11 @@ fn build_few(edition: usize, draft: &[usize], bytes: &[u8], scratch: &mut [u8]) 
 }
 
 // The same for a draft of as many rows as a batch can have.
-fn build_many(edition: usize, draft: &[usize], bytes: &[u8], scratch: &mut [u8]) -> Found
+fn build_many(edition: usize, draft: &[usize], bytes: &[u8], scratch: &mut [u8]) -> Outcome
     requires { ⌜ (shaped (now draft) ≡ true) × (longest ≤ length (now scratch)) ⌝ }
     ensures { λ r. ⌜ Built edition (now (draft .entry)) (now (bytes .entry)) (now (scratch .exit)) r ⌝ }
 {
-    let mut table = [0usize; WIDTH * MOST];
+    let mut table = [0usize; WIDTH * MOST_ROWS];
     build_in(edition, draft, bytes, scratch, &mut table)
 }
 
@@ -64,12 +64,12 @@ fn build_in(
     bytes: &[u8],
     scratch: &mut [u8],
     table: &mut [usize],
-) -> Found
+) -> Outcome
     requires { ⌜ Room (now draft) (now scratch) (now table) ⌝ }
     ensures { λ r. ⌜ Built edition (now (draft .entry)) (now (bytes .entry)) (now (scratch .exit)) r ⌝ }
 {
     if !add_up(draft, bytes, table) {
-        return Found::Nothing;
+        return Outcome::Nothing;
     }
     build_summed(edition, draft, bytes, scratch, table)
 }
@@ -81,18 +81,18 @@ fn build_summed(
     bytes: &[u8],
     scratch: &mut [u8],
     table: &mut [usize],
-) -> Found
+) -> Outcome
     requires { ⌜ AddedUp (now draft) (now bytes) (now scratch) (now table) ⌝ }
     ensures { λ r. ⌜ Built edition (now (draft .entry)) (now (bytes .entry)) (now (scratch .exit)) r ⌝ }
 {
     let length = assemble(draft, bytes, table, scratch);
     if LONGEST < length {
-        return Found::Nothing;
+        return Outcome::Nothing;
     }
     if is_shown(edition, draft, bytes, &scratch[..length], table) {
-        return Found::Batch(length);
+        return Outcome::Batch(length);
     }
-    Found::Nothing
+    Outcome::Nothing
 }
 
 // Whether reading the candidate accepts it and shows the draft's pieces.

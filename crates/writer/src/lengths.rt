@@ -8,13 +8,13 @@ ghost use lib.ListN.{length};
 ghost use Rattle.der.specs.meaning.Length.{lengthOctets};
 ghost use Rattle.der.specs.meaning.Bounds.{longest};
 ghost use Rattle.crmf.specs.steps.rows.Assembly.{implied};
-ghost use Rattle.writer.specs.meaning.Writing.{most};
+ghost use Rattle.writer.specs.meaning.Writing.{mostRows};
 ghost use Rattle.writer.specs.steps.Inner.{rowOf, Stands, Whole};
 
 // The whole length of a row whose children have `inner` octets together; more than LONGEST where it is too long, or is a leaf that leaves
 // the slice.
 pub(crate) fn whole_of(row: Row, bytes: &[u8], inner: usize) -> usize
-    requires { ⌜ inner ≤ longest * most ⌝ }
+    requires { ⌜ inner ≤ longest * mostRows ⌝ }
     ensures { λ r. ⌜ Whole (now (bytes .entry)) (rowOf row) inner r ⌝ }
 {
     let kind = row.kind;
@@ -33,7 +33,7 @@ pub(crate) fn whole_of(row: Row, bytes: &[u8], inner: usize) -> usize
 
 // The whole length of a container whose children have `inner` octets together; more than LONGEST where it is too long.
 fn whole_around(kind: usize, inner: usize) -> usize
-    requires { ⌜ inner ≤ longest * most ⌝ }
+    requires { ⌜ inner ≤ longest * mostRows ⌝ }
     ensures { λ r. ⌜ Stands r (suc (length (lengthOctets (length (implied kind) + inner)) + (length (implied kind) + inner))) ⌝ }
 {
     let content = implied_length(kind) + inner;

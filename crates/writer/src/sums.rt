@@ -8,7 +8,7 @@ ghost use mathlib.Core.Path.{_≡_};
 ghost use mathlib.Core.Bool.{true};
 ghost use lib.ListN.{length, getD};
 ghost use Rattle.der.specs.meaning.Bounds.{longest};
-ghost use Rattle.writer.specs.meaning.Writing.{rowsIn, most};
+ghost use Rattle.writer.specs.meaning.Writing.{rowsIn, mostRows};
 ghost use Rattle.writer.specs.steps.Inner.{sound, Summed, Blank, Added};
 
 // Adds up the sums in a table; answers whether every leaf lies in the slice and no row is too long.
@@ -32,7 +32,7 @@ pub(crate) fn add_up(draft: &[usize], bytes: &[u8], table: &mut [usize]) -> bool
 
 // Adds the whole length of row `i` to its parent's sum, if the parent is an earlier row.
 fn add(table: &mut [usize], parent: usize, i: usize, whole: usize)
-    requires { ⌜ (i ≤ length (now table)) × (whole ≤ longest) × ((k : ℕ) → k < i → getD (now table) k 0 ≤ longest * most) ⌝ }
+    requires { ⌜ (i ≤ length (now table)) × (whole ≤ longest) × ((k : ℕ) → k < i → getD (now table) k 0 ≤ longest * mostRows) ⌝ }
     ensures { λ _. ⌜ Added (now (table .entry)) parent i whole (now (table .exit)) ⌝ }
 {
     if i <= parent {

@@ -1,6 +1,6 @@
 // Writing the batch that a draft describes.
-use crate::build::Found;
-use crate::build::MOST;
+use crate::build::MOST_ROWS;
+use crate::build::Outcome;
 use crate::build::build;
 use crate::draft::rows;
 use crate::octets::copy;
@@ -31,7 +31,7 @@ pub fn write(edition: usize, draft: &[usize], bytes: &[u8], output: &mut [u8]) -
     }
     let mut scratch = [0u8; LONGEST];
     let found = build(edition, draft, bytes, &mut scratch);
-    let Found::Batch(length) = found else {
+    let Outcome::Batch(length) = found else {
         return refuse(NO_SUCH_BATCH);
     };
     if output.len() < length {
@@ -49,7 +49,7 @@ pub fn write(edition: usize, draft: &[usize], bytes: &[u8], output: &mut [u8]) -
 fn shaped(draft: &[usize]) -> bool
     ensures { λ r. ⌜ r ≡ spec.shaped (now (draft .entry)) ⌝ }
 {
-    (WIDTH * rows(draft) == draft.len()) & (rows(draft) <= MOST)
+    (WIDTH * rows(draft) == draft.len()) & (rows(draft) <= MOST_ROWS)
 }
 
 // A refusal's answer.

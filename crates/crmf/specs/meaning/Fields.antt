@@ -39,12 +39,12 @@ unfoldable pub octets : Field → List ℕ
 octets f = header (f .identifier) (f .content) ++ f .content
 
 -- the place of a field's content
-abbrev pub start : Field → ℕ
-start f = f .place + length (header (f .identifier) (f .content))
+abbrev pub contentStart : Field → ℕ
+contentStart f = f .place + length (header (f .identifier) (f .content))
 
 -- the place behind a field
-abbrev pub finish : Field → ℕ
-finish f = f .place + f .whole
+abbrev pub fieldEnd : Field → ℕ
+fieldEnd f = f .place + f .whole
 
 -- Some fields stand one behind the other, from a place to another, each as long as its octets.
 abbrev pub Runs : ℕ → ℕ → List Field → Type 0
@@ -55,7 +55,7 @@ Runs from to (f ∷ fs) = (f .place ≡ from) × (f .whole ≡ length (octets f)
 pub record Consists (f : Field) (fs : List Field) : Type 0 where
   pub held : fields (f .inside) ≡ fs
   pub written : f .content ≡ flatMap octets fs
-  pub placed : Runs (start f) (finish f) fs
+  pub placed : Runs (contentStart f) (fieldEnd f) fs
 
 -- Some octets stand in a list from a place on.
 abbrev pub StandsAt : List ℕ → ℕ → List ℕ → Type 0
@@ -70,13 +70,13 @@ unfoldable pub nth : ℕ → Field → Field
 nth n f = getD (fields (f .inside)) n (missing f)
 
 -- the first of some fields that has one of the identifiers, if any has
-unfoldable pub seek : List ℕ → List Field → Option Field
-seek ids [] = absent
-seek ids (f ∷ fs) = elim (among ids (f .identifier)) [ true ↦ some f | false ↦ seek ids fs ]
+unfoldable pub firstWith : List ℕ → List Field → Option Field
+firstWith ids [] = absent
+firstWith ids (f ∷ fs) = elim (among ids (f .identifier)) [ true ↦ some f | false ↦ firstWith ids fs ]
 
 -- the first field inside a field that has the identifier, if any has
 unfoldable pub child : ℕ → Field → Option Field
-child id f = seek (id ∷ []) (fields (f .inside))
+child id f = firstWith (id ∷ []) (fields (f .inside))
 
 -- the field, if there is one, as a list
 unfoldable pub listed : Option Field → List Field

@@ -4,7 +4,7 @@ use mathlib.Core.List.{List, [], _∷_, _++_, map, flatMap}
 use mathlib.Core.Option.{Option, Option·map}
 use lib.ListN.{length, getD, drop}
 use Rattle.der.specs.meaning.Tree.{Tree, none, element, header}
-use Rattle.crmf.specs.meaning.Fields.{Field, fields, chain, octets, nth, seek, movedField}
+use Rattle.crmf.specs.meaning.Fields.{Field, fields, chain, octets, nth, firstWith, movedField}
 
 -- "raVerified 80 empty", "signature A1", "keyEncipherment A2 or keyAgreement A3"
 abbrev pub proofs : List ℕ
@@ -30,9 +30,9 @@ messageOf f =
       certReq = certReq;
       certReqId = nth 0 certReq;
       template = nth 1 certReq;
-      controls = seek (0x30 ∷ []) (drop 2 (fields (certReq .inside)));
-      proof = seek proofs behind;
-      regInfo = seek (0x30 ∷ []) behind;
+      controls = firstWith (0x30 ∷ []) (drop 2 (fields (certReq .inside)));
+      proof = firstWith proofs behind;
+      regInfo = firstWith (0x30 ∷ []) behind;
     }
 
 -- the input's one element

@@ -7,7 +7,7 @@ ghost use Prim.Native.Nat.{ℕ, _+_, _-_, _≤_};
 ghost use mathlib.Core.Path.{_≡_};
 ghost use lib.ListN.{getD};
 ghost use Rattle.crmf.specs.steps.grammar.Packed.{packed, markCode};
-ghost use Rattle.crmf.specs.steps.explain.Walk.{line, noted, lengthy, met, fresh};
+ghost use Rattle.crmf.specs.steps.explain.Walk.{line, withForm, withLongId, withElement, emptyTally};
 
 // A form of one edition alone: its difference's number (0: none was met) and its place.
 pub struct Difference {
@@ -31,7 +31,7 @@ pub struct Tally {
 
 // The tally before the first element.
 pub(crate) fn empty() -> Tally
-    ensures { λ r. ⌜ r ≡ fresh ⌝ }
+    ensures { λ r. ⌜ r ≡ emptyTally ⌝ }
 {
     let none = Difference {
         number: 0,
@@ -49,7 +49,7 @@ pub(crate) fn empty() -> Tally
 // The tally with one more element, which fits a line.
 pub(crate) fn with_element(fit: Fit, tally: Tally) -> Tally
     requires { ⌜ (fit .first ≤ fit .end) × (tally .count ≤ 131070) ⌝ }
-    ensures { λ r. ⌜ ((k : ℕ) → fit .word ≡ getD packed k 0 → r ≡ met (line k) (fit .first) (fit .end - fit .first) tally) × (r .count ≤ tally .count + 2) ⌝ }
+    ensures { λ r. ⌜ ((k : ℕ) → fit .word ≡ getD packed k 0 → r ≡ withElement (line k) (fit .first) (fit .end - fit .first) tally) × (r .count ≤ tally .count + 2) ⌝ }
 {
     let kind = table::kind_of(fit.word);
     let whole = fit.end - fit.first;
@@ -65,7 +65,7 @@ pub(crate) fn with_element(fit: Fit, tally: Tally) -> Tally
 
 // The tally with an element of a kind at a place, of a whole length: a certReqId of more than 8 content octets, if it is the first.
 fn with_long_id(kind: usize, place: usize, whole: usize, tally: Tally) -> Tally
-    ensures { λ r. ⌜ (r ≡ lengthy kind place whole tally) × (r .count ≡ tally .count) ⌝ }
+    ensures { λ r. ⌜ (r ≡ withLongId kind place whole tally) × (r .count ≡ tally .count) ⌝ }
 {
     if (kind == kinds::CERT_REQ_ID) & (10 < whole) & (tally.long.whole == 0) {
         let one = tally.one;
@@ -82,7 +82,7 @@ fn with_long_id(kind: usize, place: usize, whole: usize, tally: Tally) -> Tally
 
 // The tally with an element at a place by the code of its form's mark: a form of one edition alone, if it is the edition's first.
 fn with_form(mark: usize, place: usize, tally: Tally) -> Tally
-    ensures { λ r. ⌜ ((k : ℕ) → markCode (line k .mark) ≡ mark → r ≡ noted (line k .mark) place tally) × (r .count ≡ tally .count) ⌝ }
+    ensures { λ r. ⌜ ((k : ℕ) → markCode (line k .mark) ≡ mark → r ≡ withForm (line k .mark) place tally) × (r .count ≡ tally .count) ⌝ }
 {
     let one = tally.one;
     let two = tally.two;

@@ -1,7 +1,7 @@
 // The line of the grammar that an element fits: how each step of a walk begins.
 use crate::grammar::lines::LINES;
 use crate::grammar::table;
-use crate::grammar::table::Found;
+use crate::grammar::table::FoundLine;
 use der::element::reading::Element;
 ghost use mathlib.Core.Path.{_≡_};
 ghost use Rattle.crmf.specs.steps.grammar.Packed.{packed};
@@ -33,8 +33,8 @@ pub(crate) fn line_for(
     requires { ⌜ now table ≡ packed ⌝ }
     ensures { λ r. ⌜ Fitted element first state r ⌝ }
 {
-    let found = table::seek(table, state, element.identifier);
-    let Found::At(k) = found else {
+    let found = table::find_line(table, state, element.identifier);
+    let FoundLine::At(k) = found else {
         return Fitting::Misfit;
     };
     Fitting::Fits(Fit {

@@ -16,7 +16,7 @@ pub enum Onward {
 }
 
 // What a line, given as its packed word, says of an element with the content.
-pub(crate) fn value_says(table: &[usize; LINES], word: usize, content: &[u8]) -> Onward
+pub(crate) fn judge_value(table: &[usize; LINES], word: usize, content: &[u8]) -> Onward
     requires { ⌜ now table ≡ packed ⌝ }
     ensures { λ r. ⌜ ((k : ℕ) → word ≡ getD packed k 0 → r ≡ judged (line k .judge) (line k .next) (now (content .entry))) ⌝ }
 {

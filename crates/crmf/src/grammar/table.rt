@@ -6,7 +6,7 @@ ghost use Prim.Native.Nat.{ℕ, _≤_, _<_};
 ghost use mathlib.Core.Path.{_≡_};
 ghost use mathlib.Core.Bool.{true, false};
 ghost use lib.ListN.{getD};
-ghost use Rattle.crmf.specs.declared.grammar.table.Found.the-variants.{At, Nowhere};
+ghost use Rattle.crmf.specs.declared.grammar.table.FoundLine.the-variants.{At, Nowhere};
 ghost use Rattle.crmf.specs.meaning.Notation.{Identifiers, named, among, generalNames};
 ghost use Rattle.crmf.specs.steps.grammar.Codes as codes;
 ghost use Rattle.crmf.specs.steps.grammar.Packed.{packed, identifiersCode, actionOf};
@@ -15,7 +15,7 @@ ghost use Rattle.crmf.specs.steps.explain.Walk as walk;
 ghost use Rattle.crmf.specs.steps.explain.Walk.{line, rowsBy};
 
 // What the search for an element's line finds.
-pub enum Found {
+pub enum FoundLine {
     At(usize),
     Nowhere,
 }
@@ -118,37 +118,37 @@ fn names(code: usize, id: u8) -> bool
 }
 
 // The first line from a line on that has the identifier, where no needed part is passed over.
-pub(crate) fn seek(table: &[usize; LINES], from: usize, id: u8) -> Found
+pub(crate) fn find_line(table: &[usize; LINES], from: usize, id: u8) -> FoundLine
     requires { ⌜ now table ≡ packed ⌝ }
-    ensures { λ r. ⌜ r ≡ walk.seek from id ⌝ }
+    ensures { λ r. ⌜ r ≡ walk.findLine from id ⌝ }
 {
     let mut k = from;
     while k < LINES {
         let word = table[k];
         let code = word / codes::ID % codes::IDENTIFIERS;
         if code == id as usize + codes::OCTET {
-            return Found::At(k);
+            return FoundLine::At(k);
         }
         if code < codes::OCTET {
             return here(k, code, id);
         }
         if word % codes::PASSES < codes::ANOTHER {
-            return Found::Nowhere;
+            return FoundLine::Nowhere;
         }
         k += 1;
     }
-    Found::Nowhere
+    FoundLine::Nowhere
 }
 
 // The line itself, if its identifiers, of a code other than an octet's, have the identifier: after it none is found.
-fn here(k: usize, code: usize, id: u8) -> Found
+fn here(k: usize, code: usize, id: u8) -> FoundLine
     requires { ⌜ code < codes.octet ⌝ }
     ensures { λ r. ⌜ ((i : Identifiers) → identifiersCode i ≡ code → r ≡ (elim (named i id) [ true ↦ At k | false ↦ Nowhere ])) ⌝ }
 {
     if names(code, id) {
-        return Found::At(k);
+        return FoundLine::At(k);
     }
-    Found::Nowhere
+    FoundLine::Nowhere
 }
 
 // Whether a container may end at a line: no needed part stands between it and the end line.

@@ -6,8 +6,8 @@ use crate::grammar::lines::LINES;
 use crate::grammar::table;
 use crate::recognise::common;
 use der::content;
-use der::recognise;
 use der::content::utf8;
+use der::recognise;
 ghost use Prim.Native.Nat.{ℕ, _≤_};
 ghost use mathlib.Core.Path.{_≡_};
 ghost use mathlib.Core.Bool.{true, false};
@@ -113,7 +113,7 @@ fn take_by_fields(
     if (mark != 0) & (mark / codes::EDITION != edition) {
         return Visit::Refuse;
     }
-    match judge::value_says(table, word, content) {
+    match judge::judge_value(table, word, content) {
         Onward::Breaks(detail) => Visit::Refuse,
         Onward::To(next) => {
             if table::inside_of(word) != codes::FREE {

@@ -5,12 +5,12 @@ use mathlib.Core.List.{List, [], _∷_}
 use mathlib.Core.Path.{_≡_}
 use lib.Dec.{leb, eqb}
 use lib.ListN.{getD}
-use Rattle.der.specs.declared.content.utf8.Step.{Step}
-use Rattle.der.specs.declared.content.utf8.Step.the-variants.{Next, Stop}
+use Rattle.der.specs.declared.content.utf8.OctetStep.{OctetStep}
+use Rattle.der.specs.declared.content.utf8.OctetStep.the-variants.{Next, Stop}
 
 -- lo to hi, as a test
-abbrev pub within : ℕ → ℕ → ℕ → Bool
-within lo hi b = leb lo b && leb b hi
+abbrev pub inRange : ℕ → ℕ → ℕ → Bool
+inRange lo hi b = leb lo b && leb b hi
 
 -- The class of an octet: 0 a whole character; 1 to 3 the three ranges of tails that the productions tell apart; 4 to 10 the leads
 -- that ask for different tails; 11 an octet that no production has.
@@ -19,22 +19,22 @@ classOf b =
     elim (leb b 0x7F) [
       | true ↦ 0
       | false ↦
-          elim (within 0x80 0x8F b) [
+          elim (inRange 0x80 0x8F b) [
             | true ↦ 1
             | false ↦
-                elim (within 0x90 0x9F b) [
+                elim (inRange 0x90 0x9F b) [
                   | true ↦ 2
                   | false ↦
-                      elim (within 0xA0 0xBF b) [
+                      elim (inRange 0xA0 0xBF b) [
                         | true ↦ 3
                         | false ↦
-                            elim (within 0xC2 0xDF b) [
+                            elim (inRange 0xC2 0xDF b) [
                               | true ↦ 4
                               | false ↦
                                   elim (eqb b 0xE0) [
                                     | true ↦ 5
                                     | false ↦
-                                        elim (within 0xE1 0xEC b || within 0xEE 0xEF b) [
+                                        elim (inRange 0xE1 0xEC b || inRange 0xEE 0xEF b) [
                                           | true ↦ 6
                                           | false ↦
                                               elim (eqb b 0xED) [
@@ -43,7 +43,7 @@ classOf b =
                                                     elim (eqb b 0xF0) [
                                                       | true ↦ 8
                                                       | false ↦
-                                                          elim (within 0xF1 0xF3 b) [
+                                                          elim (inRange 0xF1 0xF3 b) [
                                                             | true ↦ 9
                                                             | false ↦
                                                                 elim (eqb b 0xF4) [ true ↦ 10 | false ↦ 11 ]
@@ -60,7 +60,7 @@ classOf b =
 
 -- a class that begins a character
 unfoldable pub leads : ℕ → Bool
-leads c = eqb c 0 || within 4 10 c
+leads c = eqb c 0 || inRange 4 10 c
 
 -- how many tails follow a lead
 unfoldable pub tails : ℕ → ℕ
@@ -80,7 +80,7 @@ utf8From zero low high (b ∷ bs) =
     let c = classOf b in
     elim (leads c) [ true ↦ utf8From (tails c) (lowest c) (highest c) bs | false ↦ false ]
 utf8From (suc left) low high (b ∷ bs) =
-    elim (within low high (classOf b)) [ true ↦ utf8From left 1 3 bs | false ↦ false ]
+    elim (inRange low high (classOf b)) [ true ↦ utf8From left 1 3 bs | false ↦ false ]
 
 -- "UTF8String as in RFC 3629"
 unfoldable pub utf8 : List ℕ → Bool
@@ -91,6 +91,6 @@ pub record Classes (table : List ℕ) : Type 0 where
   pub entry : (b : ℕ) → b < 256 → getD table b 0 ≡ classOf b
 
 -- the check over the octets after one that it made a step by
-abbrev pub after : Step → List ℕ → Bool
-after (Next left low high) bs = utf8From left low high bs
-after Stop bs = false
+abbrev pub afterStep : OctetStep → List ℕ → Bool
+afterStep (Next left low high) bs = utf8From left low high bs
+afterStep Stop bs = false

@@ -5,10 +5,10 @@ ghost use mathlib.Core.Bool.{true};
 ghost use mathlib.Core.List.{List, _∷_};
 ghost use mathlib.Core.Path.{_≡_};
 ghost use lib.ListN.{length, getD};
-ghost use Rattle.der.specs.steps.Utf8Classes.{classOf, utf8From, utf8, after, Classes};
+ghost use Rattle.der.specs.steps.Utf8Classes.{classOf, utf8From, utf8, afterStep, Classes};
 
 // What the check makes of one octet.
-enum Step {
+enum OctetStep {
     // How many tails the character still wants, and the lowest and the highest class of the next.
     Next(u8, u8, u8),
     // No character has the octet here.
@@ -16,33 +16,33 @@ enum Step {
 }
 
 // An octet of the class where a character begins.
-fn lead(class: u8) -> Step
-    ensures { λ r. ⌜ ((b : ℕ) (bs : List ℕ) → classOf b ≡ class → after r bs ≡ utf8From 0 1 3 (b ∷ bs)) ⌝ }
+fn lead(class: u8) -> OctetStep
+    ensures { λ r. ⌜ ((b : ℕ) (bs : List ℕ) → classOf b ≡ class → afterStep r bs ≡ utf8From 0 1 3 (b ∷ bs)) ⌝ }
 {
     match class {
-        octet_class::WHOLE => Step::Next(0, octet_class::TAIL_80, octet_class::TAIL_A0),
-        octet_class::LEAD_C2 => Step::Next(1, octet_class::TAIL_80, octet_class::TAIL_A0),
-        octet_class::LEAD_E0 => Step::Next(2, octet_class::TAIL_A0, octet_class::TAIL_A0),
-        octet_class::LEAD_E1 => Step::Next(2, octet_class::TAIL_80, octet_class::TAIL_A0),
-        octet_class::LEAD_ED => Step::Next(2, octet_class::TAIL_80, octet_class::TAIL_90),
-        octet_class::LEAD_F0 => Step::Next(3, octet_class::TAIL_90, octet_class::TAIL_A0),
-        octet_class::LEAD_F1 => Step::Next(3, octet_class::TAIL_80, octet_class::TAIL_A0),
-        octet_class::LEAD_F4 => Step::Next(3, octet_class::TAIL_80, octet_class::TAIL_80),
-        _ => Step::Stop,
+        octet_class::WHOLE => OctetStep::Next(0, octet_class::TAIL_80, octet_class::TAIL_A0),
+        octet_class::LEAD_C2 => OctetStep::Next(1, octet_class::TAIL_80, octet_class::TAIL_A0),
+        octet_class::LEAD_E0 => OctetStep::Next(2, octet_class::TAIL_A0, octet_class::TAIL_A0),
+        octet_class::LEAD_E1 => OctetStep::Next(2, octet_class::TAIL_80, octet_class::TAIL_A0),
+        octet_class::LEAD_ED => OctetStep::Next(2, octet_class::TAIL_80, octet_class::TAIL_90),
+        octet_class::LEAD_F0 => OctetStep::Next(3, octet_class::TAIL_90, octet_class::TAIL_A0),
+        octet_class::LEAD_F1 => OctetStep::Next(3, octet_class::TAIL_80, octet_class::TAIL_A0),
+        octet_class::LEAD_F4 => OctetStep::Next(3, octet_class::TAIL_80, octet_class::TAIL_80),
+        _ => OctetStep::Stop,
     }
 }
 
 // An octet of the class where the character still wants `left` tails, the next of a class from `low` to `high`.
-fn advance(left: u8, low: u8, high: u8, class: u8) -> Step
-    ensures { λ r. ⌜ ((b : ℕ) (bs : List ℕ) → classOf b ≡ class → after r bs ≡ utf8From left low high (b ∷ bs)) ⌝ }
+fn advance(left: u8, low: u8, high: u8, class: u8) -> OctetStep
+    ensures { λ r. ⌜ ((b : ℕ) (bs : List ℕ) → classOf b ≡ class → afterStep r bs ≡ utf8From left low high (b ∷ bs)) ⌝ }
 {
     if left == 0 {
         return lead(class);
     }
     if (low <= class) & (class <= high) {
-        return Step::Next(left - 1, octet_class::TAIL_80, octet_class::TAIL_A0);
+        return OctetStep::Next(left - 1, octet_class::TAIL_80, octet_class::TAIL_A0);
     }
-    Step::Stop
+    OctetStep::Stop
 }
 
 // Whether the eight octets from a place on are below 80, by one test of all their bits.
@@ -104,7 +104,7 @@ fn text(content: &[u8], classes: &[u8; 256]) -> bool
         }
         let b = content[i] as usize;
         let s = advance(left, low, high, classes[b]);
-        let Step::Next(l, lo, hi) = s else {
+        let OctetStep::Next(l, lo, hi) = s else {
             return false;
         };
         left = l;

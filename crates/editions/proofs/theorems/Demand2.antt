@@ -22,21 +22,21 @@ use Rattle.crmf.specs.declared.explain.Walked.the-variants.{Passed, Broken}
 use Rattle.crmf.specs.meaning.Notation.{Top}
 use Rattle.crmf.specs.meaning.Grammar.{content}
 use Rattle.crmf.specs.meaning.Language.{Matches}
-use Rattle.crmf.specs.steps.explain.Walk.{fresh}
+use Rattle.crmf.specs.steps.explain.Walk.{emptyTally}
 use Rattle.crmf.specs.meaning.Rows.{Row, width, batchRows, firstLong, allShort}
-use Rattle.crmf.specs.steps.rows.Fill.{fits, rowsOf}
+use Rattle.crmf.specs.steps.rows.Fill.{fits, rowsOfInput}
 use Rattle.crmf.proofs.Laws.{Edition, first-edition, second-edition, accepts, rows-of, long-none, Holds, over-holds, fits-room}
 use Rattle.editions.specs.declared.reader.Answer.{Answer}
 use Rattle.editions.specs.meaning.Membership.{InGrammar}
 use Rattle.editions.specs.meaning.Edition.{opposite}
-use Rattle.editions.specs.meaning.Reading.{refusal, accepted, ownWalk, passes, eightOrNine, counted, batchAnswer, answer, readAnswer, tableAfter}
+use Rattle.editions.specs.meaning.Reading.{refusal, accepted, ownWalk, walkPasses, eightOrNine, longIdOrAccepted, batchAnswer, answer, readAnswer, tableAfter}
 use Rattle.editions.proofs.theorems.Answers.{one-element}
 use Rattle.editions.proofs.theorems.OneElement.{OneElement, late-accepted, one-whole}
 use Rattle.editions.proofs.theorems.OneWalk.{goes-through}
 use Rattle.editions.proofs.theorems.Tables.{answer-counts, shown, with-room, shown-table}
 
 module _ (e : ℕ) (s : List ℕ) where
-  by-long : (b : Bool) → elim b as (λ x. Answer) [ true ↦ accepted (length (rowsOf s)) | false ↦ refusal longCertReqId (firstLong (0, 0) (rowsOf s) .1) ] .number ≡ acceptance
+  by-long : (b : Bool) → elim b as (λ x. Answer) [ true ↦ accepted (length (rowsOfInput s)) | false ↦ refusal longCertReqId (firstLong (0, 0) (rowsOfInput s) .1) ] .number ≡ acceptance
       → b ≡ true
   by-long true zero = refl
   by-long false zero = absurd (omega arith)
@@ -46,14 +46,14 @@ module _ (e : ℕ) (s : List ℕ) where
   by-stop p false zero = omega arith
 
   by-walk : (w : Walked) → ownWalk e (tree 0 s) ≡ w → elim w as (λ x. Answer) [
-    | Passed r ↦ counted (firstLong (0, 0) (rowsOf s)) (length (rowsOf s))
-    | Broken p d r ↦ refusal (eightOrNine (passes (ownWalk (opposite e) (tree 0 s)))) p
-  ] .number ≡ acceptance → (r : Tally) × ((ownWalk e (tree 0 s) ≡ Passed r) × (eqb (firstLong (0, 0) (rowsOf s) .0) 0 ≡ true))
-  by-walk (Passed r) is zero = (r, (is, by-long (eqb (firstLong (0, 0) (rowsOf s) .0) 0) zero))
-  by-walk (Broken p d r) is zero = absurd (by-stop p (passes (ownWalk (opposite e) (tree 0 s))) zero)
+    | Passed r ↦ longIdOrAccepted (firstLong (0, 0) (rowsOfInput s)) (length (rowsOfInput s))
+    | Broken p d r ↦ refusal (eightOrNine (walkPasses (ownWalk (opposite e) (tree 0 s)))) p
+  ] .number ≡ acceptance → (r : Tally) × ((ownWalk e (tree 0 s) ≡ Passed r) × (eqb (firstLong (0, 0) (rowsOfInput s) .0) 0 ≡ true))
+  by-walk (Passed r) is zero = (r, (is, by-long (eqb (firstLong (0, 0) (rowsOfInput s) .0) 0) zero))
+  by-walk (Broken p d r) is zero = absurd (by-stop p (walkPasses (ownWalk (opposite e) (tree 0 s))) zero)
 
   -- An answer of acceptance comes from a walk of the edition's own that passes, with no long certReqId among the rows.
-  pub batch-inverse : batchAnswer e s .number ≡ acceptance → (r : Tally) × ((ownWalk e (tree 0 s) ≡ Passed r) × (eqb (firstLong (0, 0) (rowsOf s) .0) 0 ≡ true))
+  pub batch-inverse : batchAnswer e s .number ≡ acceptance → (r : Tally) × ((ownWalk e (tree 0 s) ≡ Passed r) × (eqb (firstLong (0, 0) (rowsOfInput s) .0) 0 ≡ true))
   unfolding batchAnswer
   batch-inverse zero = by-walk (ownWalk e (tree 0 s)) refl zero
 
@@ -68,7 +68,7 @@ walk-in {e} s octets one r passed =
       formed = subst (λ (bs : List ℕ). WellFormed depth 0 (tree 0 bs)) all (c .formed);
       single = subst (λ (bs : List ℕ). Single (tree 0 bs)) all (c .single);
       encoded = subst (λ (bs : List ℕ). encode (tree 0 bs) ≡ bs) all (c .encoded);
-      batch = accepts (λ x. eqb x e) fresh Top 0 (tree 0 s) .0 (r, passed);
+      batch = accepts (λ x. eqb x e) emptyTally Top 0 (tree 0 s) .0 (r, passed);
     }
 
 -- an edition is 1 or 2
@@ -84,9 +84,9 @@ module _ {e : ℕ} (s : List ℕ) (g : InGrammar e s) where
       rw (g .encoded) at (tree-encode depth 0 (g .nest) (g .formed) size)
 
   -- The rows that reading finds are that tree's.
-  pub nest-rows : rowsOf s ≡ batchRows (g .batch)
+  pub nest-rows : rowsOfInput s ≡ batchRows (g .batch)
   nest-rows =
-      subst (λ (t : Tree). (m : Matches (λ x. eqb x e) (content Top) t) → rowsOf s ≡ batchRows m) nest-read (λ m. rows-of s (g .short) m) (g .batch)
+      subst (λ (t : Tree). (m : Matches (λ x. eqb x e) (content Top) t) → rowsOfInput s ≡ batchRows m) nest-read (λ m. rows-of s (g .short) m) (g .batch)
 
   -- the bytes are one element, so any edition's answer is its grammar's
   pub in-element : {f : ℕ} → Edition f → Octets s → answer f s ≡ batchAnswer f s
@@ -96,18 +96,18 @@ module _ {e : ℕ} (s : List ℕ) (g : InGrammar e s) where
       sym (one-element f s (known ed) (g .short) (length s) ends (omega arith))
 
   -- What is in the grammar is judged by its rows alone.
-  pub in-counted : Edition e → Octets s → answer e s ≡ counted (firstLong (0, 0) (rowsOf s)) (length (rowsOf s))
+  pub in-counted : Edition e → Octets s → answer e s ≡ longIdOrAccepted (firstLong (0, 0) (rowsOfInput s)) (length (rowsOfInput s))
   in-counted ed octets =
       let m = subst (Matches (λ x. eqb x e) (content Top)) (sym nest-read) (g .batch) in
-      let (r, passed) = accepts (λ x. eqb x e) fresh Top 0 (tree 0 s) .1 m in
+      let (r, passed) = accepts (λ x. eqb x e) emptyTally Top 0 (tree 0 s) .1 m in
       in-element ed octets ∙ goes-through e r s passed
 
   -- It is accepted, where every certReqId fits, with the count of its rows.
   pub in-accepted : Edition e → Octets s → allShort (batchRows (g .batch)) ≡ true → answer e s ≡ accepted (length (batchRows (g .batch)))
   in-accepted ed octets fit =
-      let clear : eqb (firstLong (0, 0) (rowsOf s) .0) 0 ≡ true = long-none (rowsOf s) ∙ ap allShort nest-rows ∙ fit in
+      let clear : eqb (firstLong (0, 0) (rowsOfInput s) .0) 0 ≡ true = long-none (rowsOfInput s) ∙ ap allShort nest-rows ∙ fit in
       in-counted ed octets
-      ∙ ap (λ (b : Bool). elim b as (λ x. Answer) [ true ↦ accepted (length (rowsOf s)) | false ↦ refusal longCertReqId (firstLong (0, 0) (rowsOf s) .1) ]) clear
+      ∙ ap (λ (b : Bool). elim b as (λ x. Answer) [ true ↦ accepted (length (rowsOfInput s)) | false ↦ refusal longCertReqId (firstLong (0, 0) (rowsOfInput s) .1) ]) clear
       ∙ ap (λ (rs : List Row). accepted (length rs)) nest-rows
 
 -- What is accepted is in the grammar, and every certReqId fits.
@@ -155,8 +155,8 @@ module _ {e : ℕ} (s old : List ℕ) (octets : Octets s) where
       → Holds (batchRows (g .batch)) (readAnswer e s old .count) old (tableAfter e s old)
   rows-shown zero g =
       let found = shown e s old zero in
-      let count : readAnswer e s old .count ≡ length (rowsOf s) =
+      let count : readAnswer e s old .count ≡ length (rowsOfInput s) =
       ap (λ (a : Answer). a .count) (found .same) ∙ answer-counts e s octets (found .zero) in
-      let room : width * length (rowsOf s) ≤ length old =
+      let room : width * length (rowsOfInput s) ≤ length old =
       omega (arith, leb-true (width * answer e s .count) (length old) (sym (fits-room (answer e s .count) old) ∙ found .room), answer-counts e s octets (found .zero)) in
-      rw (← nest-rows s g, count, shown-table e s old zero) (over-holds old (rowsOf s) room)
+      rw (← nest-rows s g, count, shown-table e s old zero) (over-holds old (rowsOfInput s) room)

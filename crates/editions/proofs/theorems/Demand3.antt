@@ -19,21 +19,21 @@ use Rattle.crmf.specs.declared.explain.Walked.the-variants.{Passed, Broken}
 use Rattle.crmf.specs.meaning.Notation.{Top}
 use Rattle.crmf.specs.meaning.Language.{Occurrence, occurrences}
 use Rattle.crmf.specs.steps.grammar.Lines.{start}
-use Rattle.crmf.specs.steps.explain.Walk.{fresh, trail}
+use Rattle.crmf.specs.steps.explain.Walk.{emptyTally, trail}
 use Rattle.crmf.specs.meaning.Rows.{width, numbers, firstLong}
-use Rattle.crmf.specs.steps.rows.Fill.{fits, rowsOf}
+use Rattle.crmf.specs.steps.rows.Fill.{fits, rowsOfInput}
 use Rattle.crmf.proofs.Laws.{Edition, accepts, trail-occurrences, Ascends, ascends-least, occurrences-ascend, StopsAt, other-walk, fits-room}
 use Rattle.editions.specs.declared.reader.Answer.{Answer}
 use Rattle.editions.specs.meaning.Membership.{InGrammar, Difference, FirstDifference}
 use Rattle.editions.specs.meaning.Edition.{opposite}
-use Rattle.editions.specs.meaning.Reading.{refusal, accepted, ownWalk, passes, eightOrNine, counted, batchAnswer, answer, readAnswer, tableAfter}
+use Rattle.editions.specs.meaning.Reading.{refusal, accepted, ownWalk, walkPasses, eightOrNine, longIdOrAccepted, batchAnswer, answer, readAnswer, tableAfter}
 use Rattle.editions.proofs.theorems.OneElement.{OneElement, late-nine, one-whole}
 use Rattle.editions.proofs.theorems.OneWalk.{back, other-edition, stops-at}
 use Rattle.editions.proofs.theorems.Tables.{shown, with-room, read-alike, not-short}
 use Rattle.editions.proofs.theorems.Demand2.{accepted-in, in-element, in-counted, nest-read, nest-rows, one-nest, rows-shown, walk-in}
 
 -- 10 or acceptance is not 9
-never-nine : (long : ℕ × ℕ) (n : ℕ) → counted long n .number ≡ otherEdition → ⊥
+never-nine : (long : ℕ × ℕ) (n : ℕ) → longIdOrAccepted long n .number ≡ otherEdition → ⊥
 never-nine long n = go (eqb (long .0) 0)
   where
     go : (b : Bool) → elim b as (λ x. Answer) [ true ↦ accepted n | false ↦ refusal longCertReqId (long .1) ] .number ≡ otherEdition → ⊥
@@ -62,19 +62,19 @@ module _ {e : ℕ} (s : List ℕ) (g : InGrammar e s) where
 
   -- the opposite edition's walk over it, by the differences
   opposite-walk : Edition e → (r : Tally) × ((ownWalk e (tree 0 s) ≡ Passed r) × StopsAt (ownWalk (opposite e) (tree 0 s)) (Passed r) (occurrences (g .batch)))
-  opposite-walk ed = rw (nest-read s g) (other-walk Top (g .batch) fresh 0 ed)
+  opposite-walk ed = rw (nest-read s g) (other-walk Top (g .batch) emptyTally 0 ed)
 
   -- Where none occurs, the bytes are in the opposite edition's grammar too.
   undiffering-in : Edition e → occurrences (g .batch) ≡ [] → InGrammar (opposite e) s
   undiffering-in ed none =
-      let (r, (passed, alike)) = other-walk Top (g .batch) fresh 0 ed in
+      let (r, (passed, alike)) = other-walk Top (g .batch) emptyTally 0 ed in
       record {
         short = g .short;
         nest = g .nest;
         formed = g .formed;
         single = g .single;
         encoded = g .encoded;
-        batch = accepts (λ x. eqb x (opposite e)) fresh Top 0 (g .nest) .0 (r, rw none at alike);
+        batch = accepts (λ x. eqb x (opposite e)) emptyTally Top 0 (g .nest) .0 (r, rw none at alike);
       }
 
   -- so it answers alike
@@ -98,14 +98,14 @@ nine-in e s octets nine =
     let one = one-whole e s octets (late-nine nine) in
     by-walk one (ownWalk e (tree 0 s)) refl (ap (λ (a : Answer). a .number) (sym (one .same)) ∙ nine)
   where
-    by-other : OneElement e s → (p : ℕ) (w : Walked) → ownWalk (opposite e) (tree 0 s) ≡ w → refusal (eightOrNine (passes w)) p .number ≡ otherEdition
+    by-other : OneElement e s → (p : ℕ) (w : Walked) → ownWalk (opposite e) (tree 0 s) ≡ w → refusal (eightOrNine (walkPasses w)) p .number ≡ otherEdition
         → InGrammar (opposite e) s
     by-other one p (Passed r) passed is = walk-in s octets one r passed
     by-other one p (Broken q d r) broken is = absurd (omega arith)
 
     by-walk : OneElement e s → (w : Walked) → ownWalk e (tree 0 s) ≡ w → batchAnswer e s .number ≡ otherEdition → InGrammar (opposite e) s
     by-walk one (Passed r) own is =
-        absurd (never-nine (firstLong (0, 0) (rowsOf s)) (length (rowsOf s)) (rw (batchAnswer, own) at is))
+        absurd (never-nine (firstLong (0, 0) (rowsOfInput s)) (length (rowsOfInput s)) (rw (batchAnswer, own) at is))
     by-walk one (Broken p d r) own is = by-other one p (ownWalk (opposite e) (tree 0 s)) refl (rw (batchAnswer, own) at is)
 
 -- so it is the refusal at the first difference
@@ -120,7 +120,7 @@ nine-first {e} ed s octets nine = go (occurrences (g .batch)) refl
     go [] none =
         let own : InGrammar e s = rw (back ed) at (undiffering-in s g (other-edition ed) none) in
         let is = ap (λ (a : Answer). a .number) (in-counted s own ed octets) in
-        absurd (never-nine (firstLong (0, 0) (rowsOf s)) (length (rowsOf s)) (sym is ∙ nine))
+        absurd (never-nine (firstLong (0, 0) (rowsOfInput s)) (length (rowsOfInput s)) (sym is ∙ nine))
     go (o ∷ os) is = (o .place, (rw (back ed) at (differing-answer s g (other-edition ed) octets o os is), first-difference s g o os is))
 
 -- where a difference of the opposite edition occurs, the answer is 9, whatever the table

@@ -16,13 +16,13 @@ use Rattle.crmf.specs.declared.explain.Walked.{Walked}
 use Rattle.crmf.specs.declared.explain.Walked.the-variants.{Passed, Broken}
 use Rattle.crmf.specs.meaning.Notation.{Top}
 use Rattle.crmf.specs.steps.grammar.Lines.{start}
-use Rattle.crmf.specs.steps.explain.Walk.{walk, every, fresh, countOf}
+use Rattle.crmf.specs.steps.explain.Walk.{walk, every, emptyTally, countOf}
 use Rattle.crmf.specs.steps.explain.Walk as lines
 use Rattle.crmf.specs.meaning.Rows.{firstLong}
-use Rattle.crmf.specs.steps.rows.Fill.{rowsOf}
+use Rattle.crmf.specs.steps.rows.Fill.{rowsOfInput}
 use Rattle.crmf.proofs.Laws.{Edition, first-edition, second-edition, isPassed, foreign, own-alike, own-stops, own-passes, walk-passes, seenOf, count-whole, whole-count, whole-long, none-met}
 use Rattle.editions.specs.meaning.Edition.{opposite}
-use Rattle.editions.specs.meaning.Reading.{refusal, ownWalk, passes, eightOrNine, counted, batchAnswer}
+use Rattle.editions.specs.meaning.Reading.{refusal, ownWalk, walkPasses, eightOrNine, longIdOrAccepted, batchAnswer}
 use Rattle.editions.specs.steps.OneWalk.{formOf, stopNumber, passedAnswer, brokenAnswer}
 
 -- a number from 1 to 2 is an edition
@@ -47,19 +47,19 @@ other-edition first-edition = second-edition
 other-edition second-edition = first-edition
 
 -- a walk passes by both tests
-passes-alike : (w : Walked) → passes w ≡ isPassed w
+passes-alike : (w : Walked) → walkPasses w ≡ isPassed w
 passes-alike (Passed r) = refl
 passes-alike (Broken p d r) = refl
 
 -- 9 or 8 where this edition's own walk stops, by whether the opposite edition's passes
 pub stops-at : (e q d : ℕ) (r : Tally) (s : List ℕ) (n : ℕ) → ownWalk e (tree 0 s) ≡ Broken q d r
-    → eightOrNine (passes (ownWalk (opposite e) (tree 0 s))) ≡ n → refusal n q ≡ batchAnswer e s
+    → eightOrNine (walkPasses (ownWalk (opposite e) (tree 0 s))) ≡ n → refusal n q ≡ batchAnswer e s
 unfolding batchAnswer
 stops-at e q d r s n own number = rw (batchAnswer, own, number)
 
 -- 10 or acceptance where it passes
 pub goes-through : (e : ℕ) (r : Tally) (s : List ℕ) → ownWalk e (tree 0 s) ≡ Passed r
-    → batchAnswer e s ≡ counted (firstLong (0, 0) (rowsOf s)) (length (rowsOf s))
+    → batchAnswer e s ≡ longIdOrAccepted (firstLong (0, 0) (rowsOfInput s)) (length (rowsOfInput s))
 unfolding batchAnswer
 goes-through e r s own = rw (batchAnswer, own)
 
@@ -67,31 +67,31 @@ module _ {e : ℕ} (ed : Edition e) (s : List ℕ) (short : length s ≤ longest
   abbrev t : Tree
   t = tree 0 s
 
-  walked : walk every fresh (start Top) 0 t ≡ w
+  walked : walk every emptyTally (start Top) 0 t ≡ w
   walked = sym (count-whole s short) ∙ is
 
   -- without a form of the opposite edition this edition's own walk answers alike
   own-clear : eqb (formOf (opposite e) (seenOf w) .0) 0 ≡ true → ownWalk e t ≡ w
   own-clear clear =
-      own-alike ed fresh (start Top) 0 t (none-met ed) (ap (λ (v : Walked). foreign e v .0) walked ∙ eqb-true _ _ clear) ∙ walked
+      own-alike ed emptyTally (start Top) 0 t (none-met ed) (ap (λ (v : Walked). foreign e v .0) walked ∙ eqb-true _ _ clear) ∙ walked
 
   -- with one it stops at the first
   own-stop : eqb (formOf (opposite e) (seenOf w) .0) 0 ≡ false
       → (d : ℕ) × ((r : Tally) × (ownWalk e t ≡ Broken (formOf (opposite e) (seenOf w) .1) d r))
   own-stop some =
       let (r, stops) =
-      own-stops ed fresh (start Top) 0 t (none-met ed) (λ z. eqb-false _ _ some (sym (ap (λ (v : Walked). foreign e v .0) walked) ∙ z)) in
+      own-stops ed emptyTally (start Top) 0 t (none-met ed) (λ z. eqb-false _ _ some (sym (ap (λ (v : Walked). foreign e v .0) walked) ∙ z)) in
       subst (λ (v : Walked). (d : ℕ) × ((r : Tally) × (ownWalk e t ≡ Broken (foreign e v .1) d r))) walked (_, (r, stops))
 
   -- the opposite edition's walk passes where the whole walk does and has met none of this edition's own forms
-  opposite-passes : passes (ownWalk (opposite e) t) ≡ (isPassed w && eqb (formOf e (seenOf w) .0) 0)
+  opposite-passes : walkPasses (ownWalk (opposite e) t) ≡ (isPassed w && eqb (formOf e (seenOf w) .0) 0)
   opposite-passes =
-      passes-alike (ownWalk (opposite e) t) ∙ own-passes (other-edition ed) fresh (start Top) 0 t (none-met (other-edition ed))
-      ∙ ap₂ (λ (a b : Bool). a && b) (sym (walk-passes fresh (start Top) 0 t) ∙ ap isPassed walked)
+      passes-alike (ownWalk (opposite e) t) ∙ own-passes (other-edition ed) emptyTally (start Top) 0 t (none-met (other-edition ed))
+      ∙ ap₂ (λ (a b : Bool). a && b) (sym (walk-passes emptyTally (start Top) 0 t) ∙ ap isPassed walked)
       (ap₂ (λ (x : ℕ) (v : Walked). eqb (formOf x (seenOf v) .0) 0) (back ed) walked)
 
   -- so the number where it stops
-  stop-number : eightOrNine (passes (ownWalk (opposite e) t)) ≡ eightOrNine (isPassed w && eqb (formOf e (seenOf w) .0) 0)
+  stop-number : eightOrNine (walkPasses (ownWalk (opposite e) t)) ≡ eightOrNine (isPassed w && eqb (formOf e (seenOf w) .0) 0)
   stop-number = ap eightOrNine opposite-passes
 
 module _ {e : ℕ} (ed : Edition e) (s : List ℕ) (short : length s ≤ longest) where
@@ -102,7 +102,7 @@ module _ {e : ℕ} (ed : Edition e) (s : List ℕ) (short : length s ≤ longest
       go : (b : Bool) → eqb (formOf (opposite e) r .0) 0 ≡ b → passedAnswer e r ≡ batchAnswer e s
       go true clear =
           rw (passedAnswer, clear)
-          (ap₂ counted (sym (whole-long s short r is)) (sym (whole-count s short r is)) ∙ sym (goes-through e r s (own-clear ed s short (Passed r) is clear)))
+          (ap₂ longIdOrAccepted (sym (whole-long s short r is)) (sym (whole-count s short r is)) ∙ sym (goes-through e r s (own-clear ed s short (Passed r) is clear)))
       go false some =
           let (d, (q, stops)) = own-stop ed s short (Passed r) is some in
           rw (passedAnswer, some)
@@ -112,7 +112,7 @@ module _ {e : ℕ} (ed : Edition e) (s : List ℕ) (short : length s ≤ longest
   unfolding brokenAnswer
   batch-broken p d r is = go (eqb (formOf (opposite e) r .0) 0) refl
     where
-      number : eightOrNine (passes (ownWalk (opposite e) (tree 0 s))) ≡ 8
+      number : eightOrNine (walkPasses (ownWalk (opposite e) (tree 0 s))) ≡ 8
       number = stop-number ed s short (Broken p d r) is
 
       go : (b : Bool) → eqb (formOf (opposite e) r .0) 0 ≡ b → brokenAnswer e p r ≡ batchAnswer e s

@@ -14,9 +14,9 @@ use Rattle.crmf.specs.meaning.Lists.{same, over}
 use Rattle.crmf.specs.meaning.Notation.{among, named, order}
 use Rattle.crmf.specs.meaning.Grammar.{content}
 use Rattle.crmf.specs.steps.grammar.Lines.{partSize, size, startsFrom, start, insideLine, passOf, formLines, nextLine, wayLine, partLines, containerLines, linesFrom, lines}
-use Rattle.crmf.specs.steps.explain.Walk.{line, seekIn, seek, closedIn, closed, judged, noted, lengthy, met, walk, fresh}
+use Rattle.crmf.specs.steps.explain.Walk.{line, findLineIn, findLine, closedIn, closed, judged, withForm, withLongId, withElement, walk, emptyTally}
 use Rattle.crmf.specs.meaning.Rows.{numbers, firstLong}
-use Rattle.crmf.specs.steps.rows.Fill.{goes, rowsFrom, rowsOf, fits}
+use Rattle.crmf.specs.steps.rows.Fill.{goes, rowsFrom, rowsOfInput, fits}
 use Rattle.editions.specs.meaning.Reading.{batchAnswer, answer, readAnswer, tableAfter}
 use Rattle.editions.specs.examples.Paper.{Entry, entries}
 
@@ -32,7 +32,7 @@ unfolding tagNumber constructed allowed valueFrom shortest longForm lengthOf siz
     classOf leads tails lowest highest utf8From utf8 integer lastOf unpadded objectIdentifier holds listOf primitiveOf elementOf walkAt
     nothingAt given read treeOf tree same isUpTo keeps typeNumber selected among named order content
     partSize size startsFrom start insideLine passOf formLines nextLine wayLine partLines containerLines linesFrom lines
-    line seekIn seek closedIn closed judged noted lengthy met walk fresh numbers firstLong goes rowsFrom rowsOf over fits
+    line findLineIn findLine closedIn closed judged withForm withLongId withElement walk emptyTally numbers firstLong goes rowsFrom rowsOfInput over fits
     batchAnswer answer readAnswer tableAfter
 paper =
     (refl, refl) & (refl, refl)

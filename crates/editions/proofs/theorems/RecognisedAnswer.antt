@@ -16,8 +16,8 @@ use Rattle.crmf.specs.declared.recognise.Recognition.{Recognition}
 use Rattle.crmf.specs.declared.recognise.Recognition.the-variants.{Rows, Unrecognised}
 use Rattle.crmf.specs.meaning.Rows.{width}
 use Rattle.crmf.specs.steps.rows.Fill.{fits}
-use Rattle.crmf.specs.steps.recognise.Count.{quickCount, quickTable}
-use Rattle.crmf.proofs.Laws.{not-recognised, quick-walk, walk-quick, quick-fills, fits-room}
+use Rattle.crmf.specs.steps.recognise.Count.{recognised, recognisedTable}
+use Rattle.crmf.proofs.Laws.{not-recognised, recognised-walk, walk-recognised, recognised-fills, fits-room}
 use Rattle.editions.specs.declared.reader.Answer.{Answer}
 use Rattle.editions.specs.meaning.Reading.{refusal, accepted, answer, readAnswer, tableAfter}
 use Rattle.editions.specs.steps.OneWalk.{shownAnswer}
@@ -28,32 +28,32 @@ use Rattle.editions.proofs.theorems.OneWalk.{edition, batch-passed}
 use Rattle.editions.proofs.theorems.Tables.{read-refused, read-short, read-accepted}
 
 -- An input that is recognised with n rows is accepted with them.
-pub quick-accepted : (e : ℕ) (s : List ℕ) → (not (eqb e 1) && not (eqb e 2)) ≡ false → (n : ℕ) → quickCount e s ≡ Rows n → accepted n ≡ answer e s
-quick-accepted e s known n is =
+pub recognised-accepted : (e : ℕ) (s : List ℕ) → (not (eqb e 1) && not (eqb e 2)) ≡ false → (n : ℕ) → recognised e s ≡ Rows n → accepted n ≡ answer e s
+recognised-accepted e s known n is =
     let ed = edition e (in-range e s known .0) (in-range e s known .1) in
-    let q = quick-walk ed s n is in
+    let q = recognised-walk ed s n is in
     ap accepted (sym (q .rows)) ∙ passed-accepted e _ _ (q .seen) refl refl (q .clear) (q .short)
     ∙ batch-passed ed s (q .fits) (q .seen) (q .passed)
     ∙ one-element e s known (q .fits) (length s) (q .ends) (omega arith)
 
 -- An input that isn't recognised is not accepted.
-pub quick-none : (e : ℕ) (s : List ℕ) → Octets s → quickCount e s ≡ Unrecognised → answer e s .number ≡ acceptance → ⊥
-quick-none e s octets none zero =
+pub unrecognised-refused : (e : ℕ) (s : List ℕ) → Octets s → recognised e s ≡ Unrecognised → answer e s .number ≡ acceptance → ⊥
+unrecognised-refused e s octets none zero =
     let one = one-whole e s octets (late-accepted zero) in
     let (r, (passed, fit)) = batch-inverse e s (ap (λ (a : Answer). a .number) (sym (one .same)) ∙ zero) in
     let within = walk-tree s (one .end) octets (one .short) .0 (one .ends) .within in
     let whole : one .end ≡ length s = omega (arith, one .last, within) in
-    let (n, is) = walk-quick e s (one .ends ∙ ap End whole) r passed (eqb-true _ 0 fit) in
+    let (n, is) = walk-recognised e s (one .ends ∙ ap End whole) r passed (eqb-true _ 0 fit) in
     not-recognised (sym none ∙ is)
 
 -- An input is recognised with n rows exactly where it is accepted with n rows.
-pub quick-exactly : (e : ℕ) (s : List ℕ) → (not (eqb e 1) && not (eqb e 2)) ≡ false → Octets s → (n : ℕ)
-    → (quickCount e s ≡ Rows n) ↔ (answer e s ≡ accepted n)
-quick-exactly e s known octets n = (λ is. sym (quick-accepted e s known n is), back (quickCount e s) refl)
+pub recognised-exactly : (e : ℕ) (s : List ℕ) → (not (eqb e 1) && not (eqb e 2)) ≡ false → Octets s → (n : ℕ)
+    → (recognised e s ≡ Rows n) ↔ (answer e s ≡ accepted n)
+recognised-exactly e s known octets n = (λ is. sym (recognised-accepted e s known n is), back (recognised e s) refl)
   where
-    back : (r : Recognition) → quickCount e s ≡ r → answer e s ≡ accepted n → quickCount e s ≡ Rows n
-    back Unrecognised none is = absurd (quick-none e s octets none (ap (λ (a : Answer). a .number) is))
-    back (Rows m) some is = some ∙ ap Rows (ap (λ (a : Answer). a .count) (quick-accepted e s known m some ∙ is))
+    back : (r : Recognition) → recognised e s ≡ r → answer e s ≡ accepted n → recognised e s ≡ Rows n
+    back Unrecognised none is = absurd (unrecognised-refused e s octets none (ap (λ (a : Answer). a .number) is))
+    back (Rows m) some is = some ∙ ap Rows (ap (λ (a : Answer). a .count) (recognised-accepted e s known m some ∙ is))
 
 -- a table has room for n rows, or not
 pub shown-whole : (n room : ℕ) → width * n ≤ room → accepted n ≡ shownAnswer n room
@@ -63,20 +63,20 @@ pub shown-short : (n room : ℕ) → room < width * n → refusal noRoom 0 ≡ s
 shown-short n room few = rw (shownAnswer, lt-leb _ _ few)
 
 -- The answer and the table of reading an input that is recognised.
-pub quick-shown : (e : ℕ) (s old : List ℕ) → Octets s → (not (eqb e 1) && not (eqb e 2)) ≡ false → (n : ℕ) → quickCount e s ≡ Rows n
-    → (shownAnswer n (length old) ≡ readAnswer e s old) × (quickTable e s old ≡ tableAfter e s old)
-quick-shown e s old octets known n is = go (fits n old) refl
+pub recognised-shown : (e : ℕ) (s old : List ℕ) → Octets s → (not (eqb e 1) && not (eqb e 2)) ≡ false → (n : ℕ) → recognised e s ≡ Rows n
+    → (shownAnswer n (length old) ≡ readAnswer e s old) × (recognisedTable e s old ≡ tableAfter e s old)
+recognised-shown e s old octets known n is = go (fits n old) refl
   where
     same : accepted n ≡ answer e s
-    same = quick-accepted e s known n is
+    same = recognised-accepted e s known n is
 
-    go : (b : Bool) → fits n old ≡ b → (shownAnswer n (length old) ≡ readAnswer e s old) × (quickTable e s old ≡ tableAfter e s old)
+    go : (b : Bool) → fits n old ≡ b → (shownAnswer n (length old) ≡ readAnswer e s old) × (recognisedTable e s old ≡ tableAfter e s old)
     go true enough =
         let (answered, after) = read-accepted e s old (accepted n) same refl octets enough in
-        (rw (shownAnswer, sym (fits-room n old) ∙ enough) answered, sym (quick-fills e s old n is) ∙ after)
+        (rw (shownAnswer, sym (fits-room n old) ∙ enough) answered, sym (recognised-fills e s old n is) ∙ after)
     go false few =
         let (answered, after) = read-short e s old (accepted n) same refl few in
-        (rw (shownAnswer, sym (fits-room n old) ∙ few) answered, sym (quick-fills e s old n is) ∙ after)
+        (rw (shownAnswer, sym (fits-room n old) ∙ few) answered, sym (recognised-fills e s old n is) ∙ after)
 
 -- a number that is no edition is refused, and the table stays
 pub refused-thirteen : (e : ℕ) (s old : List ℕ) → (not (eqb e 1) && not (eqb e 2)) ≡ true → (refusal unknownEdition 0 ≡ readAnswer e s old) × (old ≡ tableAfter e s old)

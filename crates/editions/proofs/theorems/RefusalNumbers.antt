@@ -18,10 +18,10 @@ use Rattle.der.proofs.Laws.{fault-number}
 use Rattle.crmf.specs.declared.explain.Walked.{Walked}
 use Rattle.crmf.specs.declared.explain.Walked.the-variants.{Passed, Broken}
 use Rattle.crmf.specs.meaning.Rows.{firstLong}
-use Rattle.crmf.specs.steps.rows.Fill.{rowsOf}
+use Rattle.crmf.specs.steps.rows.Fill.{rowsOfInput}
 use Rattle.editions.specs.declared.reader.Answer.{Answer}
 use Rattle.editions.specs.meaning.Edition.{opposite}
-use Rattle.editions.specs.meaning.Reading.{refusal, accepted, ownWalk, passes, eightOrNine, stopped, counted, batchAnswer, answer}
+use Rattle.editions.specs.meaning.Reading.{refusal, accepted, ownWalk, walkPasses, eightOrNine, stopped, longIdOrAccepted, batchAnswer, answer}
 
 module _ (e : ℕ) (s : List ℕ) where
   stopped-number : (b : Bool) → eightOrNine b ≤ unknownEdition
@@ -33,9 +33,9 @@ module _ (e : ℕ) (s : List ℕ) where
   counted-number false n p = omega arith
 
   walked-number : (w : Walked)
-      → (elim w as (λ x. Answer) [ Passed r ↦ counted (firstLong (0, 0) (rowsOf s)) (length (rowsOf s)) | Broken p d r ↦ stopped e p (tree 0 s) ]) .number ≤ unknownEdition
-  walked-number (Passed r) = counted-number (eqb (firstLong (0, 0) (rowsOf s) .0) 0) (length (rowsOf s)) (firstLong (0, 0) (rowsOf s) .1)
-  walked-number (Broken p d r) = stopped-number (passes (ownWalk (opposite e) (tree 0 s)))
+      → (elim w as (λ x. Answer) [ Passed r ↦ longIdOrAccepted (firstLong (0, 0) (rowsOfInput s)) (length (rowsOfInput s)) | Broken p d r ↦ stopped e p (tree 0 s) ]) .number ≤ unknownEdition
+  walked-number (Passed r) = counted-number (eqb (firstLong (0, 0) (rowsOfInput s) .0) 0) (length (rowsOfInput s)) (firstLong (0, 0) (rowsOfInput s) .1)
+  walked-number (Broken p d r) = stopped-number (walkPasses (ownWalk (opposite e) (tree 0 s)))
 
   batch-number : batchAnswer e s .number ≤ unknownEdition
   unfolding batchAnswer

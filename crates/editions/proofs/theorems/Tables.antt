@@ -13,19 +13,19 @@ use Rattle.der.specs.steps.Reading.{tree}
 use Rattle.crmf.specs.declared.explain.Walked.{Walked}
 use Rattle.crmf.specs.declared.explain.Walked.the-variants.{Passed, Broken}
 use Rattle.crmf.specs.meaning.Rows.{numbers, firstLong}
-use Rattle.crmf.specs.steps.rows.Fill.{fits, rowsOf, filled}
+use Rattle.crmf.specs.steps.rows.Fill.{fits, rowsOfInput, filled}
 use Rattle.crmf.specs.meaning.Lists.{over}
 use Rattle.crmf.proofs.Laws.{filled-whole, filled-short}
 use Rattle.editions.specs.declared.reader.Answer.{Answer}
 use Rattle.editions.specs.meaning.Edition.{opposite}
-use Rattle.editions.specs.meaning.Reading.{refusal, accepted, ownWalk, passes, eightOrNine, counted, batchAnswer, answer, readAnswer, tableAfter}
+use Rattle.editions.specs.meaning.Reading.{refusal, accepted, ownWalk, walkPasses, eightOrNine, longIdOrAccepted, batchAnswer, answer, readAnswer, tableAfter}
 use Rattle.editions.proofs.theorems.OneElement.{late-accepted, one-whole}
 
 -- where an answer's number is 0, its count is the number of rows
 abbrev pub Counts : ℕ → Answer → Type 0
 Counts n a = a .number ≡ acceptance → a .count ≡ n
 
-counted-counts : (long : ℕ × ℕ) (n : ℕ) → Counts n (counted long n)
+counted-counts : (long : ℕ × ℕ) (n : ℕ) → Counts n (longIdOrAccepted long n)
 counted-counts long n = go (eqb (long .0) 0)
   where
     go : (b : Bool) → Counts n (elim b as (λ x. Answer) [ true ↦ accepted n | false ↦ refusal longCertReqId (long .1) ])
@@ -36,22 +36,22 @@ stopped-counts : (n p : ℕ) (b : Bool) → Counts n (refusal (eightOrNine b) p)
 stopped-counts n p true zero = absurd (omega arith)
 stopped-counts n p false zero = absurd (omega arith)
 
-batch-counts : (e : ℕ) (s : List ℕ) → Counts (length (rowsOf s)) (batchAnswer e s)
+batch-counts : (e : ℕ) (s : List ℕ) → Counts (length (rowsOfInput s)) (batchAnswer e s)
 unfolding batchAnswer
 batch-counts e s = go (ownWalk e (tree 0 s))
   where
     n : ℕ
-    n = length (rowsOf s)
+    n = length (rowsOfInput s)
 
     go : (w : Walked) → Counts n (elim w as (λ x. Answer) [
-      | Passed r ↦ counted (firstLong (0, 0) (rowsOf s)) n
-      | Broken p d r ↦ refusal (eightOrNine (passes (ownWalk (opposite e) (tree 0 s)))) p
+      | Passed r ↦ longIdOrAccepted (firstLong (0, 0) (rowsOfInput s)) n
+      | Broken p d r ↦ refusal (eightOrNine (walkPasses (ownWalk (opposite e) (tree 0 s)))) p
     ])
-    go (Passed r) = counted-counts (firstLong (0, 0) (rowsOf s)) n
-    go (Broken p d r) = stopped-counts n p (passes (ownWalk (opposite e) (tree 0 s)))
+    go (Passed r) = counted-counts (firstLong (0, 0) (rowsOfInput s)) n
+    go (Broken p d r) = stopped-counts n p (walkPasses (ownWalk (opposite e) (tree 0 s)))
 
 -- An accepted batch's count is the number of its rows.
-pub answer-counts : (e : ℕ) (s : List ℕ) → Octets s → Counts (length (rowsOf s)) (answer e s)
+pub answer-counts : (e : ℕ) (s : List ℕ) → Octets s → Counts (length (rowsOfInput s)) (answer e s)
 answer-counts e s octets zero =
     let one = one-whole e s octets (late-accepted zero) in
     rw (one .same) (batch-counts e s (ap (λ (a : Answer). a .number) (sym (one .same)) ∙ zero))
@@ -81,7 +81,7 @@ module _ (e : ℕ) (s old : List ℕ) (a : Answer) (found : a ≡ answer e s) wh
     pub read-accepted : Octets s → fits (a .count) old ≡ true → (a ≡ readAnswer e s old) × (filled s (a .count) old ≡ tableAfter e s old)
     unfolding readAnswer tableAfter
     read-accepted octets enough =
-        let count : a .count ≡ length (rowsOf s) = ap (λ (x : Answer). x .count) found ∙ answer-counts e s octets (ap (λ (x : Answer). x .number) (sym found) ∙ zero) in
+        let count : a .count ≡ length (rowsOfInput s) = ap (λ (x : Answer). x .count) found ∙ answer-counts e s octets (ap (λ (x : Answer). x .number) (sym found) ∙ zero) in
         let room : fits (answer e s .count) old ≡ true = ap (λ (x : Answer). fits (x .count) old) (sym found) ∙ enough in
         let same : readAnswer e s old ≡ answer e s = rw (readAnswer, accepting, room) in (
           found ∙ sym same,
@@ -131,6 +131,6 @@ module _ (e : ℕ) (s old : List ℕ) where
       by-number false is = read-alike (eqb-false _ _ is)
 
   -- the table then has the rows written over it
-  pub shown-table : readAnswer e s old .number ≡ acceptance → tableAfter e s old ≡ over old 0 (numbers (rowsOf s))
+  pub shown-table : readAnswer e s old .number ≡ acceptance → tableAfter e s old ≡ over old 0 (numbers (rowsOfInput s))
   unfolding tableAfter
   shown-table zero = rw (tableAfter, eq-eqb _ _ zero)

@@ -14,9 +14,9 @@ use Rattle.crmf.specs.declared.explain.Walked.{Walked}
 use Rattle.crmf.specs.declared.explain.Walked.the-variants.{Passed, Broken}
 use Rattle.crmf.specs.meaning.Notation.{Top}
 use Rattle.crmf.specs.steps.grammar.Lines.{start}
-use Rattle.crmf.specs.steps.explain.Walk.{walk, fresh}
+use Rattle.crmf.specs.steps.explain.Walk.{walk, emptyTally}
 use Rattle.crmf.specs.meaning.Rows.{numbers, firstLong}
-use Rattle.crmf.specs.steps.rows.Fill.{fits, rowsOf}
+use Rattle.crmf.specs.steps.rows.Fill.{fits, rowsOfInput}
 use Rattle.crmf.specs.meaning.Lists.{over}
 use Rattle.editions.specs.declared.reader.Answer.{Answer}
 use Rattle.editions.specs.meaning.Edition.{rfc2511, rfc4211, opposite}
@@ -31,12 +31,12 @@ accepted n = record { number = acceptance; place = 0; count = n }
 
 -- "this edition's walk, parts left to right, insides first"
 abbrev pub ownWalk : ℕ → Tree → Walked
-ownWalk e t = walk (λ x. eqb x e) fresh (start Top) 0 t
+ownWalk e t = walk (λ x. eqb x e) emptyTally (start Top) 0 t
 
 -- whether a walk passes
-abbrev pub passes : Walked → Bool
-passes (Passed r) = true
-passes (Broken p d r) = false
+abbrev pub walkPasses : Walked → Bool
+walkPasses (Passed r) = true
+walkPasses (Broken p d r) = false
 
 -- "8: not in the grammar of either edition", "9: not in this edition's grammar, but in the other's"
 abbrev pub eightOrNine : Bool → ℕ
@@ -44,15 +44,15 @@ eightOrNine other = elim other [ true ↦ otherEdition | false ↦ notInGrammar 
 
 -- both stand where this edition's walk stops, which for 9 is the first difference
 abbrev pub stopped : ℕ → ℕ → Tree → Answer
-stopped e p t = refusal (eightOrNine (passes (ownWalk (opposite e) t))) p
+stopped e p t = refusal (eightOrNine (walkPasses (ownWalk (opposite e) t))) p
 
 -- "10: a certReqId of more than 8 content octets", by the first such (its whole length, 0: none, and its place); or else acceptance
-abbrev pub counted : ℕ × ℕ → ℕ → Answer
-counted long n = elim (eqb (long .0) 0) [ true ↦ accepted n | false ↦ refusal longCertReqId (long .1) ]
+abbrev pub longIdOrAccepted : ℕ × ℕ → ℕ → Answer
+longIdOrAccepted long n = elim (eqb (long .0) 0) [ true ↦ accepted n | false ↦ refusal longCertReqId (long .1) ]
 
 -- 8 or 9, 10 or acceptance, of bytes that are one element
 unfoldable pub batchAnswer : ℕ → List ℕ → Answer
-batchAnswer e s = elim (ownWalk e (tree 0 s)) [ Passed r ↦ counted (firstLong (0, 0) (rowsOf s)) (length (rowsOf s)) | Broken p d r ↦ stopped e p (tree 0 s) ]
+batchAnswer e s = elim (ownWalk e (tree 0 s)) [ Passed r ↦ longIdOrAccepted (firstLong (0, 0) (rowsOfInput s)) (length (rowsOfInput s)) | Broken p d r ↦ stopped e p (tree 0 s) ]
 
 -- "Order for reading: 13, 1, then 2 to 6 over the whole nest, 7, 8 or 9, 10"
 unfoldable pub answer : ℕ → List ℕ → Answer
@@ -76,4 +76,4 @@ readAnswer e s old =
 
 -- "An accepted reading changes the table's first 4 times count numbers and no others", and a refusal none
 unfoldable pub tableAfter : ℕ → List ℕ → List ℕ → List ℕ
-tableAfter e s old = elim (eqb (readAnswer e s old .number) acceptance) [ true ↦ over old 0 (numbers (rowsOf s)) | false ↦ old ]
+tableAfter e s old = elim (eqb (readAnswer e s old .number) acceptance) [ true ↦ over old 0 (numbers (rowsOfInput s)) | false ↦ old ]

@@ -7,7 +7,7 @@ use Rattle.crmf.specs.declared.explain.tally.Tally.{Tally}
 use Rattle.crmf.specs.meaning.Rows.{width}
 use Rattle.editions.specs.declared.reader.Answer.{Answer}
 use Rattle.editions.specs.meaning.Edition.{rfc2511, opposite}
-use Rattle.editions.specs.meaning.Reading.{refusal, accepted, eightOrNine, counted}
+use Rattle.editions.specs.meaning.Reading.{refusal, accepted, eightOrNine, longIdOrAccepted}
 
 -- of what was met, the first form of an edition alone: its difference's number (0: none) and its place
 abbrev pub formOf : ℕ → Tally → ℕ × ℕ
@@ -23,7 +23,7 @@ passedAnswer e s =
     let foreign = formOf (opposite e) s in
     elim (eqb (foreign .0) 0) [
       | false ↦ refusal (stopNumber (formOf e s .0)) (foreign .1)
-      | true ↦ counted (s .long .whole, s .long .place) (s .count)
+      | true ↦ longIdOrAccepted (s .long .whole, s .long .place) (s .count)
     ]
 
 -- where it breaks: 8 at the opposite edition's first form before it, or there

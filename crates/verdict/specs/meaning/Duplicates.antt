@@ -19,9 +19,9 @@ unfoldable pub signed : List ℕ → ℤ
 signed c = elim (ltb (getD c 0 0) 0x80) [ true ↦ pos (valueFrom 0 c) | false ↦ negsuc (valueFrom 0 (map (λ b. 255 - b) c)) ]
 
 -- an octet's part in the magnitude of a negative number is its complement
-abbrev pub part : Bool → ℕ → ℕ
-part true b = 255 - b
-part false b = b
+abbrev pub magnitudeOctet : Bool → ℕ → ℕ
+magnitudeOctet true b = 255 - b
+magnitudeOctet false b = b
 
 -- "messages' own certReqIds", by position
 unfoldable pub ids : List ℕ → List ℤ

@@ -53,23 +53,23 @@ abbrev pub has : ℕ → Field → Bool
 has id f = elim (child id f) [ absent ↦ false | some x ↦ true ]
 
 -- "subject and publicKey both in the template"
-abbrev pub named : Message → Bool
-named m = has 0xA5 (m .template) && has 0xA6 (m .template)
+abbrev pub hasSubjectAndKey : Message → Bool
+hasSubjectAndKey m = has 0xA5 (m .template) && has 0xA6 (m .template)
 
 -- "signature A1": by whether poposkInput is there, and whether the template has both
-abbrev pub signatureVerdict : (input named : Bool) → ℕ
-signatureVerdict input named =
+abbrev pub signatureVerdict : (input hasSubjectAndKey : Bool) → ℕ
+signatureVerdict input hasSubjectAndKey =
     elim input [
-      | true ↦ elim named [ true ↦ signatureNeither | false ↦ signedInput ]
-      | false ↦ elim named [ true ↦ signedRequest | false ↦ signatureNeither ]
+      | true ↦ elim hasSubjectAndKey [ true ↦ signatureNeither | false ↦ signedInput ]
+      | false ↦ elim hasSubjectAndKey [ true ↦ signedRequest | false ↦ signatureNeither ]
     ]
 
 -- "keyEncipherment A2" and "keyAgreement A3": by whether the choice is 82, and whether the template has both
 abbrev pub enciphermentVerdict : (mac : Bool) → ℕ
 enciphermentVerdict mac = elim mac [ true ↦ macMisplaced | false ↦ keyEncipherment ]
 
-abbrev pub agreementVerdict : (mac named : Bool) → ℕ
-agreementVerdict mac named = elim (mac && not named) [ true ↦ macMisplaced | false ↦ keyAgreement ]
+abbrev pub agreementVerdict : (mac hasSubjectAndKey : Bool) → ℕ
+agreementVerdict mac hasSubjectAndKey = elim (mac && not hasSubjectAndKey) [ true ↦ macMisplaced | false ↦ keyAgreement ]
 
 -- the verdict on a proof, by its identifier: "raVerified 80", "signature A1", "keyEncipherment A2 or keyAgreement A3"
 abbrev pub proofVerdict : Message → Field → ℕ
@@ -77,8 +77,8 @@ proofVerdict m p =
     elim (eqb (p .identifier) 0x80) [
       | true ↦ raVerified
       | false ↦ elim (eqb (p .identifier) 0xA1) [
-        | true ↦ signatureVerdict (has 0xA0 p) (named m)
-        | false ↦ elim (eqb (p .identifier) 0xA2) [ true ↦ enciphermentVerdict (has 0x82 p) | false ↦ agreementVerdict (has 0x82 p) (named m) ]
+        | true ↦ signatureVerdict (has 0xA0 p) (hasSubjectAndKey m)
+        | false ↦ elim (eqb (p .identifier) 0xA2) [ true ↦ enciphermentVerdict (has 0x82 p) | false ↦ agreementVerdict (has 0x82 p) (hasSubjectAndKey m) ]
       ]
     ]
 
@@ -111,8 +111,8 @@ abbrev pub refused : ℕ → ℕ → Verdict
 refused n p = record { number = n; place = p; verdict = noProof; from = 0; length = 0 }
 
 -- what a message's verdict answers
-abbrev pub judged : Message → Verdict
-judged m = record { number = accepted; place = 0; verdict = verdictOf m; from = signedOf m .0; length = signedOf m .1 }
+abbrev pub verdictOn : Message → Verdict
+verdictOn m = record { number = accepted; place = 0; verdict = verdictOf m; from = signedOf m .0; length = signedOf m .1 }
 
 -- "Refusals: as reading without 11, then 14"
 unfoldable pub verdictAnswer : ℕ → List ℕ → ℕ → Verdict
@@ -120,7 +120,7 @@ verdictAnswer e s position =
     let a = answer e s in
     elim (eqb (a .number) accepted) [
       | false ↦ refused (a .number) (a .place)
-      | true ↦ elim (ltb position (length (messages (tree 0 s)))) [ false ↦ refused noSuchMessage 0 | true ↦ judged (messageAt s position) ]
+      | true ↦ elim (ltb position (length (messages (tree 0 s)))) [ false ↦ refused noSuchMessage 0 | true ↦ verdictOn (messageAt s position) ]
     ]
 
 -- the octets of the signed part, as a verdict gives its place and length

@@ -16,8 +16,8 @@ pub record Accepted (s : List ℕ) : Type 0 where
   pub zero : answer edition s .number ≡ accepted
 
 -- the most messages that a batch can have: each has at least 9 of its 65,535 octets
-abbrev pub most : ℕ
-most = 7281
+abbrev pub mostMessages : ℕ
+mostMessages = 7281
 
 -- So many numbers at the front of a list are the certReqIds.
 pub record Collected (s : List ℕ) (numbers : List ℤ) (count : ℕ) : Type 0 where

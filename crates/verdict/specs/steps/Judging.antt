@@ -8,8 +8,8 @@ use lib.Dec.{eqb}
 use lib.ListN.{length}
 use Rattle.der.specs.meaning.Refusal.{accepted}
 use Rattle.der.specs.meaning.Bounds.{longest}
-use Rattle.crmf.specs.meaning.Fields.{Field, seek}
-use Rattle.verdict.specs.declared.verdict.Part.{Part}
+use Rattle.crmf.specs.meaning.Fields.{Field, firstWith}
+use Rattle.verdict.specs.declared.verdict.Extent.{Extent}
 use Rattle.verdict.specs.declared.verdict.Verdict.{Verdict}
 use Rattle.verdict.specs.meaning.Verdict.{noProof, raVerified, signedRequest, signedInput, signatureNeither, enciphermentVerdict, agreementVerdict}
 
@@ -20,21 +20,21 @@ pub record Places (s : List ℕ) (at end : ℕ) : Type 0 where
   pub short : length s ≤ longest
 
 -- where a field stands; where there is none, 0 and 0
-abbrev pub partOf : Option Field → Part
+abbrev pub partOf : Option Field → Extent
 partOf absent = record { from = 0; length = 0 }
 partOf (some f) = record { from = f .place; length = f .whole }
 
 -- whether an element with the identifier stands among some
 abbrev pub holds : ℕ → List Field → Bool
-holds id fs = elim (seek (id ∷ []) fs) [ absent ↦ false | some x ↦ true ]
+holds id fs = elim (firstWith (id ∷ []) fs) [ absent ↦ false | some x ↦ true ]
 
 -- What a search has found: the part of the first field with the identifier, if there is one; and no field has no length.
-pub record Found (o : Option Field) (r : Part) : Type 0 where
+pub record FieldFound (o : Option Field) (r : Extent) : Type 0 where
   pub part : r ≡ partOf o
   pub none : r .length ≡ 0 → o ≡ absent
 
 -- a verdict, with the signed part
-abbrev pub told : ℕ → Part → Verdict
+abbrev pub told : ℕ → Extent → Verdict
 told v p = record { number = accepted; place = 0; verdict = v; from = p .from; length = p .length }
 
 -- a verdict without one
@@ -42,7 +42,7 @@ abbrev pub bare : ℕ → Verdict
 bare v = told v (partOf absent)
 
 -- "signature over the certReq", "over poposkInput" or "otherwise", by the poposkInput, if there is one, and the certReq's part
-unfoldable pub signatureAnswer : Option Field → (named : Bool) → Part → Verdict
+unfoldable pub signatureAnswer : Option Field → (named : Bool) → Extent → Verdict
 signatureAnswer input named request =
     elim input [
       | absent ↦ elim named [ true ↦ told signedRequest request | false ↦ bare signatureNeither ]
@@ -50,12 +50,12 @@ signatureAnswer input named request =
     ]
 
 -- the verdict by the identifier of what stands after the certReq, and by the fields inside it
-unfoldable pub proofAnswer : ℕ → List Field → (named : Bool) → Part → Verdict
+unfoldable pub proofAnswer : ℕ → List Field → (named : Bool) → Extent → Verdict
 proofAnswer id inside named request =
     elim (eqb id 0x80) [
       | true ↦ bare raVerified
       | false ↦ elim (eqb id 0xA1) [
-        | true ↦ signatureAnswer (seek (0xA0 ∷ []) inside) named request
+        | true ↦ signatureAnswer (firstWith (0xA0 ∷ []) inside) named request
         | false ↦ elim (eqb id 0xA2) [
           | true ↦ bare (enciphermentVerdict (holds 0x82 inside))
           | false ↦ elim (eqb id 0xA3) [ true ↦ bare (agreementVerdict (holds 0x82 inside) named) | false ↦ bare noProof ]

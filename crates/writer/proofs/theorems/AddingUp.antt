@@ -12,17 +12,17 @@ use borrow.Author.Tests.{lt-leb, le-leb, eqb-true, eqb-false, ne-eqb}
 use Rattle.der.specs.meaning.Bounds.{longest}
 use Rattle.crmf.specs.meaning.Rows.{Row}
 use Rattle.crmf.specs.meaning.Pieces.{pieceOf, piecesOf}
-use Rattle.crmf.specs.steps.rows.Assembly.{wholeOf, childrenOf, within}
+use Rattle.crmf.specs.steps.rows.Assembly.{wholeOf, childrenOf, noneLonger}
 use Rattle.crmf.proofs.Laws.{pieces-none, pieces-row, children-none, children-piece, within-none, within-piece, children-bound, pieces-length}
 use Rattle.writer.specs.meaning.Draft.{inside}
-use Rattle.writer.specs.meaning.Writing.{most}
+use Rattle.writer.specs.meaning.Writing.{mostRows}
 use Rattle.writer.specs.steps.Inner.{lies, Whole, sound, children, Summed, Blank, Added}
 
 module _ (bytes : List ℕ) where
   -- no rows are sound, and so are a row and those after it where each is
   sound-none : (n : ℕ) → sound bytes n [] ≡ true
   unfolding inside
-  sound-none n = ap (within longest n) (pieces-none bytes) ∙ within-none longest n
+  sound-none n = ap (noneLonger longest n) (pieces-none bytes) ∙ within-none longest n
 
   abbrev whole : ℕ → Row → List Row → ℕ
   whole n r rs = wholeOf (pieceOf bytes r) (childrenOf n (suc n) (piecesOf bytes rs))
@@ -37,8 +37,8 @@ module _ (bytes : List ℕ) where
   pub sound-row : (n : ℕ) (r : Row) (rs : List Row) → sound bytes n (r ∷ rs) ≡ ((lies bytes r && leb (whole n r rs) longest) && sound bytes (suc n) rs)
   unfolding inside
   sound-row n r rs =
-      ap (λ (b : Bool). (lies bytes r && inside bytes rs) && b) (ap (within longest n) (pieces-row bytes r rs) ∙ within-piece longest n _ _)
-      ∙ regroup (lies bytes r) (inside bytes rs) (leb (whole n r rs) longest) (within longest (suc n) (piecesOf bytes rs))
+      ap (λ (b : Bool). (lies bytes r && inside bytes rs) && b) (ap (noneLonger longest n) (pieces-row bytes r rs) ∙ within-piece longest n _ _)
+      ∙ regroup (lies bytes r) (inside bytes rs) (leb (whole n r rs) longest) (noneLonger longest (suc n) (piecesOf bytes rs))
 
   -- the last rows of sound ones are sound
   sound-rest : (n : ℕ) (rs : List Row) → sound bytes n rs ≡ true → (j : ℕ) → sound bytes (n + j) (drop j rs) ≡ true
@@ -50,7 +50,7 @@ module _ (bytes : List ℕ) where
 
 -- What the rows from number i on have settled: each is sound, and a table has the sums of the rows before i so far, and of the others whole.
 pub record Settled (bytes : List ℕ) (rs : List Row) (i : ℕ) (old table : List ℕ) : Type 0 where
-  pub few : length rs ≤ most
+  pub few : length rs ≤ mostRows
   pub sized : length table ≡ length old
   pub room : length rs ≤ length table
   pub below : i ≤ length rs
@@ -84,9 +84,9 @@ module _ (bytes : List ℕ) (rs : List Row) where
 
   module _ (j : ℕ) (old table : List ℕ) (s : Settled bytes rs (suc j) old table) where
     -- a sum is no more than the longest length for each row
-    pub sum-bound : (k : ℕ) → k < suc j → getD table k 0 ≤ longest * most
+    pub sum-bound : (k : ℕ) → k < suc j → getD table k 0 ≤ longest * mostRows
     sum-bound k before =
-        let ok = and-eq-true-iff (inside bytes (drop (suc j) rs)) (within longest (suc j) (piecesOf bytes (drop (suc j) rs))) .0 (s .sounds) .1 in
+        let ok = and-eq-true-iff (inside bytes (drop (suc j) rs)) (noneLonger longest (suc j) (piecesOf bytes (drop (suc j) rs))) .0 (s .sounds) .1 in
         let bound = children-bound longest k (suc j) (piecesOf bytes (drop (suc j) rs)) ok in
         omega (arith, s .open-sums k before, bound, pieces-length bytes (drop (suc j) rs), length-drop (suc j) rs, s .few)
 

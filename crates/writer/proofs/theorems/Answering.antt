@@ -13,13 +13,13 @@ use Rattle.crmf.specs.meaning.Rows.{width}
 use Rattle.crmf.specs.meaning.Lists.{over}
 use Rattle.editions.specs.declared.reader.Answer.{Answer}
 use Rattle.editions.specs.meaning.Reading.{refusal, accepted}
-use Rattle.writer.specs.meaning.Writing.{most, rowsIn, shaped, candidate, described, writeAnswer, outputAfter}
+use Rattle.writer.specs.meaning.Writing.{mostRows, rowsIn, shaped, candidate, described, writeAnswer, outputAfter}
 use Rattle.writer.specs.steps.Inner.{Room}
 
 -- a draft of a batch's shape has no more rows than a batch can have
-pub shaped-few : (draft : List ℕ) → shaped draft ≡ true → length (rowsIn draft) ≤ most
+pub shaped-few : (draft : List ℕ) → shaped draft ≡ true → length (rowsIn draft) ≤ mostRows
 shaped-few draft shape =
-    leb-true (length (rowsIn draft)) most (and-eq-true-iff (eqb (width * length (rowsIn draft)) (length draft)) (leb (length (rowsIn draft)) most) .0 shape .1)
+    leb-true (length (rowsIn draft)) mostRows (and-eq-true-iff (eqb (width * length (rowsIn draft)) (length draft)) (leb (length (rowsIn draft)) mostRows) .0 shape .1)
 
 -- a table of zeros has room for its rows
 pub zeros-room : (draft scratch : List ℕ) (n : ℕ) → shaped draft ≡ true → longest ≤ length scratch → width * length (rowsIn draft) ≤ n

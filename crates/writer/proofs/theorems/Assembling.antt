@@ -12,7 +12,7 @@ use borrow.Author.Tests.{leb-true}
 use Rattle.der.specs.meaning.Bounds.{longest}
 use Rattle.crmf.specs.meaning.Rows.{Row}
 use Rattle.crmf.specs.meaning.Pieces.{pieceOf, piecesOf}
-use Rattle.crmf.specs.steps.rows.Assembly.{own, wholeOf, assembled, within}
+use Rattle.crmf.specs.steps.rows.Assembly.{own, wholeOf, assembled, noneLonger}
 use Rattle.crmf.proofs.Laws.{pieces-none, pieces-row, assembled-none, assembled-piece, within-piece}
 use Rattle.writer.specs.steps.Inner.{children, Appended, Begins}
 use Rattle.writer.proofs.theorems.WholeLengths.{stands-same, stands-past}
@@ -23,12 +23,12 @@ pub record Joined (bytes : List ℕ) (rs : List Row) (i at : ℕ) (old scratch :
   pub sized : length scratch ≡ length old
   pub below : i ≤ length rs
   pub short : at ≤ longest
-  pub fit : within longest i (piecesOf bytes (drop i rs)) ≡ true
+  pub fit : noneLonger longest i (piecesOf bytes (drop i rs)) ≡ true
   pub whole : assembled 0 (piecesOf bytes rs) ≡ take at scratch ++ assembled i (piecesOf bytes (drop i rs))
 
 module _ (bytes : List ℕ) (rs : List Row) where
   -- nothing stands before the first row
-  pub joined-first : (scratch : List ℕ) → longest ≤ length scratch → within longest 0 (piecesOf bytes rs) ≡ true → Joined bytes rs 0 0 scratch scratch
+  pub joined-first : (scratch : List ℕ) → longest ≤ length scratch → noneLonger longest 0 (piecesOf bytes rs) ≡ true → Joined bytes rs 0 0 scratch scratch
   joined-first scratch room fit = record { room = room; sized = refl; below = omega arith; short = omega arith; fit = fit; whole = refl }
 
   module _ (i at : ℕ) (old scratch : List ℕ) (j : Joined bytes rs i at old scratch) where
@@ -54,11 +54,11 @@ module _ (bytes : List ℕ) (rs : List Row) where
       pieces = ap (piecesOf bytes) cut ∙ pieces-row bytes r (drop (suc i) rs)
 
       -- the row's whole length isn't too long, and neither is that of one after it
-      fits : (leb (wholeOf (pieceOf bytes r) inner) longest ≡ true) × (within longest (suc i) (piecesOf bytes (drop (suc i) rs)) ≡ true)
+      fits : (leb (wholeOf (pieceOf bytes r) inner) longest ≡ true) × (noneLonger longest (suc i) (piecesOf bytes (drop (suc i) rs)) ≡ true)
       fits =
           rw sum
-          (and-eq-true-iff (leb (wholeOf (pieceOf bytes r) (children bytes rs i)) longest) (within longest (suc i) (piecesOf bytes (drop (suc i) rs))) .0
-          (sym (ap (within longest i) pieces ∙ within-piece longest i (pieceOf bytes r) (piecesOf bytes (drop (suc i) rs))) ∙ j .fit))
+          (and-eq-true-iff (leb (wholeOf (pieceOf bytes r) (children bytes rs i)) longest) (noneLonger longest (suc i) (piecesOf bytes (drop (suc i) rs))) .0
+          (sym (ap (noneLonger longest i) pieces ∙ within-piece longest i (pieceOf bytes r) (piecesOf bytes (drop (suc i) rs))) ∙ j .fit))
 
       pub row-fits : wholeOf (pieceOf bytes r) inner ≤ longest
       row-fits = leb-true (wholeOf (pieceOf bytes r) inner) longest (fits .0)

@@ -12,16 +12,16 @@ use Rattle.der.specs.meaning.Octets.{Octets}
 use Rattle.der.specs.meaning.Bounds.{depth, longest}
 use Rattle.crmf.specs.meaning.Lists.{same}
 use Rattle.crmf.specs.meaning.Rows.{Row, width, batchRows}
-use Rattle.crmf.specs.steps.rows.Fill.{rowsOf}
+use Rattle.crmf.specs.steps.rows.Fill.{rowsOfInput}
 use Rattle.crmf.specs.meaning.Pieces.{Piece, piecesOf}
-use Rattle.crmf.specs.steps.rows.Assembly.{assembled, within}
+use Rattle.crmf.specs.steps.rows.Assembly.{assembled, noneLonger}
 use Rattle.crmf.proofs.Laws.{Edition, same-octets, same-itself, assembly, rows-few, pieces-short, pieces-octets, pieces-length, numbers-length}
 use Rattle.editions.specs.declared.reader.Answer.{Answer}
 use Rattle.editions.specs.meaning.Membership.{InGrammar}
 use Rattle.editions.specs.meaning.Reading.{answer}
 use Rattle.editions.proofs.theorems.Demand2.{nest-rows, in-accepted, accepted-in}
 use Rattle.writer.specs.meaning.Draft.{inside, HasRows}
-use Rattle.writer.specs.meaning.Writing.{rowsIn, most, shaped, drafted, candidate, samePieces, assembles, shows, described}
+use Rattle.writer.specs.meaning.Writing.{rowsIn, mostRows, shaped, drafted, candidate, samePieces, assembles, shows, described}
 use Rattle.writer.proofs.theorems.DraftRows.{rows-back, fours}
 
 -- pieces are compared as the same exactly where they are
@@ -74,26 +74,26 @@ module _ {e : ℕ} (ed : Edition e) (draft bytes s : List ℕ) (h : HasRows e dr
   has-shape =
       let size : width * length (rowsIn draft) ≡ length draft =
       ap (λ (rs : List Row). width * length rs) rows-are ∙ sym (numbers-length (h .rows)) ∙ ap length (h .numbered) in
-      let few : length (rowsIn draft) ≤ most = omega (arith, as-many, rows-few (g .batch) depth (g .formed) s (g .encoded), g .short) in
-      and-eq-true-iff (eqb (width * length (rowsIn draft)) (length draft)) (leb (length (rowsIn draft)) most) .1 (eq-eqb _ _ size, le-leb _ _ few)
+      let few : length (rowsIn draft) ≤ mostRows = omega (arith, as-many, rows-few (g .batch) depth (g .formed) s (g .encoded), g .short) in
+      and-eq-true-iff (eqb (width * length (rowsIn draft)) (length draft)) (leb (length (rowsIn draft)) mostRows) .1 (eq-eqb _ _ size, le-leb _ _ few)
 
   has-assembly : assembles draft bytes ≡ true
   has-assembly =
       let leaves : inside bytes (rowsIn draft) ≡ true = ap (inside bytes) rows-are ∙ h .leaves in
-      let short : within longest 0 (drafted draft bytes) ≡ true =
-      ap (within longest 0) pieces-are ∙ pieces-short (g .batch) depth (g .formed) s (g .encoded) longest (g .short) in
+      let short : noneLonger longest 0 (drafted draft bytes) ≡ true =
+      ap (noneLonger longest 0) pieces-are ∙ pieces-short (g .batch) depth (g .formed) s (g .encoded) longest (g .short) in
       let fits : leb (length (candidate draft bytes)) longest ≡ true =
       ap (λ (l : List ℕ). leb (length l) longest) has-candidate ∙ le-leb _ _ (g .short) in
-      and-eq-true-iff (inside bytes (rowsIn draft)) (within longest 0 (drafted draft bytes) && leb (length (candidate draft bytes)) longest) .1
-      (leaves, and-eq-true-iff (within longest 0 (drafted draft bytes)) (leb (length (candidate draft bytes)) longest) .1 (short, fits))
+      and-eq-true-iff (inside bytes (rowsIn draft)) (noneLonger longest 0 (drafted draft bytes) && leb (length (candidate draft bytes)) longest) .1
+      (leaves, and-eq-true-iff (noneLonger longest 0 (drafted draft bytes)) (leb (length (candidate draft bytes)) longest) .1 (short, fits))
 
   has-shown : shows e draft bytes ≡ true
   has-shown =
       let zero : answer e s .number ≡ acceptance = ap (λ (a : Answer). a .number) (in-accepted s g ed (h .octets) (h .fit)) in
-      let alike : samePieces (drafted draft bytes) (piecesOf s (rowsOf s)) ≡ true =
+      let alike : samePieces (drafted draft bytes) (piecesOf s (rowsOfInput s)) ≡ true =
       ap₂ samePieces pieces-are (ap (piecesOf s) (nest-rows s g)) ∙ pieces-themselves (piecesOf s own) in
-      ap (λ (c : List ℕ). eqb (answer e c .number) 0 && samePieces (drafted draft bytes) (piecesOf c (rowsOf c))) has-candidate
-      ∙ and-eq-true-iff (eqb (answer e s .number) 0) (samePieces (drafted draft bytes) (piecesOf s (rowsOf s))) .1 (eq-eqb _ _ zero, alike)
+      ap (λ (c : List ℕ). eqb (answer e c .number) 0 && samePieces (drafted draft bytes) (piecesOf c (rowsOfInput c))) has-candidate
+      ∙ and-eq-true-iff (eqb (answer e s .number) 0) (samePieces (drafted draft bytes) (piecesOf s (rowsOfInput s))) .1 (eq-eqb _ _ zero, alike)
 
   pub has-described : described e draft bytes ≡ true
   unfolding described
@@ -115,10 +115,10 @@ module _ (e : ℕ) (draft bytes : List ℕ) (octets : Octets bytes) (is : descri
   described-has =
       let one = and-eq-true-iff (shaped draft) (assembles draft bytes && shows e draft bytes) .0 is in
       let two = and-eq-true-iff (assembles draft bytes) (shows e draft bytes) .0 (one .1) in
-      let shape = and-eq-true-iff (eqb (width * length (rowsIn draft)) (length draft)) (leb (length (rowsIn draft)) most) .0 (one .0) in
-      let parts = and-eq-true-iff (inside bytes (rowsIn draft)) (within longest 0 (drafted draft bytes) && leb (length c) longest) .0 (two .0) in
-      let fits = and-eq-true-iff (within longest 0 (drafted draft bytes)) (leb (length c) longest) .0 (parts .1) in
-      let read = and-eq-true-iff (eqb (answer e c .number) 0) (samePieces (drafted draft bytes) (piecesOf c (rowsOf c))) .0 (two .1) in
+      let shape = and-eq-true-iff (eqb (width * length (rowsIn draft)) (length draft)) (leb (length (rowsIn draft)) mostRows) .0 (one .0) in
+      let parts = and-eq-true-iff (inside bytes (rowsIn draft)) (noneLonger longest 0 (drafted draft bytes) && leb (length c) longest) .0 (two .0) in
+      let fits = and-eq-true-iff (noneLonger longest 0 (drafted draft bytes)) (leb (length c) longest) .0 (parts .1) in
+      let read = and-eq-true-iff (eqb (answer e c .number) 0) (samePieces (drafted draft bytes) (piecesOf c (rowsOfInput c))) .0 (two .1) in
       let plain = pieces-octets bytes octets (rowsIn draft) (fits .0) in
       let (g, fit) = accepted-in e c plain (eqb-true _ _ (read .0)) in
       record {

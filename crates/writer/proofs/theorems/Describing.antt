@@ -11,9 +11,9 @@ use Rattle.der.specs.meaning.Refusal.{accepted as acceptance}
 use Rattle.der.specs.meaning.Octets.{Octets}
 use Rattle.der.specs.meaning.Bounds.{longest}
 use Rattle.crmf.specs.meaning.Rows.{Row, width, numbers}
-use Rattle.crmf.specs.steps.rows.Fill.{fits, rowsOf}
+use Rattle.crmf.specs.steps.rows.Fill.{fits, rowsOfInput}
 use Rattle.crmf.specs.meaning.Pieces.{piecesOf}
-use Rattle.crmf.specs.steps.rows.Assembly.{within}
+use Rattle.crmf.specs.steps.rows.Assembly.{noneLonger}
 use Rattle.crmf.proofs.Laws.{over-holds, pieces-length, fits-room}
 use Rattle.editions.specs.declared.reader.Answer.{Answer}
 use Rattle.editions.specs.meaning.Reading.{answer, readAnswer, tableAfter}
@@ -32,7 +32,7 @@ module _ (e : ℕ) (draft bytes : List ℕ) where
   in-order =
       ap (λ (b : Bool). shaped draft && b)
       (ap (λ (b : Bool). b && shows e draft bytes)
-      (sym (and-assoc (inside bytes (rowsIn draft)) (within longest 0 (drafted draft bytes)) (leb (length (candidate draft bytes)) longest)))
+      (sym (and-assoc (inside bytes (rowsIn draft)) (noneLonger longest 0 (drafted draft bytes)) (leb (length (candidate draft bytes)) longest)))
       ∙ and-assoc (sound bytes 0 (rowsIn draft)) (leb (length (candidate draft bytes)) longest) (shows e draft bytes))
 
   pub shapeless : shaped draft ≡ false → described e draft bytes ≡ false
@@ -67,22 +67,22 @@ module _ (e : ℕ) (draft bytes : List ℕ) where
 
   module _ (s : List ℕ) (is : s ≡ candidate draft bytes) (octets : Octets s) (old : List ℕ) where
     -- what the candidate's answer says of it
-    by-answer : (b : Bool) → eqb (answer e s .number) 0 ≡ b → shows e draft bytes ≡ (b && samePieces (drafted draft bytes) (piecesOf s (rowsOf s)))
+    by-answer : (b : Bool) → eqb (answer e s .number) 0 ≡ b → shows e draft bytes ≡ (b && samePieces (drafted draft bytes) (piecesOf s (rowsOfInput s)))
     by-answer b test =
-        ap (λ (l : List ℕ). eqb (answer e l .number) 0 && samePieces (drafted draft bytes) (piecesOf l (rowsOf l))) (sym is)
-        ∙ ap (λ (x : Bool). x && samePieces (drafted draft bytes) (piecesOf s (rowsOf s))) test
+        ap (λ (l : List ℕ). eqb (answer e l .number) 0 && samePieces (drafted draft bytes) (piecesOf l (rowsOfInput l))) (sym is)
+        ∙ ap (λ (x : Bool). x && samePieces (drafted draft bytes) (piecesOf s (rowsOfInput s))) test
 
     -- Where reading it is refused, with room for as many rows as the draft has, it doesn't show the draft's pieces.
     pub read-refuses : width * length (rowsIn draft) ≤ length old → (readAnswer e s old .number ≡ acceptance → ⊥) → shows e draft bytes ≡ false
     read-refuses room some = by-number (eqb (answer e s .number) 0) refl
       where
-        by-room : answer e s .number ≡ acceptance → (b : Bool) → fits (answer e s .count) old ≡ b → samePieces (drafted draft bytes) (piecesOf s (rowsOf s)) ≡ false
+        by-room : answer e s .number ≡ acceptance → (b : Bool) → fits (answer e s .count) old ≡ b → samePieces (drafted draft bytes) (piecesOf s (rowsOfInput s)) ≡ false
         by-room zero true enough = absurd (some (ap (λ (a : Answer). a .number) (with-room e s old zero enough) ∙ zero))
         by-room zero false few =
             let count = answer-counts e s octets zero in
             let short = leb-false (width * answer e s .count) (length old) (sym (fits-room (answer e s .count) old) ∙ few) in
-            other-count (drafted draft bytes) (piecesOf s (rowsOf s))
-            (λ alike. omega (arith, alike, count, short, pieces-length bytes (rowsIn draft), pieces-length s (rowsOf s)))
+            other-count (drafted draft bytes) (piecesOf s (rowsOfInput s))
+            (λ alike. omega (arith, alike, count, short, pieces-length bytes (rowsIn draft), pieces-length s (rowsOfInput s)))
 
         by-number : (b : Bool) → eqb (answer e s .number) 0 ≡ b → shows e draft bytes ≡ false
         by-number true test = by-answer true test ∙ by-room (eqb-true _ 0 test) (fits (answer e s .count) old) refl
@@ -102,8 +102,8 @@ module _ (e : ℕ) (draft bytes : List ℕ) where
       read-shows =
           let found = shown e s old zero in
           let count = ap (λ (a : Answer). a .count) (found .same) ∙ answer-counts e s octets (found .zero) in
-          let held = over-holds old (rowsOf s) (omega (arith, count, read-room)) in
-          let table : take (width * readAnswer e s old .count) (tableAfter e s old) ≡ numbers (rowsOf s) =
+          let held = over-holds old (rowsOfInput s) (omega (arith, count, read-room)) in
+          let table : take (width * readAnswer e s old .count) (tableAfter e s old) ≡ numbers (rowsOfInput s) =
           ap₂ (λ (n : ℕ) (l : List ℕ). take (width * n) l) count (shown-table e s old zero) ∙ held .first in
           by-answer true (eq-eqb _ 0 (found .zero))
-          ∙ ap (λ (rs : List Row). samePieces (drafted draft bytes) (piecesOf s rs)) (sym (ap rowsIn table ∙ rows-back (rowsOf s)))
+          ∙ ap (λ (rs : List Row). samePieces (drafted draft bytes) (piecesOf s rs)) (sym (ap rowsIn table ∙ rows-back (rowsOfInput s)))

@@ -8,9 +8,9 @@ use Rattle.der.specs.meaning.Refusal.{accepted as acceptance, noRoom, noSuchBat
 use Rattle.der.specs.meaning.Bounds.{longest}
 use Rattle.crmf.specs.meaning.Lists.{same, over}
 use Rattle.crmf.specs.meaning.Rows.{Row, width}
-use Rattle.crmf.specs.steps.rows.Fill.{rowsOf}
+use Rattle.crmf.specs.steps.rows.Fill.{rowsOfInput}
 use Rattle.crmf.specs.meaning.Pieces.{Piece, piecesOf}
-use Rattle.crmf.specs.steps.rows.Assembly.{assembled, within}
+use Rattle.crmf.specs.steps.rows.Assembly.{assembled, noneLonger}
 use Rattle.editions.specs.declared.reader.Answer.{Answer}
 use Rattle.editions.specs.meaning.Edition.{rfc2511, rfc4211}
 use Rattle.editions.specs.meaning.Reading.{refusal, accepted, answer}
@@ -25,12 +25,12 @@ rowsIn (k ∷ p ∷ w ∷ []) = []
 rowsIn (k ∷ p ∷ w ∷ u ∷ more) = record { kind = k; first = p; whole = w; parent = u } ∷ rowsIn more
 
 -- the most rows that a batch can have: each has two octets of its own
-abbrev pub most : ℕ
-most = 32767
+abbrev pub mostRows : ℕ
+mostRows = 32767
 
--- "12 also if the row numbers aren't a multiple of four"; no batch has more rows than `most`
+-- "12 also if the row numbers aren't a multiple of four"; no batch has more rows than `mostRows`
 abbrev pub shaped : List ℕ → Bool
-shaped draft = eqb (width * length (rowsIn draft)) (length draft) && leb (length (rowsIn draft)) most
+shaped draft = eqb (width * length (rowsIn draft)) (length draft) && leb (length (rowsIn draft)) mostRows
 
 -- the pieces that a draft shows, and the only batch that can have them
 abbrev pub drafted : List ℕ → List ℕ → List Piece
@@ -50,13 +50,13 @@ samePieces (x ∷ xs) (y ∷ ys) =
 -- whether a batch can be put together from a draft: its leaves lie in the slice, and nothing is too long
 abbrev pub assembles : List ℕ → List ℕ → Bool
 assembles draft bytes =
-    inside bytes (rowsIn draft) && (within longest 0 (drafted draft bytes) && leb (length (candidate draft bytes)) longest)
+    inside bytes (rowsIn draft) && (noneLonger longest 0 (drafted draft bytes) && leb (length (candidate draft bytes)) longest)
 
 -- and whether reading it accepts it and shows the draft's pieces
 abbrev pub shows : ℕ → List ℕ → List ℕ → Bool
 shows e draft bytes =
     let s = candidate draft bytes in
-    eqb (answer e s .number) acceptance && samePieces (drafted draft bytes) (piecesOf s (rowsOf s))
+    eqb (answer e s .number) acceptance && samePieces (drafted draft bytes) (piecesOf s (rowsOfInput s))
 
 -- Whether a draft describes a batch.
 unfoldable pub described : ℕ → List ℕ → List ℕ → Bool

@@ -10,12 +10,12 @@ use Rattle.der.specs.meaning.Bounds.{longest}
 use Rattle.crmf.specs.meaning.Lists.{same}
 use Rattle.crmf.specs.meaning.Rows.{Row, container, width}
 use Rattle.crmf.specs.meaning.Pieces.{Piece, pieceOf, piecesOf}
-use Rattle.crmf.specs.steps.rows.Assembly.{wholeOf, childrenOf, within}
+use Rattle.crmf.specs.steps.rows.Assembly.{wholeOf, childrenOf, noneLonger}
 use Rattle.writer.specs.declared.draft.Row.{Row as Given}
-use Rattle.writer.specs.declared.build.Found.{Found}
-use Rattle.writer.specs.declared.build.Found.the-variants.{Batch, Nothing}
+use Rattle.writer.specs.declared.build.Outcome.{Outcome}
+use Rattle.writer.specs.declared.build.Outcome.the-variants.{Batch, Nothing}
 use Rattle.writer.specs.meaning.Draft.{inside}
-use Rattle.writer.specs.meaning.Writing.{most, rowsIn, shaped, drafted, candidate, described}
+use Rattle.writer.specs.meaning.Writing.{mostRows, rowsIn, shaped, drafted, candidate, described}
 
 -- a row as the code has it
 abbrev pub rowOf : Given → Row
@@ -37,7 +37,7 @@ pub record Whole (bytes : List ℕ) (r : Row) (inner n : ℕ) : Type 0 where
 
 -- no leaf leaves the slice and no piece is too long, of the rows from number n on
 abbrev pub sound : List ℕ → ℕ → List Row → Bool
-sound bytes n rs = inside bytes rs && within longest n (piecesOf bytes rs)
+sound bytes n rs = inside bytes rs && noneLonger longest n (piecesOf bytes rs)
 
 -- how many octets the children of row k have together
 abbrev pub children : List ℕ → List Row → ℕ → ℕ
@@ -54,7 +54,7 @@ pub record Appended (old : List ℕ) (at : ℕ) (octets : List ℕ) (next : ℕ)
 
 -- a table that is lent for the sums has a zero for each row, of which there are no more than a batch can have
 pub record Blank (rs : List Row) (table : List ℕ) : Type 0 where
-  pub few : length rs ≤ most
+  pub few : length rs ≤ mostRows
   pub room : length rs ≤ length table
   pub zero : (k : ℕ) → k < length rs → getD table k 0 ≡ 0
 
@@ -65,7 +65,7 @@ pub record Added (old : List ℕ) (parent limit n : ℕ) (new : List ℕ) : Type
 
 -- what assembling is lent: a draft of which no row is too long, its sums, and a scratch with room for the longest batch
 pub record Lent (draft bytes sums scratch : List ℕ) : Type 0 where
-  pub fit : within longest 0 (drafted draft bytes) ≡ true
+  pub fit : noneLonger longest 0 (drafted draft bytes) ≡ true
   pub sized : length (rowsIn draft) ≤ length sums
   pub summed : Summed bytes (rowsIn draft) sums
   pub room : longest ≤ length scratch
@@ -100,6 +100,6 @@ pub record AddedUp (draft bytes scratch table : List ℕ) : Type 0 where
   pub rows : width * length (rowsIn draft) ≤ length table
 
 -- A draft is found to describe a batch, with whose octets a scratch begins, or nothing.
-abbrev pub Built : ℕ → List ℕ → List ℕ → List ℕ → Found → Type 0
+abbrev pub Built : ℕ → List ℕ → List ℕ → List ℕ → Outcome → Type 0
 Built e draft bytes scratch (Batch n) = (described e draft bytes ≡ true) × (take n scratch ≡ candidate draft bytes) × (n ≤ longest)
 Built e draft bytes scratch Nothing = described e draft bytes ≡ false

@@ -1,4 +1,4 @@
--- `crmf::walk::list`, `element` and `inside` meet their contracts, by one induction on the bytes that are left: an inside has fewer. The
+-- `crmf::explain::list`, `element` and `inside` meet their contracts, by one induction on the bytes that are left: an inside has fewer. The
 -- list's loop keeps the answer from its cursor on the whole list's; an element's answer is what its line, its inside and its value say.
 -- Assumes nothing.
 use Prim.Native.Nat.{ℕ, _+_, _-_, _*_, _≤_, _<_}
@@ -15,12 +15,12 @@ use Rattle.der.specs.steps.Reading.{readAt, tree}
 use Rattle.crmf.specs.declared.grammar.element.Fit.{Fit}
 use Rattle.crmf.specs.declared.grammar.element.Fitting.the-variants.{Misfit}
 use Rattle.crmf.specs.declared.explain.Cursor.{Cursor}
-use Rattle.crmf.specs.declared.explain.Step.{Step}
-use Rattle.crmf.specs.declared.explain.Step.the-variants.{On}
+use Rattle.crmf.specs.declared.explain.WalkStep.{WalkStep}
+use Rattle.crmf.specs.declared.explain.WalkStep.the-variants.{On}
 use Rattle.crmf.specs.steps.grammar.Fitting.{Fitted, FitsAt}
 use Rattle.crmf.specs.steps.grammar.Packed.{insideField}
-use Rattle.crmf.specs.steps.explain.Walk.{line, met}
-use Rattle.crmf.specs.steps.explain.Inner.{Lent, within, walkFrom, Passing, continued, Stepped}
+use Rattle.crmf.specs.steps.explain.Walk.{line, withElement}
+use Rattle.crmf.specs.steps.explain.Inner.{Lent, insideWalk, walkFrom, Passing, continued, Stepped}
 use Rattle.crmf.proofs.theorems.lines.WordFields.{inside-at as inside-field}
 use Rattle.crmf.proofs.theorems.lines.Fitting.{fitted, fit-order}
 use Rattle.crmf.proofs.theorems.explain.Walking.{at-misfit, at-broken, at-passed, at-closed, at-open, inside-free, inside-walked, inside-met}
@@ -172,7 +172,7 @@ module _ (t : ℕ) where
     abbrev fitting : element-lts.After-fitting element-calls element-at element.Post
     fitting = c .before .before .before
 
-    walked : within (fits fitting .number) (met (line (fits fitting .number)) (fit fitting .first) (fit fitting .end - fit fitting .first) (start fitting .args .cursor .tally)) (fit fitting .first)
+    walked : insideWalk (fits fitting .number) (withElement (line (fits fitting .number)) (fit fitting .first) (fit fitting .end - fit fitting .first) (start fitting .args .cursor .tally)) (fit fitting .first)
         (tree (fit fitting .content) (slice (fit fitting .content) (fit fitting .end) (start fitting .args .bytes .now))) ≡ c .inside .result
     walked =
         let h = fits fitting in
@@ -224,10 +224,10 @@ module _ (t : ℕ) where
     abbrev lot : list-lts.Start list-calls list-at list.Post list-Inv-loop list-μ-loop
     lot = c .before .before
 
-    abbrev Next : Step → Type 0
+    abbrev Next : WalkStep → Type 0
     Next = Stepped (lot .args .bytes .now) (c .loop .cursor) (lot .args .end)
 
-    continues : {r : Step} → Next r → continued (lot .args .bytes .now) (lot .args .end) (lot .args .around) r ≡ walkFrom (lot .args .bytes .now) (lot .args .start) (lot .args .end) (lot .args .around)
+    continues : {r : WalkStep} → Next r → continued (lot .args .bytes .now) (lot .args .end) (lot .args .around) r ≡ walkFrom (lot .args .bytes .now) (lot .args .start) (lot .args .end) (lot .args .around)
     continues g = _∙_ {b = walkFrom (lot .args .bytes .now) (c .loop .cursor) (lot .args .end) (lot .args .around)} (g .same (lot .args .around)) (c .loop .inv .3)
 
   list-loop-holds : list-lts.Need-loop-holds list-calls list-at list.Post list-Inv-loop list-μ-loop

@@ -1,9 +1,9 @@
--- `crmf::walk::count` meets its contract: the list of elements from 0 to the input's end is the input's tree. Assumes nothing.
+-- `crmf::explain::count` meets its contract: the list of elements from 0 to the input's end is the input's tree. Assumes nothing.
 use borrow.Author.Needs.{needs}
 use mathlib.Core.Path.{ap, _∙_, sym}
 use native.Mathlib.Omega.{arith}
 use Rattle.crmf.specs.declared.explain.tally.Tally.{Tally}
-use Rattle.crmf.specs.steps.explain.Walk.{fresh}
+use Rattle.crmf.specs.steps.explain.Walk.{emptyTally}
 use Rattle.crmf.proofs.theorems.explain.Walking.{count-short, count-long}
 use Rattle.crmf.proofs.explain.count.Statement.{statement}
 use Rattle.crmf.proofs.explain.count.Tie as tie
@@ -18,7 +18,7 @@ words-requires : tie.Need-words-requires
 words-requires c κs = search needs
 
 list-requires : tie.Need-list-requires
-unfolding fresh
+unfolding emptyTally
 list-requires c κs =
     let given = c .before .before in
     let few = ap (λ (t : Tally). t .count) (given .before .empty .ensures) in

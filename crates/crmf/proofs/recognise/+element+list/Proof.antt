@@ -1,4 +1,4 @@
--- `crmf::quick::list` and `element` meet their contracts, by one induction on the bytes that are left: an inside has fewer. The list's loop
+-- `crmf::recognise::list` and `element` meet their contracts, by one induction on the bytes that are left: an inside has fewer. The list's loop
 -- keeps the count from its place on the whole list's; an element's is what its line and its content say. Assumes nothing.
 use Prim.Native.Nat.{ℕ, suc, _+_, _-_, _*_, _≤_, _<_}
 use mathlib.Core.Path.{_≡_, refl, sym, ap, subst, _∙_}
@@ -14,14 +14,14 @@ use Rattle.der.specs.declared.element.length.Span.{Span}
 use Rattle.der.specs.meaning.Bounds.{longest}
 use Rattle.der.specs.steps.Span.{spanOf}
 use Rattle.crmf.specs.steps.recognise.Count.{countsAt}
-use Rattle.crmf.specs.declared.grammar.table.Found.the-variants.{At}
+use Rattle.crmf.specs.declared.grammar.table.FoundLine.the-variants.{At}
 use Rattle.crmf.specs.declared.grammar.judge.Onward.the-variants.{To}
 use Rattle.crmf.specs.declared.recognise.Advance.the-variants.{Past}
 use Rattle.crmf.specs.declared.recognise.Recognition.{Recognition}
 use Rattle.crmf.specs.declared.recognise.Recognition.the-variants.{Rows, Unrecognised}
 use Rattle.crmf.specs.declared.recognise.step.Visit.{Visit}
 use Rattle.crmf.specs.declared.recognise.step.Visit.the-variants.{Descend}
-use Rattle.crmf.specs.steps.explain.Walk.{line, seek, judged, rowsBy}
+use Rattle.crmf.specs.steps.explain.Walk.{line, findLine, judged, rowsBy}
 use Rattle.crmf.specs.steps.recognise.Inner.{contentCount, decode, Countable, ListCounted, Sized, VisitJustified, ElementCounted, countAfter}
 use Rattle.crmf.specs.steps.grammar.Packed.{insideField}
 use Rattle.crmf.proofs.theorems.lines.WordFields.{inside-at as inside-field}
@@ -42,7 +42,7 @@ use Rattle.der.proofs.Laws.{take-slice, take-from}
 use Rattle.crmf.proofs.grammar.table.rows_of.Reads as rows-of-reads
 use Rattle.crmf.proofs.grammar.table.closed.Reads as closed-reads
 use Rattle.crmf.proofs.grammar.table.inside_of.Reads as inside-of-reads
-use Rattle.crmf.proofs.grammar.table.seek.Reads as seek-reads
+use Rattle.crmf.proofs.grammar.table.find_line.Reads as find-line-reads
 use Rattle.crmf.proofs.grammar.table.word.Reads as word-reads
 use Rattle.crmf.proofs.recognise.+element+list.{statement}
 use Rattle.crmf.proofs.recognise.+element+list.Tie.{close}
@@ -91,8 +91,8 @@ module _ (t : ℕ) where
   element-calls = (
     measure-reads.Asked,
     measure-reads.Learnt,
-    seek-reads.Asked,
-    seek-reads.Learnt,
+    find-line-reads.Asked,
+    find-line-reads.Learnt,
     word-reads.Asked,
     word-reads.Learnt,
     rows-of-reads.Asked,
@@ -188,11 +188,11 @@ module _ (t : ℕ) where
   element-add-to : element-lts.Need-add-to element-calls element-at element.Post
   element-add-to c = omega (arith, fits (c .before), begun (c .before) .pre .1 .2)
 
-  element-shared-slice-read-seek : element-lts.Need-shared-slice-read-seek element-calls element-at element.Post
-  element-shared-slice-read-seek c = begun (c .before .before) .pre .1 .1
+  element-shared-slice-read-find-line : element-lts.Need-shared-slice-read-find-line element-calls element-at element.Post
+  element-shared-slice-read-find-line c = begun (c .before .before) .pre .1 .1
 
-  element-seek-requires : element-lts.Need-seek-requires element-calls element-at element.Post
-  element-seek-requires c κs = lent (measuring (c .before .before)) .right
+  element-find-line-requires : element-lts.Need-find-line-requires element-calls element-at element.Post
+  element-find-line-requires c κs = lent (measuring (c .before .before)) .right
 
   element-enum-known-found : element-lts.Need-enum-known-found element-calls element-at element.Post
   element-enum-known-found c = search needs
@@ -207,7 +207,7 @@ module _ (t : ℕ) where
       let a = begun d .args in
       stops (a .edition) (a .left) (a .line) (a .before) (a .at) (a .bytes .now)
       (place-nowhere (a .edition) (a .left) (a .line) (a .before) (a .at) (a .bytes .now) (x m) (short m) (measured m) (some d) (deep d)
-      (sym (c .before .before .seek .ensures) ∙ c .enum-told .given .1))
+      (sym (c .before .before .find-line .ensures) ∙ c .enum-told .given .1))
 
   element-word-requires : element-lts.Need-word-requires element-calls element-at element.Post
   element-word-requires c κs = lent (measuring (c .before .before .before .before .before .before)) .right
@@ -258,8 +258,8 @@ module _ (t : ℕ) where
     abbrev content : List ℕ
     content = slice (begin .args .at + span .octets) (begin .args .at + span .octets + span .length) (begin .args .bytes .now)
 
-    found : seek (begin .args .line) (getD (begin .args .bytes .now) (begin .args .at) 0) ≡ At j
-    found = sym (c .before .before .before .before .before .before .before .before .seek .ensures) ∙ c .before .before .before .before .before .before .found .given .1
+    found : findLine (begin .args .line) (getD (begin .args .bytes .now) (begin .args .at) 0) ≡ At j
+    found = sym (c .before .before .before .before .before .before .before .before .find-line .ensures) ∙ c .before .before .before .before .before .before .found .given .1
 
     part : take (begin .args .at + span .octets + span .length - (begin .args .at + span .octets)) (drop (begin .args .at + span .octets) (begin .args .bytes .now)) ≡ content
     part = take-slice (begin .args .at + span .octets) (begin .args .at + span .octets + span .length) (begin .args .bytes .now) (omega arith)
@@ -479,8 +479,8 @@ pub +element+list-spec : {M : Type 1} → statement M
     (element-returns-2 t)
     (element-add-from t)
     (element-add-to t)
-    (element-shared-slice-read-seek t)
-    (element-seek-requires t)
+    (element-shared-slice-read-find-line t)
+    (element-find-line-requires t)
     (element-enum-known-found t)
     (element-enum-told t)
     (element-returns-3 t)

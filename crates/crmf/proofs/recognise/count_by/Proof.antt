@@ -1,9 +1,9 @@
--- `crmf::quick::count_by` meets its contract: it counts over the whole input, from the grammar's first line on. Assumes nothing.
+-- `crmf::recognise::count_by` meets its contract: it counts over the whole input, from the grammar's first line on. Assumes nothing.
 use borrow.Author.Needs.{needs}
 use mathlib.Core.Path.{_≡_, refl, sym, _∙_}
 use Rattle.crmf.specs.meaning.Notation.{order}
 use Rattle.crmf.specs.steps.grammar.Lines.{start, startsFrom}
-use Rattle.crmf.specs.steps.recognise.Count.{quickCount}
+use Rattle.crmf.specs.steps.recognise.Count.{recognised}
 use Rattle.crmf.proofs.theorems.recognise.CountWays.{too-long}
 use Rattle.crmf.proofs.recognise.count_by.Statement.{statement}
 use Rattle.crmf.proofs.recognise.count_by.Tie as tie
@@ -18,7 +18,7 @@ decoded-requires : tie.Need-decoded-requires
 decoded-requires c κs = search needs
 
 returns-2 : tie.Need-returns-2
-unfolding quickCount start startsFrom order
+unfolding recognised start startsFrom order
 returns-2 c = c .decoded .ensures ∙ c .before .list .ensures .same 0
 
 pub count-by-spec : {M : Type 1} → statement M

@@ -1,7 +1,7 @@
--- `crmf::quick::read` meets its contract: an input that is recognised fills the table, and any other leaves it. Assumes nothing.
+-- `crmf::recognise::read` meets its contract: an input that is recognised fills the table, and any other leaves it. Assumes nothing.
 use borrow.Author.Needs.{needs}
 use mathlib.Core.Path.{sym, _∙_}
-use Rattle.crmf.proofs.theorems.recognise.CountWays.{quick-stays, quick-fills}
+use Rattle.crmf.proofs.theorems.recognise.CountWays.{unrecognised-stays, recognised-fills}
 use Rattle.crmf.proofs.recognise.read.Statement.{statement}
 use Rattle.crmf.proofs.recognise.read.Tie as tie
 
@@ -29,13 +29,13 @@ returns c =
     let counted = recognised .before .before in
     let a = counted .before .before .before .before .before .args in
     let is = sym (recognised .recognition .given .1) ∙ counted .count-by .ensures in
-    (is, c .before .before .fill .ensures .1 ∙ quick-fills (a .edition) (a .bytes .now) (a .out .now) _ (sym is))
+    (is, c .before .before .fill .ensures .1 ∙ recognised-fills (a .edition) (a .bytes .now) (a .out .now) _ (sym is))
 
 returns-2 : tie.Need-returns-2
 returns-2 c =
     let counted = c .before .before in
     let a = counted .before .before .before .before .before .args in
-    (counted .count-by .ensures, quick-stays (a .edition) (a .bytes .now) (a .out .now) (sym (counted .count-by .ensures) ∙ c .enum-told .given .1))
+    (counted .count-by .ensures, unrecognised-stays (a .edition) (a .bytes .now) (a .out .now) (sym (counted .count-by .ensures) ∙ c .enum-told .given .1))
 
 pub read-spec : {M : Type 1} → statement M
 read-spec =

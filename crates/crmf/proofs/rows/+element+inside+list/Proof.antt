@@ -1,4 +1,4 @@
--- `crmf::fill::list`, `element` and `inside` meet their contracts, by one induction on the bytes that are left: an inside has fewer. The
+-- `crmf::rows::list`, `element` and `inside` meet their contracts, by one induction on the bytes that are left: an inside has fewer. The
 -- loop keeps what is written before its spot, and what is left of the list's rows; an element writes its own rows and those inside it.
 -- Assumes nothing.
 use Prim.Native.Nat.{ℕ, _+_, _-_, _*_, _≤_, _<_}
@@ -20,7 +20,7 @@ use Rattle.crmf.specs.steps.grammar.Fitting.{Fitted, FitsAt}
 use Rattle.crmf.specs.steps.grammar.Packed.{insideField}
 use Rattle.crmf.specs.steps.explain.Walk.{line}
 use Rattle.crmf.specs.meaning.Rows.{Row, width}
-use Rattle.crmf.specs.steps.rows.Fill.{rowless, within, rowsAt, Room, Wrote, Going}
+use Rattle.crmf.specs.steps.rows.Fill.{rowless, aroundInside, rowsAt, Room, Wrote, Going}
 use Rattle.crmf.proofs.theorems.lines.WordFields.{inside-at as inside-field}
 use Rattle.crmf.proofs.theorems.lines.Fitting.{fitted, fit-order}
 use Rattle.crmf.proofs.theorems.rows.Writing.{length-written, wrote-none}
@@ -200,7 +200,7 @@ module _ (t : ℕ) where
             let starts : first .inside-of .result ≡ line k .inside = first .inside-of .ensures ∙ ap insideField e ∙ inside-field k in
             let none : rowless (line k .inside) ≡ true = ap rowless (sym starts) ∙ sym (c .before .rowless .ensures) ∙ c .if1 .taken in
             subst (λ (l : List Row). Wrote l (a .numbers .next) (a .limit) (a .out .now) (a .numbers .next) (a .out .now))
-            (sym (inner-none k (a .bytes .now) (a .fit .content) (a .fit .end) (a .numbers .next) (within (line k) (a .fit) (a .numbers)) none))
+            (sym (inner-none k (a .bytes .now) (a .fit .content) (a .fit .end) (a .numbers .next) (aroundInside (line k) (a .fit) (a .numbers)) none))
             (wrote-none (a .numbers .next) (a .limit) (a .out .now)),
         omega (arith, begun .pre .1 .0 .few, begun .pre .1 .0 .order),
       )

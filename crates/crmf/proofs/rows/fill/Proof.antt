@@ -1,4 +1,4 @@
--- `crmf::fill::fill` meets its contract: the rows of the list of elements from 0 to the input's end are the input's. Assumes nothing.
+-- `crmf::rows::fill` meets its contract: the rows of the list of elements from 0 to the input's end are the input's. Assumes nothing.
 use borrow.Author.Needs.{needs}
 use native.Mathlib.Omega.{arith}
 use Rattle.crmf.proofs.theorems.rows.Showing.{fill-short, fill-long, fill-rows}

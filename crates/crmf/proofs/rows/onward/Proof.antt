@@ -1,4 +1,4 @@
--- `crmf::fill::onward` meets its contract: the word's fields are the line's, and its code says whether the value selects. Assumes nothing.
+-- `crmf::rows::onward` meets its contract: the word's fields are the line's, and its code says whether the value selects. Assumes nothing.
 use borrow.Author.Needs.{needs}
 use Prim.Native.Nat.{ℕ, _+_, _-_}
 use mathlib.Core.Path.{_≡_, sym, ap, _∙_}

@@ -1,4 +1,4 @@
--- `crmf::fill::own_rows` meets its contract: the word's fields are the line's, and the two rows follow each other. Assumes nothing.
+-- `crmf::rows::own_rows` meets its contract: the word's fields are the line's, and the two rows follow each other. Assumes nothing.
 use borrow.Author.Needs.{needs}
 use Prim.Native.Nat.{ℕ, _-_}
 use mathlib.Core.Path.{_≡_, ap, ap₂, subst, _∙_}

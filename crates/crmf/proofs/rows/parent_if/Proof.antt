@@ -1,4 +1,4 @@
--- `crmf::fill::parent_if` meets its contract: a kind of 0 is no row. Assumes nothing.
+-- `crmf::rows::parent_if` meets its contract: a kind of 0 is no row. Assumes nothing.
 use borrow.Author.Tests.{eq-eqb, ne-eqb}
 use Rattle.crmf.specs.meaning.Rows.{parentIf}
 use Rattle.crmf.proofs.rows.parent_if.Statement.{statement}

@@ -1,4 +1,4 @@
--- `crmf::fill::put` meets its contract: four stores are one row. Assumes nothing.
+-- `crmf::rows::put` meets its contract: four stores are one row. Assumes nothing.
 use borrow.Author.Needs.{needs}
 use native.Mathlib.Omega.{arith}
 use lib.ListN.{length-set}

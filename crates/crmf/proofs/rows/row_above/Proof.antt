@@ -1,9 +1,9 @@
--- `crmf::fill::row_above` meets its contract: the word's fields are the line's. Assumes nothing.
+-- `crmf::rows::row_above` meets its contract: the word's fields are the line's. Assumes nothing.
 use borrow.Author.Needs.{needs}
 use Prim.Native.Nat.{ℕ, _+_}
 use mathlib.Core.Path.{_≡_, ap, ap₂, _∙_}
 use Rattle.crmf.specs.steps.grammar.Packed.{itemField, kindField}
-use Rattle.crmf.specs.steps.explain.Walk.{line, rowsOf as rowsGiven}
+use Rattle.crmf.specs.steps.explain.Walk.{line, rowsOfKind as rowsGiven}
 use Rattle.crmf.specs.meaning.Rows.{parentIf}
 use Rattle.crmf.proofs.theorems.lines.WordFields.{item-at, kind-at}
 use Rattle.crmf.proofs.rows.row_above.Statement.{statement}

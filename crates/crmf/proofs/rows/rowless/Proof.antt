@@ -1,4 +1,4 @@
--- `crmf::fill::rowless` meets its contract: the numbers are the starts, which are computed. Assumes nothing.
+-- `crmf::rows::rowless` meets its contract: the numbers are the starts, which are computed. Assumes nothing.
 use mathlib.Core.Bool.{or-assoc, or-false}
 use Rattle.crmf.specs.meaning.Notation.{among}
 use Rattle.crmf.specs.steps.rows.Fill.{rowless}

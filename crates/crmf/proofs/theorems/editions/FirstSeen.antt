@@ -16,7 +16,7 @@ use Rattle.crmf.specs.meaning.Notation.{Mark, both, alone}
 use Rattle.crmf.specs.meaning.Language.{Occurrence, occurs}
 use Rattle.crmf.specs.steps.grammar.Lines.{Line}
 use Rattle.crmf.specs.meaning.Rows.{longId}
-use Rattle.crmf.specs.steps.explain.Walk.{line, closed, lengthy, noted, met, walk, trail}
+use Rattle.crmf.specs.steps.explain.Walk.{line, closed, withLongId, withForm, withElement, walk, trail}
 use Rattle.crmf.proofs.theorems.explain.Passing.{innerWalk, walk-closed, walk-open, walk-nowhere, walk-inner-broken, walk-breaks, walk-next}
 use Rattle.crmf.proofs.theorems.explain.WalkSteps.{trailIn, Way, lost, within, broken, onward, way, trail-end, trail-lost, trail-inside, trail-breaks, trail-on}
 use Rattle.crmf.proofs.theorems.explain.EveryForm.{all, all-read, inner-passed, inner-broken}
@@ -118,25 +118,25 @@ noted-second false b false true see s n m o apart old new = refl
 noted-second false b false false see s n m o apart old new = refl
 
 -- A long certReqId leaves the forms that were met.
-lengthy-seen : {e : ℕ} → Edition e → (kind p w : ℕ) (s : Tally) → firstSeen e (lengthy kind p w s) ≡ firstSeen e s
-unfolding lengthy
+lengthy-seen : {e : ℕ} → Edition e → (kind p w : ℕ) (s : Tally) → firstSeen e (withLongId kind p w s) ≡ firstSeen e s
+unfolding withLongId
 lengthy-seen ed kind p w s = go ed (longId kind w && eqb (s .long .whole) 0) refl
   where
-    go : {e : ℕ} → Edition e → (b : Bool) → (longId kind w && eqb (s .long .whole) 0) ≡ b → firstSeen e (lengthy kind p w s) ≡ firstSeen e s
-    go first-edition true t = rw (lengthy, t)
-    go first-edition false t = rw (lengthy, t)
-    go second-edition true t = rw (lengthy, t)
-    go second-edition false t = rw (lengthy, t)
+    go : {e : ℕ} → Edition e → (b : Bool) → (longId kind w && eqb (s .long .whole) 0) ≡ b → firstSeen e (withLongId kind p w s) ≡ firstSeen e s
+    go first-edition true t = rw (withLongId, t)
+    go first-edition false t = rw (withLongId, t)
+    go second-edition true t = rw (withLongId, t)
+    go second-edition false t = rw (withLongId, t)
 
 -- An element's form is noted as the first of its edition, if none was known.
-pub met-seen : {e : ℕ} → Edition e → (x : Line) (p w : ℕ) (s : Tally) → firstSeen e (met x p w s) ≡ after e (firstSeen e s) (occurs (x .mark) p)
-unfolding met noted after firstOf
-met-seen {e} ed x p w s = lengthy-seen ed (x .kind) p w (noted (x .mark) p s) ∙ go (x .mark) ed
+pub met-seen : {e : ℕ} → Edition e → (x : Line) (p w : ℕ) (s : Tally) → firstSeen e (withElement x p w s) ≡ after e (firstSeen e s) (occurs (x .mark) p)
+unfolding withElement withForm after firstOf
+met-seen {e} ed x p w s = lengthy-seen ed (x .kind) p w (withForm (x .mark) p s) ∙ go (x .mark) ed
   where
     apart : (f : ℕ) → eqb f 1 ≡ true → eqb f 2 ≡ false
     apart f one = rw (eqb-true f 1 one)
 
-    go : {e : ℕ} (m : Mark) → Edition e → firstSeen e (noted m p s) ≡ after e (firstSeen e s) (occurs m p)
+    go : {e : ℕ} (m : Mark) → Edition e → firstSeen e (withForm m p s) ≡ after e (firstSeen e s) (occurs m p)
     go both first-edition = sym (after-none 1 (firstSeen 1 s))
     go both second-edition = sym (after-none 2 (firstSeen 2 s))
     go (alone f d) first-edition =
@@ -186,11 +186,11 @@ walk-seen {e} ed s k around (element id first whole c inside rest) =
     in-it n = trailIn (line n .inside) inside
 
     -- behind the element's inside
-    settled : (n : ℕ) (w : Walked) → innerWalk all (met (line n) first whole s) (line n .inside) first inside ≡ w
+    settled : (n : ℕ) (w : Walked) → innerWalk all (withElement (line n) first whole s) (line n .inside) first inside ≡ w
         → ((m : Tally) (j : ℕ) → firstSeen e (seenOf (walk all m j first inside)) ≡ after e (firstSeen e m) (trail j inside))
         → firstSeen e (seenOf w) ≡ after e h (here n ++ in-it n)
     settled n w is inner =
-        let m = met (line n) first whole s in
+        let m = withElement (line n) first whole s in
         let j = line n .inside in
         rw (← is)
         (seen-within e m j first inside (inner m j) ∙ ap (λ (x : ℕ × ℕ). after e x (in-it n)) (met-seen ed (line n) first whole s)
@@ -204,7 +204,7 @@ walk-seen {e} ed s k around (element id first whole c inside rest) =
         rw (walk-nowhere all s k around id first whole c inside rest missing, trail-lost k id first whole c inside rest missing)
         (sym (after-none e h))
     go (within n found stops) inner later =
-        let m = met (line n) first whole s in
+        let m = withElement (line n) first whole s in
         let j = line n .inside in
         let (q, d, r, is) = inner-broken m j first inside stops in
         rw (
@@ -213,7 +213,7 @@ walk-seen {e} ed s k around (element id first whole c inside rest) =
         )
         (settled n (Broken q d r) is inner)
     go (broken n d found fine breaks) inner later =
-        let m = met (line n) first whole s in
+        let m = withElement (line n) first whole s in
         let j = line n .inside in
         let (r, is) = inner-passed m j first inside fine in
         rw (
@@ -222,7 +222,7 @@ walk-seen {e} ed s k around (element id first whole c inside rest) =
         )
         (settled n (Passed r) is inner)
     go (onward n next found fine on) inner later =
-        let m = met (line n) first whole s in
+        let m = withElement (line n) first whole s in
         let j = line n .inside in
         let (r, is) = inner-passed m j first inside fine in
         let good = fair-append (here n) (in-it n) (fair-occurs (line n .mark) first (line-fair n)) (fair-within j inside (trail-fair j inside)) in

@@ -11,16 +11,16 @@ use borrow.Author.Tests.{lt-ltb}
 use Rattle.der.specs.meaning.Tree.{Tree, none, element}
 use Rattle.crmf.specs.declared.explain.tally.Tally.{Tally}
 use Rattle.crmf.specs.declared.grammar.judge.Onward.the-variants.{To}
-use Rattle.crmf.specs.declared.grammar.table.Found.the-variants.{At}
+use Rattle.crmf.specs.declared.grammar.table.FoundLine.the-variants.{At}
 use Rattle.crmf.specs.meaning.Value.{keeps, selected}
 use Rattle.crmf.specs.meaning.Notation.{Name, Inside, free, holds, Form, Occurs, Part, part}
 use Rattle.crmf.specs.meaning.Grammar.{content}
 use Rattle.crmf.specs.meaning.Language.{passable, Matches, end, pass, take, choose, Within, unseen, parts, Occurrence, occurs, occurrences, occurrencesIn}
 use Rattle.crmf.specs.steps.grammar.Lines.{start, insideLine}
-use Rattle.crmf.specs.steps.explain.Walk.{line, seek, ways, judged, fresh, walk, passes, trail}
+use Rattle.crmf.specs.steps.explain.Walk.{line, findLine, ways, judged, emptyTally, walk, passes, trail}
 use Rattle.crmf.proofs.theorems.explain.Passing.{judged-kept, judged-way}
 use Rattle.crmf.proofs.theorems.grammar.Choices.{Choice, taking, choosing, choices, determinate-apart, only-choice}
-use Rattle.crmf.proofs.theorems.lines.LinesOfParts.{Stands, stands-start, starts-past, Shows, Finds, seek-chooses}
+use Rattle.crmf.proofs.theorems.lines.LinesOfParts.{Stands, stands-start, starts-past, Shows, Finds, find-line-chooses}
 use Rattle.crmf.proofs.theorems.grammar.ChoicesMatch.{holds-true, Keeps, Begins, begins-past, matches-begin}
 use Rattle.crmf.proofs.theorems.explain.Accepts.{name-below, walk-complete}
 use Rattle.crmf.proofs.theorems.explain.WalkSteps.{passesIn, trailIn, trail-end, trail-on}
@@ -57,9 +57,9 @@ module _ (R : ℕ → Bool) where
   -- the test passes over what some parts describe
   matches-pass : (t : Tree) (k : ℕ) (ps : List Part) → Stands k ps → Matches R ps t → passes k t ≡ true
   matches-pass t k ps stands m =
-      let (r, passed) = walk-complete R t fresh k 0 ps stands m in
-      let alike = passed-follows (walk R fresh k 0 t) (walk all fresh k 0 t) (firstOf (unread R) (trail k t)) r (own-walk R fresh k 0 t) passed .1 in
-      sym (walk-passes fresh k 0 t) ∙ ap isPassed alike
+      let (r, passed) = walk-complete R t emptyTally k 0 ps stands m in
+      let alike = passed-follows (walk R emptyTally k 0 t) (walk all emptyTally k 0 t) (firstOf (unread R) (trail k t)) r (own-walk R emptyTally k 0 t) passed .1 in
+      sym (walk-passes emptyTally k 0 t) ∙ ap isPassed alike
 
   -- and over what stands inside an element
   within-pass : (i : Inside) (t : Tree) → Within R i t → passesIn (insideLine i) t ≡ true
@@ -75,7 +75,7 @@ module _ (R : ℕ → Bool) where
   within-trail (holds n) t each (parts m) = rw (starts-past n, trailIn) (each n m)
 
   -- at an element whose line shows the choice that it keeps
-  kept-trail : (k n id first whole : ℕ) (c : List ℕ) (inside rest : Tree) (h : Choice) → seek k id ≡ At n → Shows h (line n)
+  kept-trail : (k n id first whole : ℕ) (c : List ℕ) (inside rest : Tree) (h : Choice) → findLine k id ≡ At n → Shows h (line n)
       → (kept : Keeps R h c inside rest) → ((a : Name) (m : Matches R (content a) inside) → trail (start a) inside ≡ occurrences m)
       → ((j : ℕ) (ps : List Part) → Stands j ps → (m : Matches R ps rest) → trail j rest ≡ occurrences m)
       → trail k (element id first whole c inside rest) ≡ keptOccurrences R first h c inside rest kept
@@ -103,7 +103,7 @@ module _ (R : ℕ → Bool) where
   trail-matches (element id first whole c inside rest) k ps stands m =
       let b = matches-begin m in
       let only = only-choice (b .choice) (choices ps) id (determinate-apart ps (stands .determined)) (b .among) (b .identified) in
-      let (n, found, shows) = subst (λ (o : Option Choice). Finds o (seek k id)) only (seek-chooses ps k stands id) in
+      let (n, found, shows) = subst (λ (o : Option Choice). Finds o (findLine k id)) only (find-line-chooses ps k stands id) in
       kept-trail k n id first whole c inside rest (b .choice) found shows (b .keeping)
       (λ a q. trail-matches inside (start a) (content a) (stands-start a) q) (λ j qs st q. trail-matches rest j qs st q)
       ∙ sym (begun m)

@@ -13,10 +13,10 @@ use Rattle.der.specs.meaning.Tree as tree
 use Rattle.crmf.specs.declared.explain.tally.Tally.{Tally}
 use Rattle.crmf.specs.declared.explain.Walked.{Walked}
 use Rattle.crmf.specs.declared.explain.Walked.the-variants.{Passed, Broken}
-use Rattle.crmf.specs.declared.grammar.table.Found.the-variants.{At}
+use Rattle.crmf.specs.declared.grammar.table.FoundLine.the-variants.{At}
 use Rattle.crmf.specs.meaning.Notation.{Mark, both, alone}
 use Rattle.crmf.specs.meaning.Language.{readable, Occurrence, occurs}
-use Rattle.crmf.specs.steps.explain.Walk.{line, seek, closed, unreadDetail, met, walk, trail}
+use Rattle.crmf.specs.steps.explain.Walk.{line, findLine, closed, unreadDetail, withElement, walk, trail}
 use Rattle.crmf.proofs.theorems.explain.Passing.{innerWalk, walk-closed, walk-open, walk-nowhere, walk-unread, walk-inner-broken, walk-breaks, walk-next}
 use Rattle.crmf.proofs.theorems.explain.WalkSteps.{trailIn, Way, lost, within, broken, onward, way, trail-end, trail-lost, trail-inside, trail-breaks, trail-on}
 use Rattle.crmf.proofs.theorems.explain.EveryForm.{all, all-read, inner-passed, inner-broken}
@@ -122,12 +122,12 @@ follows-within R s j place t inner = go (eqb j 0)
 
 -- at an element that fits a line: the form itself, then the inside, then what the trail has behind it
 follows-element : (R : ℕ → Bool) (s : Tally) (k n around id first whole : ℕ) (c : List ℕ) (inside rest : Tree) (tail : List Occurrence)
-    → seek k id ≡ At n
+    → findLine k id ≡ At n
     → trail k (element id first whole c inside rest) ≡ occurs (line n .mark) first ++ (trailIn (line n .inside) inside ++ tail)
-    → Follows (innerWalk R (met (line n) first whole s) (line n .inside) first inside) (innerWalk all (met (line n) first whole s) (line n .inside) first inside)
+    → Follows (innerWalk R (withElement (line n) first whole s) (line n .inside) first inside) (innerWalk all (withElement (line n) first whole s) (line n .inside) first inside)
     (firstOf (unread R) (trailIn (line n .inside) inside))
     → (readable R (line n .mark) ≡ true
-    → innerWalk R (met (line n) first whole s) (line n .inside) first inside ≡ innerWalk all (met (line n) first whole s) (line n .inside) first inside
+    → innerWalk R (withElement (line n) first whole s) (line n .inside) first inside ≡ innerWalk all (withElement (line n) first whole s) (line n .inside) first inside
     → Follows (walk R s k around (element id first whole c inside rest)) (walk all s k around (element id first whole c inside rest))
     (firstOf (unread R) tail))
     → Follows (walk R s k around (element id first whole c inside rest)) (walk all s k around (element id first whole c inside rest))
@@ -138,7 +138,7 @@ follows-element R s k n around id first whole c inside rest tail found split inn
     t = element id first whole c inside rest
 
     m : Tally
-    m = met (line n) first whole s
+    m = withElement (line n) first whole s
 
     here : List Occurrence
     here = occurs (line n .mark) first
@@ -188,7 +188,7 @@ own-walk R s k around (element id first whole c inside rest) =
         rw (trail-lost k id first whole c inside rest missing)
         (walk-nowhere R s k around id first whole c inside rest missing ∙ sym (walk-nowhere all s k around id first whole c inside rest missing))
     go (within n found stops) inner later =
-        let m = met (line n) first whole s in
+        let m = withElement (line n) first whole s in
         let j = line n .inside in
         let (q, d, r, e) = inner-broken m j first inside stops in
         follows-element R s k n around id first whole c inside rest [] found
@@ -197,7 +197,7 @@ own-walk R s k around (element id first whole c inside rest) =
         (λ read alike. walk-inner-broken R s k around id first whole c inside rest n q d r found read (alike ∙ e)
         ∙ sym (walk-inner-broken all s k around id first whole c inside rest n q d r found (all-read (line n .mark)) e))
     go (broken n d found fine breaks) inner later =
-        let m = met (line n) first whole s in
+        let m = withElement (line n) first whole s in
         let j = line n .inside in
         let (r, e) = inner-passed m j first inside fine in
         follows-element R s k n around id first whole c inside rest [] found
@@ -206,7 +206,7 @@ own-walk R s k around (element id first whole c inside rest) =
         (λ read alike. walk-breaks R s k around id first whole c inside rest n d r found read (alike ∙ e) breaks
         ∙ sym (walk-breaks all s k around id first whole c inside rest n d r found (all-read (line n .mark)) e breaks))
     go (onward n next found fine on) inner later =
-        let m = met (line n) first whole s in
+        let m = withElement (line n) first whole s in
         let j = line n .inside in
         let (r, e) = inner-passed m j first inside fine in
         follows-element R s k n around id first whole c inside rest (trail next rest) found

@@ -14,18 +14,18 @@ use Rattle.der.specs.meaning.Tree.{Tree, none, element}
 use Rattle.crmf.specs.declared.explain.tally.Tally.{Tally}
 use Rattle.crmf.specs.declared.explain.Walked.the-variants.{Passed}
 use Rattle.crmf.specs.declared.grammar.judge.Onward.the-variants.{To}
-use Rattle.crmf.specs.declared.grammar.table.Found.{Found}
-use Rattle.crmf.specs.declared.grammar.table.Found.the-variants.{At, Nowhere}
+use Rattle.crmf.specs.declared.grammar.table.FoundLine.{FoundLine}
+use Rattle.crmf.specs.declared.grammar.table.FoundLine.the-variants.{At, Nowhere}
 use Rattle.crmf.specs.meaning.Value.{keeps, selected}
 use Rattle.crmf.specs.meaning.Notation.{Name, Inside, free, holds, Part}
 use Rattle.crmf.specs.meaning.Grammar.{content}
 use Rattle.crmf.specs.meaning.Language.{readable, Matches, Within, unseen, parts}
 use Rattle.crmf.specs.steps.grammar.Lines.{Line, start, insideLine}
-use Rattle.crmf.specs.steps.explain.Walk.{line, seek, ways, judged, met, walk}
+use Rattle.crmf.specs.steps.explain.Walk.{line, findLine, ways, judged, withElement, walk}
 use Rattle.crmf.proofs.theorems.grammar.Names.{not-there}
 use Rattle.crmf.proofs.theorems.explain.Passing.{innerWalk, Chosen, inner-free, inner-walked, walk-closed, passed-element, element-passes, passed-none, judged-kept, judged-way, kept-onward, way-onward}
 use Rattle.crmf.proofs.theorems.grammar.Choices.{Choice, taking, choosing, choices, chosen, determinate-apart, only-choice, chosen-among}
-use Rattle.crmf.proofs.theorems.lines.LinesOfParts.{Stands, stands-start, starts-past, Shows, Finds, seek-chooses, closed-skips}
+use Rattle.crmf.proofs.theorems.lines.LinesOfParts.{Stands, stands-start, starts-past, Shows, Finds, find-line-chooses, closed-skips}
 use Rattle.crmf.proofs.theorems.grammar.ChoicesMatch.{holds-true, true-holds, Keeps, FirstOf, matches-begin, begin-matches}
 
 -- the walk from a line on passes
@@ -45,11 +45,11 @@ name-below (m ∷ ns) zero n there = omega arith
 name-below (m ∷ ns) (suc w) n there = omega (arith, name-below ns w n there)
 
 -- two lines that the search finds are one
-same-line : {m n : ℕ} {f : Found} → f ≡ At m → f ≡ At n → m ≡ n
+same-line : {m n : ℕ} {f : FoundLine} → f ≡ At m → f ≡ At n → m ≡ n
 same-line p q = cc
 
 -- no search finds a line and nothing
-found-somewhere : {A : Type 0} {n : ℕ} {f : Found} → f ≡ At n → f ≡ Nowhere → A
+found-somewhere : {A : Type 0} {n : ℕ} {f : FoundLine} → f ≡ At n → f ≡ Nowhere → A
 found-somewhere p q = let z : _≡_ {A = ℕ} 0 1 = cc in absurd (omega arith)
 
 module _ (R : ℕ → Bool) where
@@ -93,12 +93,12 @@ module _ (R : ℕ → Bool) where
   -- The first element that a walk passes is one of the choices and keeps it.
   first-sound : (s r : Tally) (k around id first whole : ℕ) (c : List ℕ) (inside rest : Tree) (ps : List Part) → Stands k ps
       → (e : Chosen R s k around id first whole c inside rest r)
-      → ((n : Name) → walk R (met (line (e .at)) first whole s) (start n) first inside ≡ Passed (e .seen) → Matches R (content n) inside)
+      → ((n : Name) → walk R (withElement (line (e .at)) first whole s) (start n) first inside ≡ Passed (e .seen) → Matches R (content n) inside)
       → ((qs : List Part) → Stands (e .next) qs → Matches R qs rest) → FirstOf R ps id c inside rest
   first-sound s r k around id first whole c inside rest ps stands e each further =
-      go (chosen (choices ps) id) refl (seek-chooses ps k stands id)
+      go (chosen (choices ps) id) refl (find-line-chooses ps k stands id)
     where
-      go : (o : Option Choice) → chosen (choices ps) id ≡ o → Finds o (seek k id) → FirstOf R ps id c inside rest
+      go : (o : Option Choice) → chosen (choices ps) id ≡ o → Finds o (findLine k id) → FirstOf R ps id c inside rest
       go absent g f = found-somewhere (e .found) f
       go (some h) g f =
           let here : f .0 ≡ e .at = same-line (f .1) (e .found) in
@@ -108,7 +108,7 @@ module _ (R : ℕ → Bool) where
             choice = h;
             among = own .0;
             identified = own .1;
-            keeping = keeps-sound (met (line (e .at)) first whole s) (e .seen) (line (e .at)) h first (e .next) c inside rest shows (e .read) (e .inner)
+            keeping = keeps-sound (withElement (line (e .at)) first whole s) (e .seen) (line (e .at)) h first (e .next) c inside rest shows (e .read) (e .inner)
                 (e .onward) each further;
           }
 
@@ -120,17 +120,17 @@ module _ (R : ℕ → Bool) where
       let e = passed-element R s k around id first whole c inside rest r passed in
       begin-matches R ps (element id first whole c inside rest)
       (first-sound s r k around id first whole c inside rest ps stands e
-      (λ n p. walk-sound inside (met (line (e .at)) first whole s) (e .seen) (start n) first (content n) (stands-start n) p)
+      (λ n p. walk-sound inside (withElement (line (e .at)) first whole s) (e .seen) (start n) first (content n) (stands-start n) p)
       (λ qs st. walk-sound rest (e .seen) r (e .next) around qs st (e .further)))
 
   -- An element that keeps the choice that its line shows is passed.
-  first-complete : (s : Tally) (k around id first whole n : ℕ) (c : List ℕ) (inside rest : Tree) (h : Choice) → seek k id ≡ At n → Shows h (line n)
+  first-complete : (s : Tally) (k around id first whole n : ℕ) (c : List ℕ) (inside rest : Tree) (h : Choice) → findLine k id ≡ At n → Shows h (line n)
       → Keeps R h c inside rest → ((m : Tally) (a : Name) → Matches R (content a) inside → Accepted R m (start a) first inside)
       → ((m : Tally) (j : ℕ) (ps : List Part) → Stands j ps → Matches R ps rest → Accepted R m j around rest)
       → (r : Tally) × Chosen R s k around id first whole c inside rest r
   first-complete s k around id first whole n c inside rest (taking f ps) found shows kept each further =
       let x = line n in
-      let (m, inner) = within-complete (met x first whole s) (f .inside) first inside (each (met x first whole s)) (kept .within) in
+      let (m, inner) = within-complete (withElement x first whole s) (f .inside) first inside (each (withElement x first whole s)) (kept .within) in
       let (r, passed) = further m (x .next) ps (shows .onward) (kept .further) in (
         r,
         record {
@@ -138,7 +138,7 @@ module _ (R : ℕ → Bool) where
           found = found;
           read = rw (shows .marked) (holds-true (readable R (f .mark)) (kept .read));
           seen = m;
-          inner = ap (λ (i : ℕ). innerWalk R (met x first whole s) i first inside) (shows .entered) ∙ inner;
+          inner = ap (λ (i : ℕ). innerWalk R (withElement x first whole s) i first inside) (shows .entered) ∙ inner;
           next = x .next;
           onward = rw (shows .judging) (judged-kept (f .rule) (x .next) c (holds-true (keeps (f .rule) c) (kept .kept)));
           further = passed;
@@ -146,7 +146,7 @@ module _ (R : ℕ → Bool) where
       )
   first-complete s k around id first whole n c inside rest (choosing a t ns) found shows kept each further =
       let x = line n in
-      let m = met x first whole s in
+      let m = withElement x first whole s in
       let w = selected t c in
       let (r, passed) = further m (start (kept .name)) (content (kept .name)) (stands-start (kept .name)) (kept .further) in
       let below = lt-ltb w (ways t) (omega (arith, name-below ns w (kept .name) (kept .way), shows .counted)) in (
@@ -169,7 +169,7 @@ module _ (R : ℕ → Bool) where
   walk-complete (element id first whole c inside rest) s k around ps stands m =
       let b = matches-begin m in
       let only = only-choice (b .choice) (choices ps) id (determinate-apart ps (stands .determined)) (b .among) (b .identified) in
-      let (n, found, shows) = subst (λ (o : Option Choice). Finds o (seek k id)) only (seek-chooses ps k stands id) in
+      let (n, found, shows) = subst (λ (o : Option Choice). Finds o (findLine k id)) only (find-line-chooses ps k stands id) in
       let (r, e) = first-complete s k around id first whole n c inside rest (b .choice) found shows (b .keeping)
       (λ a p q. walk-complete inside a (start p) first (content p) (stands-start p) q)
       (λ a j qs st q. walk-complete rest a j around qs st q) in

@@ -11,7 +11,7 @@ use Rattle.crmf.specs.declared.explain.Walked.{Walked}
 use Rattle.crmf.specs.declared.explain.Walked.the-variants.{Passed, Broken}
 use Rattle.crmf.specs.meaning.Notation.{Mark, both, alone}
 use Rattle.crmf.specs.meaning.Language.{readable}
-use Rattle.crmf.specs.steps.explain.Walk.{line, closed, met, walk, passes}
+use Rattle.crmf.specs.steps.explain.Walk.{line, closed, withElement, walk, passes}
 pub use Rattle.crmf.specs.steps.explain.Walk.{every as all}
 use Rattle.crmf.proofs.theorems.explain.Passing.{innerWalk, walk-closed, walk-open, walk-nowhere, walk-inner-broken, walk-breaks, walk-next}
 use Rattle.crmf.proofs.theorems.explain.WalkSteps.{passesIn, Way, lost, within, broken, onward, way, passes-end, passes-lost, passes-inside, passes-breaks, passes-on}
@@ -65,19 +65,19 @@ walk-passes s k around (element id first whole c inside rest) =
     go (lost missing) inner later = ap isPassed (walk-nowhere all s k around id first whole c inside rest missing)
         ∙ sym (passes-lost k id first whole c inside rest missing)
     go (within n found stops) inner later =
-        let m = met (line n) first whole s in
+        let m = withElement (line n) first whole s in
         let j = line n .inside in
         let (q, d, r, e) = is-broken (innerWalk all m j first inside) (passes-within m j first inside (inner m j) ∙ stops) in
         ap isPassed (walk-inner-broken all s k around id first whole c inside rest n q d r found (all-read (line n .mark)) e)
         ∙ sym (passes-inside k n id first whole c inside rest found stops)
     go (broken n d found fine breaks) inner later =
-        let m = met (line n) first whole s in
+        let m = withElement (line n) first whole s in
         let j = line n .inside in
         let (r, e) = is-passed (innerWalk all m j first inside) (passes-within m j first inside (inner m j) ∙ fine) in
         ap isPassed (walk-breaks all s k around id first whole c inside rest n d r found (all-read (line n .mark)) e breaks)
         ∙ sym (passes-breaks k n id first whole c inside rest found d fine breaks)
     go (onward n next found fine on) inner later =
-        let m = met (line n) first whole s in
+        let m = withElement (line n) first whole s in
         let j = line n .inside in
         let (r, e) = is-passed (innerWalk all m j first inside) (passes-within m j first inside (inner m j) ∙ fine) in
         ap isPassed (walk-next all s k around id first whole c inside rest n next r found (all-read (line n .mark)) e on)

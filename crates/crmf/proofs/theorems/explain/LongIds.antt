@@ -16,7 +16,7 @@ use Rattle.crmf.specs.meaning.Notation.{Mark, both, alone, Name}
 use Rattle.crmf.specs.meaning.Grammar.{content}
 use Rattle.crmf.specs.meaning.Language.{Matches}
 use Rattle.crmf.specs.steps.grammar.Lines.{Line, start}
-use Rattle.crmf.specs.steps.explain.Walk.{line, lengthy, noted, met, walk}
+use Rattle.crmf.specs.steps.explain.Walk.{line, withLongId, withForm, withElement, walk}
 use Rattle.crmf.specs.meaning.Rows.{Row, rowIf, parentIf, rows, longId, longer, firstLong, allShort}
 use Rattle.crmf.specs.steps.rows.Fill.{rowsFrom}
 use Rattle.crmf.proofs.theorems.lines.WordFields.{computed, at-line}
@@ -63,33 +63,33 @@ item-long h item p w up e = row-long h item p w up ∙ other-kind h item p w (de
     denied false f = refl
 
 -- what is noted leaves what is known
-noted-long : (m : Mark) (p : ℕ) (s : Tally) → known (noted m p s) ≡ known s
-unfolding noted
+noted-long : (m : Mark) (p : ℕ) (s : Tally) → known (withForm m p s) ≡ known s
+unfolding withForm
 noted-long both p s = refl
 noted-long (alone e d) p s = by-one (eqb e 1 && eqb (s .one .number) 0) refl
   where
-    by-two : (eqb e 1 && eqb (s .one .number) 0) ≡ false → (b : Bool) → (eqb e 2 && eqb (s .two .number) 0) ≡ b → known (noted (alone e d) p s) ≡ known s
-    by-two f true t = rw (noted, f) (rw t)
-    by-two f false t = rw (noted, f) (rw t)
+    by-two : (eqb e 1 && eqb (s .one .number) 0) ≡ false → (b : Bool) → (eqb e 2 && eqb (s .two .number) 0) ≡ b → known (withForm (alone e d) p s) ≡ known s
+    by-two f true t = rw (withForm, f) (rw t)
+    by-two f false t = rw (withForm, f) (rw t)
 
-    by-one : (b : Bool) → (eqb e 1 && eqb (s .one .number) 0) ≡ b → known (noted (alone e d) p s) ≡ known s
-    by-one true t = rw (noted, t)
+    by-one : (b : Bool) → (eqb e 1 && eqb (s .one .number) 0) ≡ b → known (withForm (alone e d) p s) ≡ known s
+    by-one true t = rw (withForm, t)
     by-one false t = by-two t (eqb e 2 && eqb (s .two .number) 0) refl
 
 -- and the element's kind and length come to it
-lengthy-long : (kind p w : ℕ) (s : Tally) → known (lengthy kind p w s) ≡ longer (known s) kind p w
-unfolding lengthy
+lengthy-long : (kind p w : ℕ) (s : Tally) → known (withLongId kind p w s) ≡ longer (known s) kind p w
+unfolding withLongId
 lengthy-long kind p w s = go (longId kind w && eqb (s .long .whole) 0) refl
   where
-    go : (b : Bool) → (longId kind w && eqb (s .long .whole) 0) ≡ b → known (lengthy kind p w s) ≡ longer (known s) kind p w
-    go true t = rw (lengthy, longer, t)
-    go false t = rw (lengthy, longer, t)
+    go : (b : Bool) → (longId kind w && eqb (s .long .whole) 0) ≡ b → known (withLongId kind p w s) ≡ longer (known s) kind p w
+    go true t = rw (withLongId, longer, t)
+    go false t = rw (withLongId, longer, t)
 
 -- what is known with an element in a line's form
-pub met-long : (x : Line) (p w : ℕ) (s : Tally) → (met x p w s .long .whole, met x p w s .long .place) ≡ longer (s .long .whole, s .long .place) (x .kind) p w
-unfolding met
+pub met-long : (x : Line) (p w : ℕ) (s : Tally) → (withElement x p w s .long .whole, withElement x p w s .long .place) ≡ longer (s .long .whole, s .long .place) (x .kind) p w
+unfolding withElement
 met-long x p w s =
-    lengthy-long (x .kind) p w (noted (x .mark) p s) ∙ ap (λ (h : ℕ × ℕ). longer h (x .kind) p w) (noted-long (x .mark) p s)
+    lengthy-long (x .kind) p w (withForm (x .mark) p s) ∙ ap (λ (h : ℕ × ℕ). longer h (x .kind) p w) (noted-long (x .mark) p s)
 
 -- an element's rows: what is known goes from a, with its own row and the rows inside it, to b, and with those behind it to d
 rows-one-long : (kind item p w : ℕ) (inner : ℕ → ℕ → List Row) (behind : ℕ → List Row) (n up place whole : ℕ) (a b d : ℕ × ℕ)
@@ -133,7 +133,7 @@ rows-long R none s r k around n up place whole passed = ap known (passed-none R 
 rows-long R (element id p w c inside rest) s r k around n up place whole passed =
     let e = passed-element R s k around id p w c inside rest r passed in
     let x = line (e .at) in
-    let m = met x p w s in
+    let m = withElement x p w s in
     let inner : ℕ → ℕ → List Row = λ j u. rowsWithin (x .inside) inside j u p w in
     let behind : ℕ → List Row = λ j. rowsFrom (e .next) rest j up place whole in
     let within : (j u : ℕ) → firstLong (known m) (rowsWithin (x .inside) inside j u p w) ≡ known (e .seen) =
@@ -197,7 +197,7 @@ inner-short R m r i first inside passed =
     (inner-long R m r i first inside 0 0 0 0 (rows-long R inside m r i first 0 0 0 0) passed)
 
 -- With an element in a line's form none is known: it is none.
-pub met-short : (x : Line) (p w : ℕ) (s : Tally) → met x p w s .long .whole ≡ 0 → not (longId (x .kind) w) ≡ true
+pub met-short : (x : Line) (p w : ℕ) (s : Tally) → withElement x p w s .long .whole ≡ 0 → not (longId (x .kind) w) ≡ true
 met-short x p w s zero =
     let nothing = ap (λ (h : ℕ × ℕ). eqb (h .0) 0 && true) (sym (met-long x p w s)) ∙ ap (λ (n : ℕ). eqb n 0 && true) zero in
     and-eq-true-iff (not (longId (x .kind) w)) true .0

@@ -10,7 +10,7 @@ use Rattle.crmf.specs.steps.grammar.Codes as codes
 use Rattle.crmf.specs.meaning.Notation.{Mark, both, alone}
 use Rattle.crmf.specs.steps.grammar.Lines.{Line}
 use Rattle.crmf.specs.steps.grammar.Packed.{markCode}
-use Rattle.crmf.specs.steps.explain.Walk.{line, noted, lengthy, rowsOf, met}
+use Rattle.crmf.specs.steps.explain.Walk.{line, withForm, withLongId, rowsOfKind, withElement}
 use Rattle.crmf.proofs.theorems.lines.WordFields.{computed, at-line}
 
 -- a difference's number is below 8
@@ -24,40 +24,40 @@ unfolding computed
 small-at = at-line (λ x. small (x .mark)) refl
 
 -- a mark is noted by the edition and the difference of its code
-marked : (m : Mark) (code p : ℕ) (s : Tally) → small m ≡ true → markCode m ≡ code → noted m p s ≡ noted (alone (code / codes.edition) (code % codes.edition)) p s
-unfolding markCode noted
+marked : (m : Mark) (code p : ℕ) (s : Tally) → small m ≡ true → markCode m ≡ code → withForm m p s ≡ withForm (alone (code / codes.edition) (code % codes.edition)) p s
+unfolding markCode withForm
 marked both code p s h coded = rw (sym coded)
 marked (alone e d) code p s h coded =
     let l : d < 8 = ltb-true d 8 h in
     let high : e ≡ code / codes.edition = omega arith in
     let low : d ≡ code % codes.edition = omega arith in
-    ap₂ (λ (e′ d′ : ℕ). noted (alone e′ d′) p s) high low
+    ap₂ (λ (e′ d′ : ℕ). withForm (alone e′ d′) p s) high low
 
 -- what is noted, by the tests of the edition and of what was met before
 module _ (k code p : ℕ) (s : Tally) (coded : markCode (line k .mark) ≡ code) where
-  by-code : noted (line k .mark) p s ≡ noted (alone (code / codes.edition) (code % codes.edition)) p s
+  by-code : withForm (line k .mark) p s ≡ withForm (alone (code / codes.edition) (code % codes.edition)) p s
   by-code = marked (line k .mark) code p s (small-at k) coded
 
   pub met-one : (eqb (code / codes.edition) 1 && eqb (s .one .number) 0) ≡ true
-      → noted (line k .mark) p s ≡ record { count = s .count; one = record { number = code % codes.edition; place = p }; two = s .two; long = s .long }
-  unfolding noted
-  met-one t = by-code ∙ rw (noted, t)
+      → withForm (line k .mark) p s ≡ record { count = s .count; one = record { number = code % codes.edition; place = p }; two = s .two; long = s .long }
+  unfolding withForm
+  met-one t = by-code ∙ rw (withForm, t)
 
   pub met-two : (eqb (code / codes.edition) 1 && eqb (s .one .number) 0) ≡ false → (eqb (code / codes.edition) 2 && eqb (s .two .number) 0) ≡ true
-      → noted (line k .mark) p s ≡ record { count = s .count; one = s .one; two = record { number = code % codes.edition; place = p }; long = s .long }
-  unfolding noted
-  met-two f t = by-code ∙ rw (noted, f) (rw t)
+      → withForm (line k .mark) p s ≡ record { count = s .count; one = s .one; two = record { number = code % codes.edition; place = p }; long = s .long }
+  unfolding withForm
+  met-two f t = by-code ∙ rw (withForm, f) (rw t)
 
   pub met-none : (eqb (code / codes.edition) 1 && eqb (s .one .number) 0) ≡ false → (eqb (code / codes.edition) 2 && eqb (s .two .number) 0) ≡ false
-      → noted (line k .mark) p s ≡ s
-  unfolding noted
-  met-none f t = by-code ∙ rw (noted, f) (rw t)
+      → withForm (line k .mark) p s ≡ s
+  unfolding withForm
+  met-none f t = by-code ∙ rw (withForm, f) (rw t)
 
 -- what is met with an element: what is noted, with a long certReqId and the sum of the rows
-pub met-with : (x : Line) (p w : ℕ) (s m r : Tally) (n a b : ℕ) → m ≡ noted (x .mark) p s → r ≡ lengthy (x .kind) p w m → n ≡ r .count + a + b
-    → a ≡ rowsOf (x .item) → b ≡ rowsOf (x .kind) → record { count = n; one = r .one; two = r .two; long = r .long } ≡ met x p w s
-unfolding met
+pub met-with : (x : Line) (p w : ℕ) (s m r : Tally) (n a b : ℕ) → m ≡ withForm (x .mark) p s → r ≡ withLongId (x .kind) p w m → n ≡ r .count + a + b
+    → a ≡ rowsOfKind (x .item) → b ≡ rowsOfKind (x .kind) → record { count = n; one = r .one; two = r .two; long = r .long } ≡ withElement x p w s
+unfolding withElement
 met-with x p w s m r n a b noting longer sum item kind =
-    let total : n ≡ r .count + (rowsOf (x .item) + rowsOf (x .kind)) = omega arith in
-    let is : r ≡ lengthy (x .kind) p w (noted (x .mark) p s) = longer ∙ ap (lengthy (x .kind) p w) noting in
+    let total : n ≡ r .count + (rowsOfKind (x .item) + rowsOfKind (x .kind)) = omega arith in
+    let is : r ≡ withLongId (x .kind) p w (withForm (x .mark) p s) = longer ∙ ap (withLongId (x .kind) p w) noting in
     rw (total) (rw is)

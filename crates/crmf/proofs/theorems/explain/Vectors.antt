@@ -19,7 +19,7 @@ use Rattle.crmf.specs.meaning.Value.{typeNumber, selected}
 use Rattle.crmf.specs.meaning.Notation.{Top, among, named, order}
 use Rattle.crmf.specs.meaning.Grammar.{content}
 use Rattle.crmf.specs.steps.grammar.Lines.{partSize, size, startsFrom, start, insideLine, passOf, formLines, nextLine, wayLine, partLines, containerLines, linesFrom, lines}
-use Rattle.crmf.specs.steps.explain.Walk.{line, seekIn, seek, closedIn, closed, judged, noted, lengthy, met, walk}
+use Rattle.crmf.specs.steps.explain.Walk.{line, findLineIn, findLine, closedIn, closed, judged, withForm, withLongId, withElement, walk}
 
 -- A batch, its octets as the digits of a number, and what the walk answers that reads all forms, edition 1's and edition 2's.
 record Example : Type 0 where
@@ -117,7 +117,7 @@ unfolding tagNumber constructed allowed valueFrom shortest longForm lengthOf bas
     boolean integer lastOf bitString nothingAt given read treeOf tree
     same isEmpty isUpTo number isTrue pairAt leap daysIn isMoment century isUtcTime isGeneralizedTime keeps typeNumber selected among named order content
     partSize size startsFrom start insideLine passOf formLines nextLine wayLine partLines containerLines linesFrom lines
-    line seekIn seek closedIn closed judged noted lengthy met walk
+    line findLineIn findLine closedIn closed judged withForm withLongId withElement walk
 worked =
     (refl, refl, refl) & (refl, refl, refl) & (refl, refl, refl) & (refl, refl, refl) & (refl, refl, refl) & (refl, refl, refl)
     & (refl, refl, refl) & (refl, refl, refl) & (refl, refl, refl) & (refl, refl, refl) & (refl, refl, refl) & (refl, refl, refl)

@@ -7,10 +7,10 @@ use lib.Dec.{eqb}
 use Rattle.der.specs.meaning.Tree.{Tree, none, element}
 use Rattle.crmf.specs.declared.grammar.judge.Onward.{Onward}
 use Rattle.crmf.specs.declared.grammar.judge.Onward.the-variants.{To, Breaks}
-use Rattle.crmf.specs.declared.grammar.table.Found.{Found}
-use Rattle.crmf.specs.declared.grammar.table.Found.the-variants.{At, Nowhere}
+use Rattle.crmf.specs.declared.grammar.table.FoundLine.{FoundLine}
+use Rattle.crmf.specs.declared.grammar.table.FoundLine.the-variants.{At, Nowhere}
 use Rattle.crmf.specs.meaning.Language.{Occurrence, occurs}
-use Rattle.crmf.specs.steps.explain.Walk.{line, seek, closed, judged, passes, trail}
+use Rattle.crmf.specs.steps.explain.Walk.{line, findLine, closed, judged, passes, trail}
 
 -- whether the walk that reads every form passes inside an element whose inside starts at a line: a free inside, where that is 0, does
 abbrev pub passesIn : ℕ → Tree → Bool
@@ -22,18 +22,18 @@ trailIn j t = elim (eqb j 0) [ true ↦ [] | false ↦ trail j t ]
 
 -- What the walk that reads every form does at an element: it fits no line, the walk breaks inside it, its value breaks, or the walk goes on.
 pub data Way (k id : ℕ) (c : List ℕ) (inside : Tree) : Type 0 where
-  lost : seek k id ≡ Nowhere → Way k id c inside
-  within : (n : ℕ) → seek k id ≡ At n → passesIn (line n .inside) inside ≡ false → Way k id c inside
-  broken : (n d : ℕ) → seek k id ≡ At n → passesIn (line n .inside) inside ≡ true → judged (line n .judge) (line n .next) c ≡ Breaks d
+  lost : findLine k id ≡ Nowhere → Way k id c inside
+  within : (n : ℕ) → findLine k id ≡ At n → passesIn (line n .inside) inside ≡ false → Way k id c inside
+  broken : (n d : ℕ) → findLine k id ≡ At n → passesIn (line n .inside) inside ≡ true → judged (line n .judge) (line n .next) c ≡ Breaks d
       → Way k id c inside
-  onward : (n next : ℕ) → seek k id ≡ At n → passesIn (line n .inside) inside ≡ true → judged (line n .judge) (line n .next) c ≡ To next
+  onward : (n next : ℕ) → findLine k id ≡ At n → passesIn (line n .inside) inside ≡ true → judged (line n .judge) (line n .next) c ≡ To next
       → Way k id c inside
 
 -- It is one of these.
 pub way : (k id : ℕ) (c : List ℕ) (inside : Tree) → Way k id c inside
-way k id c inside = by-line (seek k id) refl
+way k id c inside = by-line (findLine k id) refl
   where
-    by-line : (w : Found) → seek k id ≡ w → Way k id c inside
+    by-line : (w : FoundLine) → findLine k id ≡ w → Way k id c inside
     by-line Nowhere missing = lost missing
     by-line (At n) found = by-inside (passesIn (line n .inside) inside) refl
       where
@@ -57,16 +57,16 @@ trail-end k = refl
 
 module _ (k id first whole : ℕ) (c : List ℕ) (inside rest : Tree) where
   -- an element that fits no line doesn't pass
-  pub passes-lost : seek k id ≡ Nowhere → passes k (element id first whole c inside rest) ≡ false
+  pub passes-lost : findLine k id ≡ Nowhere → passes k (element id first whole c inside rest) ≡ false
   unfolding passes
   passes-lost missing = rw (missing, passes)
 
   -- and nothing is met
-  pub trail-lost : seek k id ≡ Nowhere → trail k (element id first whole c inside rest) ≡ []
+  pub trail-lost : findLine k id ≡ Nowhere → trail k (element id first whole c inside rest) ≡ []
   unfolding trail
   trail-lost missing = rw (missing, trail)
 
-module _ (k n id first whole : ℕ) (c : List ℕ) (inside rest : Tree) (found : seek k id ≡ At n) where
+module _ (k n id first whole : ℕ) (c : List ℕ) (inside rest : Tree) (found : findLine k id ≡ At n) where
   -- an element with a break inside doesn't pass
   pub passes-inside : passesIn (line n .inside) inside ≡ false → passes k (element id first whole c inside rest) ≡ false
   unfolding passes

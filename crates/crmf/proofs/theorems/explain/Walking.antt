@@ -18,18 +18,18 @@ use Rattle.der.proofs.Laws.{constructed-bit, elementAt, tree-end, tree-at}
 use Rattle.crmf.specs.declared.grammar.element.Fit.{Fit}
 use Rattle.crmf.specs.declared.grammar.judge.Onward.{Onward}
 use Rattle.crmf.specs.declared.grammar.judge.Onward.the-variants.{To, Breaks}
-use Rattle.crmf.specs.declared.grammar.table.Found.the-variants.{At, Nowhere}
+use Rattle.crmf.specs.declared.grammar.table.FoundLine.the-variants.{At, Nowhere}
 use Rattle.crmf.specs.declared.explain.tally.Tally.{Tally}
 use Rattle.crmf.specs.declared.explain.Cursor.{Cursor}
-use Rattle.crmf.specs.declared.explain.Step.{Step}
-use Rattle.crmf.specs.declared.explain.Step.the-variants.{Stop}
+use Rattle.crmf.specs.declared.explain.WalkStep.{WalkStep}
+use Rattle.crmf.specs.declared.explain.WalkStep.the-variants.{Stop}
 use Rattle.crmf.specs.declared.explain.Walked.{Walked}
 use Rattle.crmf.specs.declared.explain.Walked.the-variants.{Passed, Broken}
 use Rattle.crmf.specs.meaning.Notation.{Identifiers, octet, generalName, anything, nothing, named, order}
 use Rattle.crmf.specs.steps.grammar.Lines.{Line, start, startsFrom}
-use Rattle.crmf.specs.steps.explain.Walk.{line, seek, judged, met, walk, every, closed, fresh, countOf}
+use Rattle.crmf.specs.steps.explain.Walk.{line, findLine, judged, withElement, walk, every, closed, emptyTally, countOf}
 use Rattle.crmf.specs.steps.grammar.Fitting.{FitsAt}
-use Rattle.crmf.specs.steps.explain.Inner.{within, walkFrom, stepped, continued, Forward, Stepped}
+use Rattle.crmf.specs.steps.explain.Inner.{insideWalk, walkFrom, stepped, continued, Forward, Stepped}
 use Rattle.crmf.proofs.theorems.lines.WordFields.{computed, at-line}
 use Rattle.crmf.proofs.theorems.lines.Fitting.{fitted, fit-read, fit-order}
 use Rattle.crmf.proofs.theorems.lines.Search.{found-names}
@@ -64,24 +64,24 @@ octet-constructed n id some fits = go (line n .identifiers) (rw (inside-octet, s
     go nothing h e = absurd (false≢true e)
 
 -- an element in the form of a line that has an inside is constructed
-pub found-constructed : (k id n : ℕ) → seek k id ≡ At n → eqb (line n .inside) 0 ≡ false → constructed id ≡ true
+pub found-constructed : (k id n : ℕ) → findLine k id ≡ At n → eqb (line n .inside) 0 ≡ false → constructed id ≡ true
 found-constructed k id n e some = octet-constructed n id some (found-names k id n e)
 
 -- the inside of an element in a line's form is the tree's, or is not looked at
-within-found : (k id n : ℕ) (s : Tally) (around : ℕ) (t : Tree) → seek k id ≡ At n
-    → within n s around (elim (constructed id) [ true ↦ t | false ↦ none ]) ≡ within n s around t
+within-found : (k id n : ℕ) (s : Tally) (around : ℕ) (t : Tree) → findLine k id ≡ At n
+    → insideWalk n s around (elim (constructed id) [ true ↦ t | false ↦ none ]) ≡ insideWalk n s around t
 unfolding line
 within-found k id n s around t e = by-inside (eqb (line n .inside) 0) refl
   where
     by-inside : (b : Bool) → eqb (line n .inside) 0 ≡ b
-        → within n s around (elim (constructed id) [ true ↦ t | false ↦ none ]) ≡ within n s around t
-    by-inside true f = rw (within, f)
+        → insideWalk n s around (elim (constructed id) [ true ↦ t | false ↦ none ]) ≡ insideWalk n s around t
+    by-inside true f = rw (insideWalk, f)
     by-inside false f =
         let same : (elim (constructed id) [ true ↦ t | false ↦ none ]) ≡ t = rw (found-constructed k id n e f) in
-        ap (within n s around) same
+        ap (insideWalk n s around) same
 
 -- it is walked as the inside of a tree's element is
-inner-within : (n : ℕ) (m : Tally) (p : ℕ) (t : Tree) → innerWalk every m (line n .inside) p t ≡ within n m p t
+inner-within : (n : ℕ) (m : Tally) (p : ℕ) (t : Tree) → innerWalk every m (line n .inside) p t ≡ insideWalk n m p t
 unfolding innerWalk
 inner-within n m p t = refl
 
@@ -103,7 +103,7 @@ module _ (s : List ℕ) (p e : ℕ) (some : p < e) (fits : e ≤ length s) (high
 -- The step over the element at a cursor before e.
 module _ (s : List ℕ) (c : Cursor) (e : ℕ) (some : c .at < e) (fits : e ≤ length s) (high : length s ≤ longest) where
   -- it fits no line
-  pub at-misfit : seek (c .state) (readAt s (c .at) e .identifier) ≡ Nowhere → Stepped s c e (Stop (c .at) 1 (c .tally))
+  pub at-misfit : findLine (c .state) (readAt s (c .at) e .identifier) ≡ Nowhere → Stepped s c e (Stop (c .at) 1 (c .tally))
   at-misfit f =
       record {
         same = λ around. rw (tree-read s (c .at) e some fits high (readAt s (c .at) e) refl)
@@ -124,7 +124,7 @@ module _ (s : List ℕ) (c : Cursor) (e : ℕ) (some : c .at < e) (fits : e ≤ 
 
     -- its inside as code walks it, by the place that code has for the element
     abbrev inner : ℕ → Walked
-    inner p = within n (met (line n) p (f .end - p) (c .tally)) p (tree (f .content) octets)
+    inner p = insideWalk n (withElement (line n) p (f .end - p) (c .tally)) p (tree (f .content) octets)
 
     -- the elements from its first byte on
     from-it : tree (c .at) (slice (c .at) e s)
@@ -133,12 +133,12 @@ module _ (s : List ℕ) (c : Cursor) (e : ℕ) (some : c .at < e) (fits : e ≤ 
 
     -- the walk over its inside
     inner-walk : (w : Walked) → inner (f .first) ≡ w
-        → innerWalk every (met (line n) (c .at) (f .end - c .at) (c .tally)) (line n .inside) (c .at) (elim (constructed (readAt s (c .at) e .identifier)) [ true ↦ tree (f .content) octets | false ↦ none ]) ≡ w
+        → innerWalk every (withElement (line n) (c .at) (f .end - c .at) (c .tally)) (line n .inside) (c .at) (elim (constructed (readAt s (c .at) e .identifier)) [ true ↦ tree (f .content) octets | false ↦ none ]) ≡ w
     inner-walk w g = inner-within n _ (c .at) _ ∙ within-found (c .state) _ n _ (c .at) _ (h .found) ∙ ap inner (sym (h .first)) ∙ g
 
     -- its inside breaks
     pub at-broken : (q d : ℕ) (r : Tally)
-        → within (h .number) (met (line (h .number)) (f .first) (f .end - f .first) (c .tally)) (f .first) (tree (f .content) (slice (f .content) (f .end) s)) ≡ Broken q d r
+        → insideWalk (h .number) (withElement (line (h .number)) (f .first) (f .end - f .first) (c .tally)) (f .first) (tree (f .content) (slice (f .content) (f .end) s)) ≡ Broken q d r
         → Stepped s c e (Stop q d r)
     at-broken q d r g =
         record {
@@ -156,8 +156,8 @@ module _ (s : List ℕ) (c : Cursor) (e : ℕ) (some : c .at < e) (fits : e ≤ 
         rw from-it (sym (walk-breaks every (c .tally) (c .state) around _ (c .at) _ _ _ _ n d r (h .found) (all-read (line n .mark)) (inner-walk (Passed r) g) v))
 
     pub at-passed : (r : Tally)
-        → within (h .number) (met (line (h .number)) (f .first) (f .end - f .first) (c .tally)) (f .first) (tree (f .content) (slice (f .content) (f .end) s)) ≡ Passed r
-        → r .count ≤ 2 * f .end → (o : Step)
+        → insideWalk (h .number) (withElement (line (h .number)) (f .first) (f .end - f .first) (c .tally)) (f .first) (tree (f .content) (slice (f .content) (f .end) s)) ≡ Passed r
+        → r .count ≤ 2 * f .end → (o : WalkStep)
         → o ≡ stepped (f .first) (f .end) r (judged (line (h .number) .judge) (line (h .number) .next) (slice (f .content) (f .end) s)) → Stepped s c e o
     at-passed r g few o is =
         let o-is : o ≡ stepped (c .at) (f .end) r value = is ∙ ap (λ (p : ℕ). stepped p (f .end) r value) (h .first) in
@@ -183,20 +183,20 @@ module _ (s : List ℕ) (c : Cursor) (e : ℕ) (h : c .at ≡ e) (around : ℕ) 
 -- the inside of an element in a line's form, by the number that code finds for it: what was met before is answered where that is 0, and
 -- else the walk from there
 module _ (k start : ℕ) (is : start ≡ line k .inside) (s : Tally) (around : ℕ) (t : Tree) where
-  pub inside-free : start ≡ 0 → Passed s ≡ within k s around t
-  inside-free free = rw (within, eq-eqb _ _ (sym is ∙ free))
+  pub inside-free : start ≡ 0 → Passed s ≡ insideWalk k s around t
+  inside-free free = rw (insideWalk, eq-eqb _ _ (sym is ∙ free))
 
-  pub inside-walked : (start ≡ 0 → ⊥) → (r : Walked) → r ≡ walk every s start around t → r ≡ within k s around t
+  pub inside-walked : (start ≡ 0 → ⊥) → (r : Walked) → r ≡ walk every s start around t → r ≡ insideWalk k s around t
   inside-walked some r walked =
-      walked ∙ ap (λ (n : ℕ). walk every s n around t) is ∙ rw (within, ne-eqb _ _ (λ free. some (is ∙ free)))
+      walked ∙ ap (λ (n : ℕ). walk every s n around t) is ∙ rw (insideWalk, ne-eqb _ _ (λ free. some (is ∙ free)))
 
 -- the inside with what was met at the element itself
-pub inside-met : (n p whole : ℕ) (m s : Tally) (t : Tree) (w : Walked) → m ≡ met (line n) p whole s → w ≡ within n m p t
-    → within n (met (line n) p whole s) p t ≡ w
+pub inside-met : (n p whole : ℕ) (m s : Tally) (t : Tree) (w : Walked) → m ≡ withElement (line n) p whole s → w ≡ insideWalk n m p t
+    → insideWalk n (withElement (line n) p whole s) p t ≡ w
 inside-met n p whole m s t w is walked = rw (← is) (sym walked)
 
 -- the walk over a whole input, from an empty tally on
-module _ (s : List ℕ) (t : Tally) (empty : t ≡ fresh) where
+module _ (s : List ℕ) (t : Tally) (empty : t ≡ emptyTally) where
   pub count-short : length s ≤ longest → walk every t 1 0 (tree 0 (slice 0 (length s) s)) ≡ countOf s
   unfolding countOf start startsFrom order
   count-short short =

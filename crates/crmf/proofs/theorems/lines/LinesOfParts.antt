@@ -12,18 +12,18 @@ use lib.Dec.{eqb}
 use lib.ListN.{length, getD, getElem?, drop, length-append, length-map}
 use lib.Seq.{drop-drop, getD-drop, drop-at}
 use borrow.Author.Tests.{eqb-true, not-true}
-use Rattle.crmf.specs.declared.grammar.table.Found.{Found}
-use Rattle.crmf.specs.declared.grammar.table.Found.the-variants.{At, Nowhere}
+use Rattle.crmf.specs.declared.grammar.table.FoundLine.{FoundLine}
+use Rattle.crmf.specs.declared.grammar.table.FoundLine.the-variants.{At, Nowhere}
 use Rattle.crmf.specs.meaning.Kinds as kinds
 use Rattle.crmf.specs.meaning.Value.{Selector}
 use Rattle.crmf.specs.meaning.Notation.{octet, named, both, Name, names, order, Form, Occurs, once, optional, repeated, Part, part, select}
 use Rattle.crmf.specs.meaning.Grammar.{content}
 use Rattle.crmf.specs.meaning.Language.{passable, behind}
 use Rattle.crmf.specs.steps.grammar.Lines.{keep, choose, needed, Line, endLine, partSize, size, startsFrom, start, insideLine, passOf, formLines, nextLine, wayLine, partLines, containerLines, linesFrom, lines}
-use Rattle.crmf.specs.steps.explain.Walk.{line, goesOn, seek, closedIn, closed, ways}
+use Rattle.crmf.specs.steps.explain.Walk.{line, goesOn, findLine, closedIn, closed, ways}
 use Rattle.crmf.proofs.theorems.lists.Tests.{all}
 use Rattle.crmf.proofs.theorems.grammar.Names.{at-each, in-order, not-there}
-use Rattle.crmf.proofs.theorems.lines.Search.{seek-found, seek-on, seek-off}
+use Rattle.crmf.proofs.theorems.lines.Search.{find-line-found, find-line-on, find-line-off}
 use Rattle.crmf.proofs.theorems.grammar.Choices.{Choice, taking, choosing, identifiersOf, takings, choices, skippable, chosen, apart, determinate, complete, determinate-content, complete-content, never-both, chosen-first, chosen-later}
 
 -- The lines from k on are those of the parts, which are deterministic and complete.
@@ -159,13 +159,13 @@ Shows (taking f ps) x = Takes f ps x
 Shows (choosing id s ns) x = Selects id s ns x
 
 -- The search finds the line of the choice, or nothing where there is none.
-abbrev pub Finds : Option Choice → Found → Type 0
+abbrev pub Finds : Option Choice → FoundLine → Type 0
 Finds absent f = f ≡ Nowhere
 Finds (some h) f = (n : ℕ) × (f ≡ At n) × Shows h (line n)
 
 -- the search among the lines from k on finds what is chosen
 abbrev Tracks : ℕ → List Choice → Type 0
-Tracks k hs = (id : ℕ) → Finds (chosen hs id) (seek k id)
+Tracks k hs = (id : ℕ) → Finds (chosen hs id) (findLine k id)
 
 -- a line that says what a choice is has the choice's identifiers
 shows-identifiers : (h : Choice) (x : Line) → Shows h x → x .identifiers ≡ identifiersOf h
@@ -181,13 +181,13 @@ track-line k x xs h hs e shows on off id = by-name (named (x .identifiers) id) r
     same : x .identifiers ≡ identifiersOf h
     same = shows-identifiers h x shows
 
-    by-pass : named (x .identifiers) id ≡ false → (b : Bool) → goesOn (x .pass) ≡ b → Finds (chosen hs id) (seek k id)
-    by-pass fails true go = rw (seek-on k x xs e id fails go (behind-line k x xs e)) (on go id)
-    by-pass fails false stop = rw (off stop) (seek-off k x xs e id fails stop)
+    by-pass : named (x .identifiers) id ≡ false → (b : Bool) → goesOn (x .pass) ≡ b → Finds (chosen hs id) (findLine k id)
+    by-pass fails true go = rw (find-line-on k x xs e id fails go (behind-line k x xs e)) (on go id)
+    by-pass fails false stop = rw (off stop) (find-line-off k x xs e id fails stop)
 
-    by-name : (b : Bool) → named (x .identifiers) id ≡ b → Finds (chosen (h ∷ hs) id) (seek k id)
+    by-name : (b : Bool) → named (x .identifiers) id ≡ b → Finds (chosen (h ∷ hs) id) (findLine k id)
     by-name true fits =
-        rw (chosen-first h hs id (rw same at fits)) (k, seek-found k x xs e id fits, rw (line-there k x xs e) shows)
+        rw (chosen-first h hs id (rw same at fits)) (k, find-line-found k x xs e id fits, rw (line-there k x xs e) shows)
     by-name false fails = rw (chosen-later h hs id (rw same at fails)) (by-pass fails (goesOn (x .pass)) refl)
 
 -- behind a part's last form the search goes on where the part may be passed over
@@ -230,10 +230,10 @@ way-among (m ∷ ns) xs zero n there = let here : m ≡ n = cc in rw here
 way-among (m ∷ ns) xs (suc w) n there = way-among ns xs w n there
 
 -- Where the lines of some parts stand, the search finds the line of what the parts choose.
-pub seek-chooses : (ps : List Part) (k : ℕ) → Stands k ps → (id : ℕ) → Finds (chosen (choices ps) id) (seek k id)
+pub find-line-chooses : (ps : List Part) (k : ℕ) → Stands k ps → (id : ℕ) → Finds (chosen (choices ps) id) (findLine k id)
 unfolding containerLines partLines partSize choices chosen complete named wayLine
-seek-chooses [] k s = λ id. seek-off k endLine (s .more) (s .there) id refl refl
-seek-chooses (part o fs ∷ ps) k s =
+find-line-chooses [] k s = λ id. find-line-off k endLine (s .more) (s .there) id refl refl
+find-line-chooses (part o fs ∷ ps) k s =
     let next = nextLine o k (length fs) in
     let own = formLines o next fs in
     let rest = containerLines (k + length fs) ps in
@@ -241,8 +241,8 @@ seek-chooses (part o fs ∷ ps) k s =
     track-forms o next k (behind o fs ps) fs (rest ++ s .more) (elim (passable o) [ true ↦ choices ps | false ↦ [] ])
     (s .there ∙ append-assoc own rest (s .more)) (stands-next k o fs ps s)
     (and-eq-true-iff (goesOn (passOf o fs)) (complete ps) .0 (s .completed) .0)
-    (λ p. rw p (seek-chooses ps (k + length fs) behind-it)) (λ p. rw p)
-seek-chooses (select id t ns ∷ ps) k s =
+    (λ p. rw p (find-line-chooses ps (k + length fs) behind-it)) (λ p. rw p)
+find-line-chooses (select id t ns ∷ ps) k s =
     let x : Line = record { identifiers = octet id; inside = 0; judge = choose t; kind = kinds.none; item = kinds.none; mark = both; next = suc k; pass = needed } in
     let rest = containerLines (k + suc (length ns)) ps ++ s .more in
     let e : drop k lines ≡ x ∷ (map wayLine ns ++ rest) = s .there ∙ append-assoc (x ∷ map wayLine ns) (containerLines (k + suc (length ns)) ps) (s .more) in

@@ -11,12 +11,12 @@ use lib.Dec.{eqb, leb, ltb}
 use lib.ListN.{getD, drop, drop-of-length-le}
 use lib.Seq.{getD-drop, drop-cons}
 use Rattle.der.proofs.theorems.lists.Range.{every, each}
-use Rattle.crmf.specs.declared.grammar.table.Found.the-variants.{At, Nowhere}
+use Rattle.crmf.specs.declared.grammar.table.FoundLine.the-variants.{At, Nowhere}
 use Rattle.crmf.specs.steps.grammar.Codes as codes
 use Rattle.crmf.specs.meaning.Notation.{Identifiers, octet, generalName, anything, nothing, named}
 use Rattle.crmf.specs.steps.grammar.Lines.{Pass, ends, needed, another, over, Line, endLine, lines}
 use Rattle.crmf.specs.steps.grammar.Packed.{passCode, identifiersCode}
-use Rattle.crmf.specs.steps.explain.Walk.{line, goesOn, seekIn, seek, closedIn, closed}
+use Rattle.crmf.specs.steps.explain.Walk.{line, goesOn, findLineIn, findLine, closedIn, closed}
 use Rattle.crmf.proofs.theorems.lists.Tests.{either}
 use Rattle.crmf.proofs.theorems.lines.WordFields.{computed, lineCount, lines-count}
 
@@ -80,19 +80,19 @@ passing x xs = go (x .pass)
 -- with a line that stands at k, and those behind it
 module _ (k : ℕ) (x : Line) (xs : List Line) (there : drop k lines ≡ x ∷ xs) (id : ℕ) where
   -- the search finds a line that has the identifier
-  pub seek-found : named (x .identifiers) id ≡ true → seek k id ≡ At k
-  unfolding seek seekIn
-  seek-found fits = rw there (rw (fits, seekIn))
+  pub find-line-found : named (x .identifiers) id ≡ true → findLine k id ≡ At k
+  unfolding findLine findLineIn
+  find-line-found fits = rw there (rw (fits, findLineIn))
 
   -- at another it goes on where the line says so
-  pub seek-on : named (x .identifiers) id ≡ false → goesOn (x .pass) ≡ true → drop (suc k) lines ≡ xs → seek k id ≡ seek (suc k) id
-  unfolding seek seekIn
-  seek-on fails on behind = rw there (rw (fails, seekIn) (rw (on, behind)))
+  pub find-line-on : named (x .identifiers) id ≡ false → goesOn (x .pass) ≡ true → drop (suc k) lines ≡ xs → findLine k id ≡ findLine (suc k) id
+  unfolding findLine findLineIn
+  find-line-on fails on behind = rw there (rw (fails, findLineIn) (rw (on, behind)))
 
   -- and else ends
-  pub seek-off : named (x .identifiers) id ≡ false → goesOn (x .pass) ≡ false → seek k id ≡ Nowhere
-  unfolding seek seekIn
-  seek-off fails off = rw there (rw (fails, seekIn) (rw off))
+  pub find-line-off : named (x .identifiers) id ≡ false → goesOn (x .pass) ≡ false → findLine k id ≡ Nowhere
+  unfolding findLine findLineIn
+  find-line-off fails off = rw there (rw (fails, findLineIn) (rw off))
 
 -- at a line of the table
 module _ (k : ℕ) (h : k < lineCount) where
@@ -100,14 +100,14 @@ module _ (k : ℕ) (h : k < lineCount) where
   unfolding line
   from-line = drop-cons lines k endLine (rw lines-count h)
 
-  pub seek-here : (id : ℕ) → named (line k .identifiers) id ≡ true → At k ≡ seek k id
-  seek-here id e = sym (seek-found k _ _ from-line id e)
+  pub find-line-here : (id : ℕ) → named (line k .identifiers) id ≡ true → At k ≡ findLine k id
+  find-line-here id e = sym (find-line-found k _ _ from-line id e)
 
-  pub seek-stops : (id : ℕ) → named (line k .identifiers) id ≡ false → goesOn (line k .pass) ≡ false → Nowhere ≡ seek k id
-  seek-stops id e g = sym (seek-off k _ _ from-line id e g)
+  pub find-line-stops : (id : ℕ) → named (line k .identifiers) id ≡ false → goesOn (line k .pass) ≡ false → Nowhere ≡ findLine k id
+  find-line-stops id e g = sym (find-line-off k _ _ from-line id e g)
 
-  pub seek-next : (id : ℕ) → named (line k .identifiers) id ≡ false → goesOn (line k .pass) ≡ true → seek (suc k) id ≡ seek k id
-  seek-next id e g = sym (seek-on k _ _ from-line id e g refl)
+  pub find-line-next : (id : ℕ) → named (line k .identifiers) id ≡ false → goesOn (line k .pass) ≡ true → findLine (suc k) id ≡ findLine k id
+  find-line-next id e g = sym (find-line-on k _ _ from-line id e g refl)
 
   pub closed-here : passCode (line k .pass) < passCode over → eqb (passCode (line k .pass)) (passCode ends) ≡ closed k
   unfolding closed
@@ -122,9 +122,9 @@ module _ (k : ℕ) (h : lineCount ≤ k) where
   none-left : drop k lines ≡ []
   none-left = drop-of-length-le lines {i = k} (rw lines-count h)
 
-  pub seek-past : (id : ℕ) → Nowhere ≡ seek k id
-  unfolding seek seekIn
-  seek-past id = rw (seek, none-left)
+  pub find-line-past : (id : ℕ) → Nowhere ≡ findLine k id
+  unfolding findLine findLineIn
+  find-line-past id = rw (findLine, none-left)
 
   pub closed-past : true ≡ closed k
   unfolding closed closedIn
@@ -152,19 +152,19 @@ bar k h low on =
     (either _ _ (each lineCount barred all-barred k h))
 
 -- at a line for identifiers of a code other than an octet's the search ends
-pub seek-ends : (k : ℕ) → k < lineCount → (id : ℕ) → identifiersCode (line k .identifiers) < codes.octet
-    → (elim (named (line k .identifiers) id) [ true ↦ At k | false ↦ Nowhere ]) ≡ seek k id
-seek-ends k h id low = by-name (named (line k .identifiers) id) refl
+pub find-line-ends : (k : ℕ) → k < lineCount → (id : ℕ) → identifiersCode (line k .identifiers) < codes.octet
+    → (elim (named (line k .identifiers) id) [ true ↦ At k | false ↦ Nowhere ]) ≡ findLine k id
+find-line-ends k h id low = by-name (named (line k .identifiers) id) refl
   where
-    by-pass : (b : Bool) → named (line k .identifiers) id ≡ false → goesOn (line k .pass) ≡ b → Nowhere ≡ seek k id
-    by-pass false e g = seek-stops k h id e g
+    by-pass : (b : Bool) → named (line k .identifiers) id ≡ false → goesOn (line k .pass) ≡ b → Nowhere ≡ findLine k id
+    by-pass false e g = find-line-stops k h id e g
     by-pass true e g =
         let (i, b) = bar k h low g in
         let (none, stops) = and-eq-true-iff _ _ .0 b in
-        seek-stops (k + 1) i id (no-code _ id (eqb-true _ _ none)) (not-true _ stops) ∙ rw add-one (seek-next k h id e g)
+        find-line-stops (k + 1) i id (no-code _ id (eqb-true _ _ none)) (not-true _ stops) ∙ rw add-one (find-line-next k h id e g)
 
-    by-name : (b : Bool) → named (line k .identifiers) id ≡ b → (elim b [ true ↦ At k | false ↦ Nowhere ]) ≡ seek k id
-    by-name true e = seek-here k h id e
+    by-name : (b : Bool) → named (line k .identifiers) id ≡ b → (elim b [ true ↦ At k | false ↦ Nowhere ]) ≡ findLine k id
+    by-name true e = find-line-here k h id e
     by-name false e = by-pass (goesOn (line k .pass)) e refl
 
 -- a line's place behind others, and that it has an identifier
@@ -172,47 +172,47 @@ abbrev Named : List Line → ℕ → ℕ → ℕ → Type 0
 Named xs k id n = (m : ℕ) × (n ≡ k + m) × (named (getD xs m endLine .identifiers) id ≡ true)
 
 -- the search finds a line that has the identifier
-seek-names : (xs : List Line) (k id n : ℕ) → seekIn xs k id ≡ At n → Named xs k id n
-unfolding seekIn
-seek-names [] k id n e = let z : _≡_ {A = ℕ} 0 1 = cc in absurd (omega arith)
-seek-names (x ∷ xs) k id n e = by-name (named (x .identifiers) id) refl (seek-names xs (suc k) id n)
+find-line-names : (xs : List Line) (k id n : ℕ) → findLineIn xs k id ≡ At n → Named xs k id n
+unfolding findLineIn
+find-line-names [] k id n e = let z : _≡_ {A = ℕ} 0 1 = cc in absurd (omega arith)
+find-line-names (x ∷ xs) k id n e = by-name (named (x .identifiers) id) refl (find-line-names xs (suc k) id n)
   where
-    by-pass : (b : Bool) → named (x .identifiers) id ≡ false → goesOn (x .pass) ≡ b → (seekIn xs (suc k) id ≡ At n → Named xs (suc k) id n)
+    by-pass : (b : Bool) → named (x .identifiers) id ≡ false → goesOn (x .pass) ≡ b → (findLineIn xs (suc k) id ≡ At n → Named xs (suc k) id n)
         → Named (x ∷ xs) k id n
-    by-pass true f g further = let (m, place, fits) = further (rw g at (rw (seekIn, f) at e)) in (suc m, omega arith, fits)
-    by-pass false f g further = let h = rw (seekIn, f, g) at e in let z : _≡_ {A = ℕ} 0 1 = cc in absurd (omega arith)
+    by-pass true f g further = let (m, place, fits) = further (rw g at (rw (findLineIn, f) at e)) in (suc m, omega arith, fits)
+    by-pass false f g further = let h = rw (findLineIn, f, g) at e in let z : _≡_ {A = ℕ} 0 1 = cc in absurd (omega arith)
 
-    by-name : (b : Bool) → named (x .identifiers) id ≡ b → (seekIn xs (suc k) id ≡ At n → Named xs (suc k) id n) → Named (x ∷ xs) k id n
+    by-name : (b : Bool) → named (x .identifiers) id ≡ b → (findLineIn xs (suc k) id ≡ At n → Named xs (suc k) id n) → Named (x ∷ xs) k id n
     by-name true f further =
-        let here : k ≡ n = let h : At k ≡ At n = rw (seekIn, f) at e in cc in
+        let here : k ≡ n = let h : At k ≡ At n = rw (findLineIn, f) at e in cc in
         (0, omega arith, f)
     by-name false f further = by-pass (goesOn (x .pass)) f refl further
 
 -- The line that is found has the identifier.
-pub found-names : (k id n : ℕ) → seek k id ≡ At n → named (line n .identifiers) id ≡ true
-unfolding seek line
+pub found-names : (k id n : ℕ) → findLine k id ≡ At n → named (line n .identifiers) id ≡ true
+unfolding findLine line
 found-names k id n e =
-    let (m, place, fits) = seek-names (drop k lines) k id n e in
+    let (m, place, fits) = find-line-names (drop k lines) k id n e in
     rw place (rw (getD-drop k lines m endLine) at fits)
 
 -- What holds at the line where a search begins, and goes on where a line may be passed over, holds at the line that is found.
 module _ (P : ℕ → Type 0) (on : (k : ℕ) → P k → goesOn (line k .pass) ≡ true → P (suc k)) (id n : ℕ) where
   -- with so many lines to the table's end
-  kept-from : (f k : ℕ) → lineCount ≤ k + f → P k → seek k id ≡ At n → P n
-  kept-from zero k h p e = let past = seek-past k (omega arith) id in let z : _≡_ {A = ℕ} 0 1 = cc in absurd (omega arith)
+  kept-from : (f k : ℕ) → lineCount ≤ k + f → P k → findLine k id ≡ At n → P n
+  kept-from zero k h p e = let past = find-line-past k (omega arith) id in let z : _≡_ {A = ℕ} 0 1 = cc in absurd (omega arith)
   kept-from (suc f) k h p e = by-place (ltb k lineCount) refl (kept-from f (suc k) (omega arith))
     where
-      by-pass : k < lineCount → named (line k .identifiers) id ≡ false → (b : Bool) → goesOn (line k .pass) ≡ b → (P (suc k) → seek (suc k) id ≡ At n → P n) → P n
-      by-pass l f true g further = further (on k p g) (seek-next k l id f g ∙ e)
-      by-pass l f false g further = let stops = seek-stops k l id f g in let z : _≡_ {A = ℕ} 0 1 = cc in absurd (omega arith)
+      by-pass : k < lineCount → named (line k .identifiers) id ≡ false → (b : Bool) → goesOn (line k .pass) ≡ b → (P (suc k) → findLine (suc k) id ≡ At n → P n) → P n
+      by-pass l f true g further = further (on k p g) (find-line-next k l id f g ∙ e)
+      by-pass l f false g further = let stops = find-line-stops k l id f g in let z : _≡_ {A = ℕ} 0 1 = cc in absurd (omega arith)
 
-      by-name : k < lineCount → (b : Bool) → named (line k .identifiers) id ≡ b → (P (suc k) → seek (suc k) id ≡ At n → P n) → P n
-      by-name l true f further = let here = seek-here k l id f in let same : k ≡ n = cc in rw same at p
+      by-name : k < lineCount → (b : Bool) → named (line k .identifiers) id ≡ b → (P (suc k) → findLine (suc k) id ≡ At n → P n) → P n
+      by-name l true f further = let here = find-line-here k l id f in let same : k ≡ n = cc in rw same at p
       by-name l false f further = by-pass l f (goesOn (line k .pass)) refl further
 
-      by-place : (b : Bool) → ltb k lineCount ≡ b → (P (suc k) → seek (suc k) id ≡ At n → P n) → P n
+      by-place : (b : Bool) → ltb k lineCount ≡ b → (P (suc k) → findLine (suc k) id ≡ At n → P n) → P n
       by-place true l further = by-name (ltb-true _ _ l) (named (line k .identifiers) id) refl further
-      by-place false l further = let past = seek-past k (ltb-false _ _ l) id in let z : _≡_ {A = ℕ} 0 1 = cc in absurd (omega arith)
+      by-place false l further = let past = find-line-past k (ltb-false _ _ l) id in let z : _≡_ {A = ℕ} 0 1 = cc in absurd (omega arith)
 
-  pub found-kept : (k : ℕ) → P k → seek k id ≡ At n → P n
+  pub found-kept : (k : ℕ) → P k → findLine k id ≡ At n → P n
   found-kept k = kept-from lineCount k (omega arith)

@@ -12,8 +12,8 @@ use lib.Dec.{eqb, ltb}
 use lib.ListN.{length, getD, getElem?}
 use Rattle.der.proofs.theorems.lists.Range.{every, each}
 use Rattle.crmf.specs.declared.grammar.judge.Onward.the-variants.{To, Breaks}
-use Rattle.crmf.specs.declared.grammar.table.Found.{Found}
-use Rattle.crmf.specs.declared.grammar.table.Found.the-variants.{At, Nowhere}
+use Rattle.crmf.specs.declared.grammar.table.FoundLine.{FoundLine}
+use Rattle.crmf.specs.declared.grammar.table.FoundLine.the-variants.{At, Nowhere}
 use Rattle.crmf.specs.meaning.Kinds as kinds
 use Rattle.crmf.specs.meaning.Value.{keeps, Selector, selected}
 use Rattle.crmf.specs.meaning.Notation.{Identifiers, octet, generalName, anything, nothing, named, among, order, names, Name, Top, Part, part, select}
@@ -21,7 +21,7 @@ use Rattle.crmf.specs.meaning.Kinds.{rowKinds}
 use Rattle.crmf.specs.meaning.Grammar.{content}
 use Rattle.crmf.specs.steps.grammar.Lines.{Judge, keep, choose, Pass, ends, needed, another, over, Line, endLine, lines, start}
 use Rattle.crmf.specs.steps.grammar.Packed.{passCode, identifiersCode}
-use Rattle.crmf.specs.steps.explain.Walk.{line, seekIn, seek, closedIn, closed, ruleDetail, ways, judged}
+use Rattle.crmf.specs.steps.explain.Walk.{line, findLineIn, findLine, closedIn, closed, ruleDetail, ways, judged}
 use Rattle.crmf.proofs.theorems.lists.Tests.{all, any, all-getElem, any-getD, all-among, either}
 use Rattle.crmf.proofs.theorems.lines.WordFields.{computed, at-line, lineCount, next-small}
 use Rattle.crmf.proofs.theorems.grammar.Names.{at-each}
@@ -58,7 +58,7 @@ kind-given n h =
 
 -- a container may end at the line, or some identifier is found from it on
 abbrev pub Lives : ℕ → Type 0
-Lives n = (closed n ≡ true) ⊎ ((id : ℕ) × (m : ℕ) × (seek n id ≡ At m))
+Lives n = (closed n ≡ true) ⊎ ((id : ℕ) × (m : ℕ) × (findLine n id ≡ At m))
 
 -- its test: one of the line's own identifiers is tried
 abbrev one-of : Identifiers → ℕ
@@ -67,21 +67,21 @@ one-of generalName = 0xA0
 one-of anything = 0
 one-of nothing = 0
 
-abbrev found : Found → Bool
+abbrev found : FoundLine → Bool
 found (At k) = true
 found Nowhere = false
 
 abbrev lives : ℕ → Bool
-lives n = closed n || found (seek n (one-of (line n .identifiers)))
+lives n = closed n || found (findLine n (one-of (line n .identifiers)))
 
-at-found : (r : Found) → found r ≡ true → (m : ℕ) × (r ≡ At m)
+at-found : (r : FoundLine) → found r ≡ true → (m : ℕ) × (r ≡ At m)
 at-found (At k) e = (k, refl)
 at-found Nowhere e = absurd (false≢true e)
 
 lives-right : (n : ℕ) → lives n ≡ true → Lives n
 lives-right n e =
     let id = one-of (line n .identifiers) in
-    ⊎-elim inl (λ h. let r = at-found (seek n id) h in inr (id, r .0, r .1)) (either (closed n) (found (seek n id)) e)
+    ⊎-elim inl (λ h. let r = at-found (findLine n id) h in inr (id, r .0, r .1)) (either (closed n) (found (findLine n id)) e)
 
 -- the test of what a line goes on with: a selector's ways, each of which only says where to go on, and then an end line
 abbrev is-way : Line → Bool
@@ -132,7 +132,7 @@ way-code x e =
     (nothing-code (x .identifiers) (eqb-true _ _ (p .1)), needed-code (x .pass) (eqb-true _ _ (p .0)))
 
 going : (k : ℕ) → goes-well (line k .judge) (line k .next) ≡ true
-unfolding computed line seek seekIn closed closedIn named among
+unfolding computed line findLine findLineIn closed closedIn named among
 going = at-line (λ x. goes-well (x .judge) (x .next)) refl
 
 -- a judgement that goes on has passed its test
@@ -157,7 +157,7 @@ onward-lives k c n = go (line k .judge) (line k .next) (going k) (next-small k)
 
 -- So it does where a container starts.
 pub start-lives : (n : Name) → Lives (start n)
-unfolding computed line seek seekIn closed closedIn named among
+unfolding computed line findLine findLineIn closed closedIn named among
 start-lives n = lives-right (start n) (at-each (λ m. lives (start m)) refl n)
 
 -- the lines of a selector's ways, from a line on

@@ -14,12 +14,12 @@ use Rattle.der.specs.meaning.Identifier.{constructed}
 use Rattle.der.specs.meaning.Tree.{Tree, none, element, header, encode, Formed, WellFormed, moved}
 use Rattle.der.proofs.Laws.{encode-none, encode-element, encode-length, encode-moved, moved-none, moved-element, well-formed-moved, well-formed-none, well-formed-deep, well-formed-element, append-parts}
 use Rattle.crmf.specs.meaning.Notation.{among}
-use Rattle.crmf.specs.meaning.Fields.{Field, fields, chain, octets, start, finish, Runs, Consists, StandsAt, missing, nth, seek, child, listed, movedField}
+use Rattle.crmf.specs.meaning.Fields.{Field, fields, chain, octets, contentStart, fieldEnd, Runs, Consists, StandsAt, missing, nth, firstWith, child, listed, movedField}
 
 -- the first field with an identifier inside a field, and a field that may be missing, as a list
-pub child-seek : (id : ℕ) (f : Field) → child id f ≡ seek (id ∷ []) (fields (f .inside))
+pub child-first : (id : ℕ) (f : Field) → child id f ≡ firstWith (id ∷ []) (fields (f .inside))
 unfolding child
-child-seek id f = refl
+child-first id f = refl
 
 pub listed-none : listed absent ≡ []
 unfolding listed
@@ -64,7 +64,7 @@ encode-fields (element id first whole c inside rest) =
 abbrev pub FormedField : ℕ → Field → Type 0
 FormedField zero f = ⊥
 FormedField (suc left) f =
-    Formed (f .place) (f .identifier) (f .place) (f .whole) (f .content) (f .inside) (WellFormed left (start f) (f .inside))
+    Formed (f .place) (f .identifier) (f .place) (f .whole) (f .content) (f .inside) (WellFormed left (contentStart f) (f .inside))
 
 -- the fields of well-formed elements are well-formed
 pub fields-formed : (left p : ℕ) (t : Tree) → WellFormed left p t → (f : Field) → List·Memᴰ f (fields t) → FormedField left f
@@ -111,19 +111,19 @@ runs-up from to [] run = omega arith
 runs-up from to (f ∷ fs) run = omega (arith, runs-up (from + f .whole) to fs (run .2))
 
 -- each of them lies within
-pub runs-within : (from to : ℕ) (fs : List Field) → Runs from to fs → (f : Field) → List·Memᴰ f fs → (from ≤ f .place) × (finish f ≤ to)
+pub runs-within : (from to : ℕ) (fs : List Field) → Runs from to fs → (f : Field) → List·Memᴰ f fs → (from ≤ f .place) × (fieldEnd f ≤ to)
 runs-within from to [] run f m = absurd (List·Memᴰ·not-nil m)
 runs-within from to (g ∷ fs) run f (List·Memᴰ·head e) = rw e (omega (arith, run .0, runs-up (from + g .whole) to fs (run .2)))
 runs-within from to (g ∷ fs) run f (List·Memᴰ·tail m) =
     omega (arith, runs-within (from + g .whole) to fs (run .2) f m)
 
 -- a field's parts lie within its content
-pub consists-within : {f : Field} {fs : List Field} → Consists f fs → (g : Field) → List·Memᴰ g fs → (start f ≤ g .place) × (finish g ≤ finish f)
-consists-within {f} {fs} c g m = runs-within (start f) (finish f) fs (c .placed) g m
+pub consists-within : {f : Field} {fs : List Field} → Consists f fs → (g : Field) → List·Memᴰ g fs → (contentStart f ≤ g .place) × (fieldEnd g ≤ fieldEnd f)
+consists-within {f} {fs} c g m = runs-within (contentStart f) (fieldEnd f) fs (c .placed) g m
 
 -- what is inside a well-formed constructed field is well-formed
 pub inside-formed : (left : ℕ) (f : Field) → FormedField (suc left) f → constructed (f .identifier) ≡ true
-    → WellFormed left (start f) (f .inside)
+    → WellFormed left (contentStart f) (f .inside)
 inside-formed left f formed made = formed .filled made .1
 
 -- a well-formed constructed field consists of the fields inside it
@@ -131,18 +131,18 @@ pub consists-fields : (left : ℕ) (f : Field) → FormedField left f → constr
 consists-fields zero f formed made = absurd formed
 consists-fields (suc left) f formed made =
     let filled = formed .filled made in
-    let size : start f + length (encode (f .inside)) ≡ finish f
+    let size : contentStart f + length (encode (f .inside)) ≡ fieldEnd f
     = omega (arith, formed .sized, length-append (header (f .identifier) (f .content)) (f .content), ap length (filled .0)) in
     record {
       held = refl;
       written = filled .0 ∙ encode-fields (f .inside);
-      placed = subst (λ (e : ℕ). Runs (start f) e (fields (f .inside))) size (fields-run left (start f) (f .inside) (filled .1));
+      placed = subst (λ (e : ℕ). Runs (contentStart f) e (fields (f .inside))) size (fields-run left (contentStart f) (f .inside) (filled .1));
     }
 
 -- a field inside a well-formed constructed field is well-formed
 pub child-formed : (left : ℕ) (f : Field) → FormedField (suc left) f → constructed (f .identifier) ≡ true
     → (g : Field) → List·Memᴰ g (fields (f .inside)) → FormedField left g
-child-formed left f formed made g m = fields-formed left (start f) (f .inside) (inside-formed left f formed made) g m
+child-formed left f formed made g m = fields-formed left (contentStart f) (f .inside) (inside-formed left f formed made) g m
 
 -- the first of the octets that stand at a place
 pub stands-left : (s : List ℕ) (p : ℕ) (a b : List ℕ) → StandsAt s p (a ++ b) → StandsAt s p a
@@ -172,7 +172,7 @@ runs-stand s from to (g ∷ fs) run h f (List·Memᴰ·tail m) =
     runs-stand s (from + g .whole) to fs (run .2) (rw (run .1) (stands-right s from (octets g) (flatMap octets fs) h)) f m
 
 -- A field that stands at its place has its content there.
-pub content-stands : (s : List ℕ) (f : Field) → StandsAt s (f .place) (octets f) → StandsAt s (start f) (f .content)
+pub content-stands : (s : List ℕ) (f : Field) → StandsAt s (f .place) (octets f) → StandsAt s (contentStart f) (f .content)
 unfolding octets
 content-stands s f h = stands-right s (f .place) (header (f .identifier) (f .content)) (f .content) h
 
@@ -180,7 +180,7 @@ content-stands s f h = stands-right s (f .place) (header (f .identifier) (f .con
 pub consists-stand : (s : List ℕ) (f : Field) (fs : List Field) → Consists f fs → StandsAt s (f .place) (octets f)
     → (g : Field) → List·Memᴰ g fs → StandsAt s (g .place) (octets g)
 consists-stand s f fs c h g m =
-    runs-stand s (start f) (finish f) fs (c .placed) (subst (StandsAt s (start f)) (c .written) (content-stands s f h)) g m
+    runs-stand s (contentStart f) (fieldEnd f) fs (c .placed) (subst (StandsAt s (contentStart f)) (c .written) (content-stands s f h)) g m
 
 -- what holds of a field, if there is one
 abbrev pub IfAny : (Field → Type 0) → Option Field → Type 0
@@ -193,13 +193,13 @@ if-any absent step p = tt
 if-any (some f) step p = step f p
 
 -- what is found is one of the fields, and has one of the identifiers
-pub seek-found : (ids : List ℕ) (fs : List Field) (f : Field) → seek ids fs ≡ some f → List·Memᴰ f fs × (among ids (f .identifier) ≡ true)
-unfolding seek
-seek-found ids [] f e = absurd (Option·none-ne-some f e)
-seek-found ids (g ∷ fs) f e = by-test (among ids (g .identifier)) refl e (seek-found ids fs f)
+pub first-with-found : (ids : List ℕ) (fs : List Field) (f : Field) → firstWith ids fs ≡ some f → List·Memᴰ f fs × (among ids (f .identifier) ≡ true)
+unfolding firstWith
+first-with-found ids [] f e = absurd (Option·none-ne-some f e)
+first-with-found ids (g ∷ fs) f e = by-test (among ids (g .identifier)) refl e (first-with-found ids fs f)
   where
-    by-test : (b : Bool) → among ids (g .identifier) ≡ b → elim b as (λ x. Option Field) [ true ↦ some g | false ↦ seek ids fs ] ≡ some f
-        → (seek ids fs ≡ some f → List·Memᴰ f fs × (among ids (f .identifier) ≡ true))
+    by-test : (b : Bool) → among ids (g .identifier) ≡ b → elim b as (λ x. Option Field) [ true ↦ some g | false ↦ firstWith ids fs ] ≡ some f
+        → (firstWith ids fs ≡ some f → List·Memᴰ f fs × (among ids (f .identifier) ≡ true))
         → List·Memᴰ f (g ∷ fs) × (among ids (f .identifier) ≡ true)
     by-test true test here below =
         let same : g ≡ f = Option·some-injective g f here in
@@ -207,39 +207,39 @@ seek-found ids (g ∷ fs) f e = by-test (among ids (g .identifier)) refl e (seek
     by-test false test there below = let (m, own) = below there in (List·Memᴰ·tail m, own)
 
 -- where nothing is found, no field has one of the identifiers
-pub seek-missing : (ids : List ℕ) (fs : List Field) → seek ids fs ≡ absent → (f : Field) → List·Memᴰ f fs → among ids (f .identifier) ≡ false
-unfolding seek
-seek-missing ids [] e f m = absurd (List·Memᴰ·not-nil m)
-seek-missing ids (g ∷ fs) e f m = by-test (among ids (g .identifier)) refl e (seek-missing ids fs) (List·Memᴰ·cases-cons m)
+pub first-with-missing : (ids : List ℕ) (fs : List Field) → firstWith ids fs ≡ absent → (f : Field) → List·Memᴰ f fs → among ids (f .identifier) ≡ false
+unfolding firstWith
+first-with-missing ids [] e f m = absurd (List·Memᴰ·not-nil m)
+first-with-missing ids (g ∷ fs) e f m = by-test (among ids (g .identifier)) refl e (first-with-missing ids fs) (List·Memᴰ·cases-cons m)
   where
     by-test : (b : Bool) → among ids (g .identifier) ≡ b
-        → _≡_ {A = Option Field} (elim b as (λ x. Option Field) [ true ↦ some g | false ↦ seek ids fs ]) absent
-        → (seek ids fs ≡ absent → (x : Field) → List·Memᴰ x fs → among ids (x .identifier) ≡ false)
+        → _≡_ {A = Option Field} (elim b as (λ x. Option Field) [ true ↦ some g | false ↦ firstWith ids fs ]) absent
+        → (firstWith ids fs ≡ absent → (x : Field) → List·Memᴰ x fs → among ids (x .identifier) ≡ false)
         → (f ≡ g) ⊎ List·Memᴰ f fs → among ids (f .identifier) ≡ false
     by-test true test here below place = absurd (Option·some-ne-none g here)
     by-test false test there below (inl same) = rw same test
     by-test false test there below (inr n) = below there f n
 
 -- the first of such fields that has one of the identifiers, where there is no other
-pub seek-own : (ids : List ℕ) (o : Option Field) → IfAny (λ f. among ids (f .identifier) ≡ true) o → seek ids (listed o) ≡ o
-unfolding seek listed
-seek-own ids absent e = refl
-seek-own ids (some f) e = rw (e, seek)
+pub first-with-own : (ids : List ℕ) (o : Option Field) → IfAny (λ f. among ids (f .identifier) ≡ true) o → firstWith ids (listed o) ≡ o
+unfolding firstWith listed
+first-with-own ids absent e = refl
+first-with-own ids (some f) e = rw (e, firstWith)
 
 -- behind a field that may stand there and has none of them
-pub seek-behind : (ids : List ℕ) (o : Option Field) (fs : List Field) → IfAny (λ f. among ids (f .identifier) ≡ false) o
-    → seek ids (listed o ++ fs) ≡ seek ids fs
-unfolding seek listed
-seek-behind ids absent fs e = refl
-seek-behind ids (some f) fs e = rw (e, seek)
+pub first-with-after : (ids : List ℕ) (o : Option Field) (fs : List Field) → IfAny (λ f. among ids (f .identifier) ≡ false) o
+    → firstWith ids (listed o ++ fs) ≡ firstWith ids fs
+unfolding firstWith listed
+first-with-after ids absent fs e = refl
+first-with-after ids (some f) fs e = rw (e, firstWith)
 
 -- before a field that has none of them
-pub seek-before : (ids : List ℕ) (o p : Option Field) → IfAny (λ f. among ids (f .identifier) ≡ true) o
-    → IfAny (λ f. among ids (f .identifier) ≡ false) p → seek ids (listed o ++ listed p) ≡ o
-unfolding seek listed
-seek-before ids absent absent e n = refl
-seek-before ids absent (some f) e n = rw (n, seek)
-seek-before ids (some f) p e n = rw (e, seek)
+pub first-with-before : (ids : List ℕ) (o p : Option Field) → IfAny (λ f. among ids (f .identifier) ≡ true) o
+    → IfAny (λ f. among ids (f .identifier) ≡ false) p → firstWith ids (listed o ++ listed p) ≡ o
+unfolding firstWith listed
+first-with-before ids absent absent e n = refl
+first-with-before ids absent (some f) e n = rw (n, firstWith)
+first-with-before ids (some f) p e n = rw (e, firstWith)
 
 -- the fields of elements further on are the fields further on
 pub fields-moved : (d : ℕ) (t : Tree) → fields (moved d t) ≡ map (movedField d) (fields t)
@@ -266,21 +266,21 @@ nth-moved d n f =
     ∙ List·getD-map (movedField d) (fields (f .inside)) n (missing f)
 
 -- a field further on, by its identifier
-pub seek-moved : (d : ℕ) (ids : List ℕ) (fs : List Field) → seek ids (map (movedField d) fs) ≡ Option·map (movedField d) (seek ids fs)
-unfolding seek movedField
-seek-moved d ids [] = refl
-seek-moved d ids (f ∷ fs) = by-test (among ids (f .identifier)) (seek-moved d ids fs)
+pub first-with-moved : (d : ℕ) (ids : List ℕ) (fs : List Field) → firstWith ids (map (movedField d) fs) ≡ Option·map (movedField d) (firstWith ids fs)
+unfolding firstWith movedField
+first-with-moved d ids [] = refl
+first-with-moved d ids (f ∷ fs) = by-test (among ids (f .identifier)) (first-with-moved d ids fs)
   where
-    by-test : (b : Bool) → seek ids (map (movedField d) fs) ≡ Option·map (movedField d) (seek ids fs)
-        → elim b as (λ x. Option Field) [ true ↦ some (movedField d f) | false ↦ seek ids (map (movedField d) fs) ]
-        ≡ Option·map (movedField d) (elim b as (λ x. Option Field) [ true ↦ some f | false ↦ seek ids fs ])
+    by-test : (b : Bool) → firstWith ids (map (movedField d) fs) ≡ Option·map (movedField d) (firstWith ids fs)
+        → elim b as (λ x. Option Field) [ true ↦ some (movedField d f) | false ↦ firstWith ids (map (movedField d) fs) ]
+        ≡ Option·map (movedField d) (elim b as (λ x. Option Field) [ true ↦ some f | false ↦ firstWith ids fs ])
     by-test true e = refl
     by-test false e = e
 
 -- a field inside a field further on, by its identifier
 pub child-moved : (d id : ℕ) (f : Field) → child id (movedField d f) ≡ Option·map (movedField d) (child id f)
 unfolding child
-child-moved d id f = rw (inside-moved d f) (seek-moved d (id ∷ []) (fields (f .inside)))
+child-moved d id f = rw (inside-moved d f) (first-with-moved d (id ∷ []) (fields (f .inside)))
 
 -- fields further on, behind the first ones
 pub drop-moved : (d n : ℕ) (fs : List Field) → drop n (map (movedField d) fs) ≡ map (movedField d) (drop n fs)
@@ -304,7 +304,7 @@ formed-moved d (suc left) f formed =
       identified = formed .identified;
       filled = λ e. (
         formed .filled e .0 ∙ sym (encode-moved d (f .inside)),
-        rw (add-assoc d (f .place) (length (header (f .identifier) (f .content)))) (well-formed-moved d left (start f) (f .inside) (formed .filled e .1)),
+        rw (add-assoc d (f .place) (length (header (f .identifier) (f .content)))) (well-formed-moved d left (contentStart f) (f .inside) (formed .filled e .1)),
       );
       valued = λ e. (ap (moved d) (formed .valued e .0) ∙ moved-none d, formed .valued e .1);
     }

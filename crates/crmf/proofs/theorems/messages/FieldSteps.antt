@@ -19,11 +19,11 @@ use Rattle.der.specs.meaning.Tree.{Tree, none, header, encode, WellFormed, Sing
 use Rattle.der.specs.steps.Reading.{readAt, tree}
 use Rattle.der.proofs.Laws.{take-drop, slice-none, tree-end, tree-at, header-some, sequence-constructed}
 use Rattle.crmf.specs.meaning.Notation.{among, Top}
-use Rattle.crmf.specs.meaning.Fields.{Field, fields, fieldsBetween, octets, StandsAt, seek, child, listed}
+use Rattle.crmf.specs.meaning.Fields.{Field, fields, fieldsBetween, octets, StandsAt, firstWith, child, listed}
 use Rattle.crmf.specs.meaning.Grammar.{content}
 use Rattle.crmf.specs.meaning.Language.{Matches}
 use Rattle.crmf.specs.meaning.Messages.{proofs, Message, messageOf, batch, messages}
-use Rattle.crmf.proofs.theorems.messages.FieldLaws.{fields-none, fields-element, FormedField, child-formed, consists-fields, consists-stand, stands-fit, IfAny, seek-found}
+use Rattle.crmf.proofs.theorems.messages.FieldLaws.{fields-none, fields-element, FormedField, child-formed, consists-fields, consists-stand, stands-fit, IfAny, first-with-found}
 use Rattle.crmf.proofs.theorems.messages.MessageLaws.{batch-element, message-parts, messages-formed, messages-stand}
 
 -- the field of an element that is read at a place
@@ -72,25 +72,25 @@ unfolding fieldsBetween
 inside-fields s p x made = rw (made, fieldAt)
 
 -- among no fields none is found
-pub seek-none : (ids : List ℕ) → seek ids [] ≡ absent
-unfolding seek
-seek-none ids = refl
+pub first-with-none : (ids : List ℕ) → firstWith ids [] ≡ absent
+unfolding firstWith
+first-with-none ids = refl
 
 module _ (id : ℕ) (f : Field) (fs : List Field) where
   -- a field with the identifier is found
-  pub seek-here : f .identifier ≡ id → seek (id ∷ []) (f ∷ fs) ≡ some f
-  unfolding seek among
-  seek-here is = rw (eq-eqb _ _ is, seek)
+  pub first-with-here : f .identifier ≡ id → firstWith (id ∷ []) (f ∷ fs) ≡ some f
+  unfolding firstWith among
+  first-with-here is = rw (eq-eqb _ _ is, firstWith)
 
   -- past any other the search goes on
-  pub seek-next : (f .identifier ≡ id → ⊥) → seek (id ∷ []) (f ∷ fs) ≡ seek (id ∷ []) fs
-  unfolding seek among
-  seek-next other = rw (ne-eqb _ _ other, seek)
+  pub first-with-next : (f .identifier ≡ id → ⊥) → firstWith (id ∷ []) (f ∷ fs) ≡ firstWith (id ∷ []) fs
+  unfolding firstWith among
+  first-with-next other = rw (ne-eqb _ _ other, firstWith)
 
 -- what is found inside a field by its identifier has it
 pub child-identified : (id : ℕ) (f x : Field) → child id f ≡ some x → x .identifier ≡ id
-unfolding among seek child
-child-identified id f x found = by-test (eqb (x .identifier) id) refl (seek-found (id ∷ []) (fields (f .inside)) x found .1)
+unfolding among firstWith child
+child-identified id f x found = by-test (eqb (x .identifier) id) refl (first-with-found (id ∷ []) (fields (f .inside)) x found .1)
   where
     by-test : (b : Bool) → eqb (x .identifier) id ≡ b → b || false ≡ true → x .identifier ≡ id
     by-test true e test = eqb-true (x .identifier) id e
@@ -153,7 +153,7 @@ proof-child-stands t top w one m n p has made id x found =
     rw (k .whole .held, has) (List·Memᴰ·tail (List·Memᴰ·head refl)) in
     let formed : FormedField 18 p = child-formed 18 (m .own) (messages-formed t top w one m n) thirty p within in
     let whole = consists-fields 18 p formed made in
-    let here = seek-found (id ∷ []) (fields (p .inside)) x found .0 in
+    let here = first-with-found (id ∷ []) (fields (p .inside)) x found .0 in
     let stands : StandsAt (encode t) (p .place) (octets p) = subst (IfAny (λ f. StandsAt (encode t) (f .place) (octets f))) has (messages-stand t top w one m n .proof) in
     (consists-stand (encode t) p (fields (p .inside)) whole stands x here, child-formed 17 p formed made x here .sized)
 

@@ -22,11 +22,11 @@ use Rattle.crmf.specs.meaning.Notation
 use Rattle.crmf.specs.meaning.Notation.{among, named, Top, Batch, CertReq, Template, Signature, KeyProof, Controls, RegInfo, Form, repeated, part, plain, holding, ruled, row}
 use Rattle.crmf.specs.meaning.Grammar.{content}
 use Rattle.crmf.specs.meaning.Language.{Matches, end, pass}
-use Rattle.crmf.specs.meaning.Fields.{Field, fields, chain, octets, Runs, Consists, StandsAt, nth, seek, listed, movedField}
+use Rattle.crmf.specs.meaning.Fields.{Field, fields, chain, octets, Runs, Consists, StandsAt, nth, firstWith, listed, movedField}
 use Rattle.crmf.specs.meaning.Messages.{proofs, Message, messageOf, batch, messages, batchOf, movedMessage}
 use Rattle.crmf.proofs.theorems.grammar.Choices.{never-both}
 use Rattle.crmf.proofs.theorems.grammar.ChoicesMatch.{holds-true}
-use Rattle.crmf.proofs.theorems.messages.FieldLaws.{chain-fields, fields-chain, encode-fields, FormedField, chain-formed, fields-formed, fields-run, child-formed, consists-fields, consists-stand, IfAny, if-any, seek-own, seek-behind, seek-before, fields-moved, inside-moved, nth-moved, seek-moved, drop-moved}
+use Rattle.crmf.proofs.theorems.messages.FieldLaws.{chain-fields, fields-chain, encode-fields, FormedField, chain-formed, fields-formed, fields-run, child-formed, consists-fields, consists-stand, IfAny, if-any, first-with-own, first-with-after, first-with-before, fields-moved, inside-moved, nth-moved, first-with-moved, drop-moved}
 use Rattle.crmf.proofs.theorems.messages.FieldsMatch.{Fits, FitsOne, Begun, once-begun, optional-begun, repeated-keep, end-fields, Holding, fits-holding, fits-only, fits-cons, holding-take}
 
 -- A proof's field: which of the four it is, and what it holds.
@@ -145,10 +145,10 @@ pub message-known : (f a x y : Field) (z p q : Option Field) → fields (f .insi
     → messageOf f ≡ record { own = f; certReq = a; certReqId = x; template = y; controls = z; proof = p; regInfo = q }
 unfolding messageOf nth among
 message-known f a x y z p q outer inner isz isp isq =
-    let s1 : seek (0x30 ∷ []) (listed z) ≡ z = seek-own (0x30 ∷ []) z (if-any z (λ g e. rw e) isz) in
-    let s2 : seek proofs (listed p ++ listed q) ≡ p = seek-before proofs p q isp (if-any q (λ g e. rw e) isq) in
-    let s3 : seek (0x30 ∷ []) (listed p ++ listed q) ≡ q
-    = seek-behind (0x30 ∷ []) p (listed q) (if-any p (λ g e. not-thirty (g .identifier) e) isp) ∙ seek-own (0x30 ∷ []) q (if-any q (λ g e. rw e) isq) in
+    let s1 : firstWith (0x30 ∷ []) (listed z) ≡ z = first-with-own (0x30 ∷ []) z (if-any z (λ g e. rw e) isz) in
+    let s2 : firstWith proofs (listed p ++ listed q) ≡ p = first-with-before proofs p q isp (if-any q (λ g e. rw e) isq) in
+    let s3 : firstWith (0x30 ∷ []) (listed p ++ listed q) ≡ q
+    = first-with-after (0x30 ∷ []) p (listed q) (if-any p (λ g e. not-thirty (g .identifier) e) isp) ∙ first-with-own (0x30 ∷ []) q (if-any q (λ g e. rw e) isq) in
     rw (outer, inner, s1, s2, s3)
 
 -- What a message of a batch is: an element 30 of a certReq, at most one proof and at most one regInfo; the certReq an element 30 of a
@@ -474,7 +474,7 @@ batch-again t top w one = again t (batch-content t top w one) one
 -- a message further on
 pub message-moved : (d : ℕ) (f : Field) → messageOf (movedField d f) ≡ movedMessage d (messageOf f)
 unfolding messageOf movedMessage
-message-moved d f = simp (nth-moved, inside-moved, drop-moved, seek-moved)
+message-moved d f = simp (nth-moved, inside-moved, drop-moved, first-with-moved)
 
 -- The messages of a tree further on are the messages further on.
 pub messages-moved : (d : ℕ) (t : Tree) → messages (moved d t) ≡ map (movedMessage d) (messages t)

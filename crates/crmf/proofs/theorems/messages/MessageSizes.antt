@@ -14,7 +14,7 @@ use Rattle.crmf.specs.meaning.Notation.{Top}
 use Rattle.crmf.specs.meaning.Grammar.{content}
 use Rattle.crmf.specs.meaning.Language.{Matches}
 use Rattle.crmf.specs.meaning.Rows.{batchRows, allShort}
-use Rattle.crmf.specs.meaning.Fields.{Field, octets, start, finish, Runs}
+use Rattle.crmf.specs.meaning.Fields.{Field, octets, contentStart, fieldEnd, Runs}
 use Rattle.crmf.specs.meaning.Messages.{Message, batch, messages}
 use Rattle.crmf.proofs.theorems.messages.FieldLaws.{FormedField, child-formed, consists-within}
 use Rattle.crmf.proofs.theorems.messages.MessageLaws.{MessageParts, batch-content, message-parts, messages-formed}
@@ -90,7 +90,7 @@ module _ {R : ℕ → Bool} (t : Tree) (top : Matches R (content Top) t) (w : We
       let b = batch-content t top w one in
       omega (
         arith,
-        runs-many 9 (start f) (finish f) (map (λ (m : Message). m .own) (messages t)) (b .whole .placed) nine,
+        runs-many 9 (contentStart f) (fieldEnd f) (map (λ (m : Message). m .own) (messages t)) (b .whole .placed) nine,
         length-map (messages t) (λ (m : Message). m .own),
         header-two (f .identifier) (f .content),
         b .first,

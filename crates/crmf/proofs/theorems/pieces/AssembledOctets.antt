@@ -19,7 +19,7 @@ use Rattle.crmf.specs.meaning.Grammar.{content}
 use Rattle.crmf.specs.meaning.Language.{Matches}
 use Rattle.crmf.specs.meaning.Rows.{Row, container, batchRows}
 use Rattle.crmf.specs.meaning.Pieces.{Piece, piecesOf}
-use Rattle.crmf.specs.steps.rows.Assembly.{identifierOf, implied, own, wholeOf, childrenOf, assembled, within}
+use Rattle.crmf.specs.steps.rows.Assembly.{identifierOf, implied, own, wholeOf, childrenOf, assembled, noneLonger}
 use Rattle.crmf.proofs.theorems.pieces.PieceLaws.{identifier-of, implied-type, implied-none, own-container, own-leaf, whole-container, pieces-none, pieces-row, assembled-none, assembled-piece, within-piece}
 use Rattle.crmf.proofs.theorems.lists.Tests.{all}
 use Rattle.crmf.proofs.theorems.rows.RowsInPlace.{noRow}
@@ -85,10 +85,10 @@ own-octets x inner plain fits = go (container (x .kind)) refl
         rw (own-container x inner is) (octets-more (identifierOf (x .kind)) (lengthOctets content ++ implied (x .kind)) (identifier-octet (x .kind))
         (octets-append (lengthOctets content) (implied (x .kind)) (length-octets content (omega arith)) (implied-octets (x .kind))))
 
-assembled-octets : (n : ℕ) (xs : List Piece) → Plain xs → within longest n xs ≡ true → Octets (assembled n xs)
+assembled-octets : (n : ℕ) (xs : List Piece) → Plain xs → noneLonger longest n xs ≡ true → Octets (assembled n xs)
 assembled-octets n [] plain fits = rw (assembled-none n) octets-none
 assembled-octets n (x ∷ xs) plain fits =
-    let both = and-eq-true-iff (leb (wholeOf x (childrenOf n (suc n) xs)) longest) (within longest (suc n) xs) .0 (rw (within-piece longest n x xs) at fits) in
+    let both = and-eq-true-iff (leb (wholeOf x (childrenOf n (suc n) xs)) longest) (noneLonger longest (suc n) xs) .0 (rw (within-piece longest n x xs) at fits) in
     rw (assembled-piece n x xs) (octets-append (own x (childrenOf n (suc n) xs)) (assembled (suc n) xs)
     (own-octets x (childrenOf n (suc n) xs) (plain .0) (leb-true _ _ (both .0))) (assembled-octets (suc n) xs (plain .1) (both .1)))
 
@@ -102,7 +102,7 @@ shown-plain s octets (r ∷ rs) = rw (pieces-row s r rs) (go (container (r .kind
     go false = octets-drop (r .first) (take (r .first + r .whole) s) (octets-take (r .first + r .whole) s octets)
 
 -- The assembly of what rows show of octets is octets, where nothing is too long.
-pub pieces-octets : (s : List ℕ) → Octets s → (rs : List Row) → within longest 0 (piecesOf s rs) ≡ true → Octets (assembled 0 (piecesOf s rs))
+pub pieces-octets : (s : List ℕ) → Octets s → (rs : List Row) → noneLonger longest 0 (piecesOf s rs) ≡ true → Octets (assembled 0 (piecesOf s rs))
 pieces-octets s octets rs fits = assembled-octets 0 (piecesOf s rs) (shown-plain s octets rs) fits
 
 -- The rows of a batch lie within it.

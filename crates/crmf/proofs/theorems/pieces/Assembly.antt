@@ -19,7 +19,7 @@ use Rattle.crmf.specs.meaning.Grammar.{content}
 use Rattle.crmf.specs.meaning.Language.{passable, behind, Matches, end, pass, take, choose, Within, unseen, parts}
 use Rattle.crmf.specs.meaning.Rows.{container, parentIf, batchRows}
 use Rattle.crmf.specs.meaning.Pieces.{Piece, piecesOf}
-use Rattle.crmf.specs.steps.rows.Assembly.{identifierOf, implied, assembled, within}
+use Rattle.crmf.specs.steps.rows.Assembly.{identifierOf, implied, assembled, noneLonger}
 use Rattle.crmf.proofs.theorems.values.ValueRules.{same-octets}
 use Rattle.crmf.proofs.theorems.grammar.Choices.{never-both}
 use Rattle.crmf.proofs.theorems.lists.Tests.{all, all-getElem}
@@ -175,11 +175,11 @@ piece-leaf kind up os is = ap (λ (b : Bool). record { kind = kind; parent = up;
 -- a container's element, from what is inside it
 bearing-tiled : (kind id : ℕ) (c : List ℕ) (inside : Tree) (xs : List Piece) (n up : ℕ) → up < n → container kind ≡ true → eqb kind kinds.carried ≡ false
     → id ≡ identifierOf kind → c ≡ encode inside → Tiled (suc n) n xs (encode inside) → Tiled n up (pieceAt kind up (header id c ++ c) ∷ xs) (header id c ++ c)
-bearing-tiled kind id c inside xs n up below is no-type octet filled within =
+bearing-tiled kind id c inside xs n up below is no-type octet filled noneLonger =
     let whole : front kind (length (encode inside)) ++ encode inside ≡ header id c ++ c =
     ap (λ (l : List ℕ). front kind (length l) ++ l) (sym filled) ∙ container-octets kind id c octet no-type in
     subst (λ (x : Piece). Tiled n up (x ∷ xs) (header id c ++ c)) (sym (piece-container kind up (header id c ++ c) is))
-    (subst (Tiled n up (record { kind = kind; parent = up; octets = [] } ∷ xs)) whole (tiled-container n up kind xs (encode inside) is within below))
+    (subst (Tiled n up (record { kind = kind; parent = up; octets = [] } ∷ xs)) whole (tiled-container n up kind xs (encode inside) is noneLonger below))
 
 -- An element of a container whose elements are all shown, with those behind it.
 module _ (f : Form) (id : ℕ) (c : List ℕ) (inside : Tree) (inner : ℕ → ℕ → List Piece) (n up : ℕ) (around : List ℕ)
@@ -368,7 +368,7 @@ mutual
 pub record Together (xs : List Piece) (s : List ℕ) : Type 0 where
   pub octets : assembled 0 xs ≡ s
   pub few : 2 * length xs ≤ length s
-  pub short : (limit : ℕ) → length s ≤ limit → within limit 0 xs ≡ true
+  pub short : (limit : ℕ) → length s ≤ limit → noneLonger limit 0 xs ≡ true
 
 -- The batch's own piece, number 0, stands before its messages'.
 one-together : (id : ℕ) (c : List ℕ) (inside : Tree) (inner : ℕ → ℕ → List Piece) (more : ℕ → List Piece) → id ≡ 0x30 → c ≡ encode inside
@@ -423,5 +423,5 @@ module _ {R : ℕ → Bool} {t : Tree} (m : Matches R (content Top) t) (left : �
   rows-few = omega (arith, all-together .few, pieces-length s (batchRows m))
 
   -- None of its pieces is longer than it.
-  pub pieces-short : (limit : ℕ) → length s ≤ limit → within limit 0 (piecesOf s (batchRows m)) ≡ true
+  pub pieces-short : (limit : ℕ) → length s ≤ limit → noneLonger limit 0 (piecesOf s (batchRows m)) ≡ true
   pieces-short = all-together .short

@@ -12,7 +12,7 @@ use Rattle.crmf.specs.meaning.Kinds as kinds
 use Rattle.crmf.specs.meaning.Notation.{among}
 use Rattle.crmf.specs.meaning.Rows.{Row, container, numbers}
 use Rattle.crmf.specs.meaning.Pieces.{Piece, pieceOf, piecesOf}
-use Rattle.crmf.specs.steps.rows.Assembly.{identifierOf, implied, own, wholeOf, childrenOf, assembled, within}
+use Rattle.crmf.specs.steps.rows.Assembly.{identifierOf, implied, own, wholeOf, childrenOf, assembled, noneLonger}
 
 -- a container's kind is one of these
 pub container-kinds : (k : ℕ)
@@ -106,21 +106,21 @@ unfolding assembled
 assembled-piece n x xs = refl
 
 -- the limit on no pieces, and on a piece and those behind it
-pub within-none : (limit n : ℕ) → within limit n [] ≡ true
-unfolding within
+pub within-none : (limit n : ℕ) → noneLonger limit n [] ≡ true
+unfolding noneLonger
 within-none limit n = refl
 
 pub within-piece : (limit n : ℕ) (x : Piece) (xs : List Piece)
-    → within limit n (x ∷ xs) ≡ (leb (wholeOf x (childrenOf n (suc n) xs)) limit && within limit (suc n) xs)
-unfolding within
+    → noneLonger limit n (x ∷ xs) ≡ (leb (wholeOf x (childrenOf n (suc n) xs)) limit && noneLonger limit (suc n) xs)
+unfolding noneLonger
 within-piece limit n x xs = refl
 
 -- where no piece is longer than a limit, the children of one have together at most so much for each piece
-pub children-bound : (limit k n : ℕ) (xs : List Piece) → within limit n xs ≡ true → childrenOf k n xs ≤ limit * length xs
-unfolding childrenOf within
+pub children-bound : (limit k n : ℕ) (xs : List Piece) → noneLonger limit n xs ≡ true → childrenOf k n xs ≤ limit * length xs
+unfolding childrenOf noneLonger
 children-bound limit k n [] fit = omega arith
 children-bound limit k n (x ∷ xs) fit =
-    let both = and-eq-true-iff (leb (wholeOf x (childrenOf n (suc n) xs)) limit) (within limit (suc n) xs) .0 fit in
+    let both = and-eq-true-iff (leb (wholeOf x (childrenOf n (suc n) xs)) limit) (noneLonger limit (suc n) xs) .0 fit in
     go (eqb (x .parent) k) (leb-true _ limit (both .0)) (children-bound limit k (suc n) xs (both .1))
   where
     whole : ℕ

@@ -12,7 +12,7 @@ use Rattle.der.specs.meaning.Length.{lengthOctets}
 use Rattle.der.proofs.Laws.{length-some}
 use Rattle.crmf.specs.meaning.Rows.{container}
 use Rattle.crmf.specs.meaning.Pieces.{Piece}
-use Rattle.crmf.specs.steps.rows.Assembly.{identifierOf, implied, own, wholeOf, childrenOf, assembled, within}
+use Rattle.crmf.specs.steps.rows.Assembly.{identifierOf, implied, own, wholeOf, childrenOf, assembled, noneLonger}
 use Rattle.crmf.proofs.theorems.pieces.PieceLaws.{children-none, children-piece, assembled-none, assembled-piece, within-none, within-piece}
 
 -- The pieces from number n on, below piece up, are together the octets.
@@ -23,7 +23,7 @@ pub record Tiled (n up : ℕ) (xs : List Piece) (os : List ℕ) : Type 0 where
   pub apart : (k : ℕ) → k < n → (k ≡ up → ⊥) → childrenOf k n xs ≡ 0
   -- each has two octets of its own
   pub few : 2 * length xs ≤ length os
-  pub short : (limit : ℕ) → length os ≤ limit → within limit n xs ≡ true
+  pub short : (limit : ℕ) → length os ≤ limit → noneLonger limit n xs ≡ true
 
 -- what a piece adds to the children of piece k, where its own children have so many octets
 abbrev share : Piece → ℕ → ℕ → ℕ
@@ -67,14 +67,14 @@ module _ (ys : List Piece) (e : ℕ) where
       ∙ ap (λ (l : List ℕ). l ++ assembled e ys) (sym (assembled-piece n x xs))
 
   within-append : (limit : ℕ) (xs : List Piece) (n : ℕ) → e ≡ n + length xs → Clear n e ys
-      → within limit n (xs ++ ys) ≡ (within limit n xs && within limit e ys)
+      → noneLonger limit n (xs ++ ys) ≡ (noneLonger limit n xs && noneLonger limit e ys)
   within-append limit [] n ends clear = let same : n ≡ e = omega arith in rw (same, within-none limit e) refl
   within-append limit (x ∷ xs) n ends clear =
       within-piece limit n x (xs ++ ys)
       ∙ ap₂ (λ (c : ℕ) (b : Bool). leb (wholeOf x c) limit && b) (own-children x xs n ends clear)
       (within-append limit xs (suc n) (omega arith) (λ j low high. clear j (omega arith) high))
-      ∙ sym (and-assoc (leb (wholeOf x (childrenOf n (suc n) xs)) limit) (within limit (suc n) xs) (within limit e ys))
-      ∙ ap (λ (b : Bool). b && within limit e ys) (sym (within-piece limit n x xs))
+      ∙ sym (and-assoc (leb (wholeOf x (childrenOf n (suc n) xs)) limit) (noneLonger limit (suc n) xs) (noneLonger limit e ys))
+      ∙ ap (λ (b : Bool). b && noneLonger limit e ys) (sym (within-piece limit n x xs))
 
 -- no pieces are no octets
 pub tiled-none : (n up : ℕ) → Tiled n up [] []
@@ -145,7 +145,7 @@ module _ (n up kind : ℕ) (xs : List Piece) (os : List ℕ) (bears : container 
   whole =
       rw (wholeOf, bears) (omega (arith, ap length own-front, below .sized, length-append (front kind (length os)) os))
 
-  pub front-short : (limit : ℕ) → length (front kind (length os) ++ os) ≤ limit → within limit n (x ∷ xs) ≡ true
+  pub front-short : (limit : ℕ) → length (front kind (length os) ++ os) ≤ limit → noneLonger limit n (x ∷ xs) ≡ true
   front-short limit fits =
       within-piece limit n x xs
       ∙ ap₂ (λ (a b : Bool). a && b) (le-leb (wholeOf x (childrenOf n (suc n) xs)) limit (omega (arith, whole)))

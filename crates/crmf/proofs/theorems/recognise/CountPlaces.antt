@@ -14,12 +14,12 @@ use Rattle.der.specs.steps.Span.{spanOf}
 use Rattle.der.proofs.Laws.{take-drop, span-fits, span-small}
 use Rattle.crmf.specs.declared.grammar.judge.Onward.{Onward}
 use Rattle.crmf.specs.declared.grammar.judge.Onward.the-variants.{To, Breaks}
-use Rattle.crmf.specs.declared.grammar.table.Found.the-variants.{At, Nowhere}
+use Rattle.crmf.specs.declared.grammar.table.FoundLine.the-variants.{At, Nowhere}
 use Rattle.crmf.specs.declared.recognise.Advance.{Advance}
 use Rattle.crmf.specs.declared.recognise.Advance.the-variants.{Past, Stop}
 use Rattle.crmf.specs.declared.recognise.Recognition.{Recognition}
 use Rattle.crmf.specs.declared.recognise.Recognition.the-variants.{Rows, Unrecognised}
-use Rattle.crmf.specs.steps.explain.Walk.{line, seek, closed, judged, rowsBy}
+use Rattle.crmf.specs.steps.explain.Walk.{line, findLine, closed, judged, rowsBy}
 use Rattle.crmf.specs.steps.recognise.Count.{countsAt}
 use Rattle.crmf.specs.steps.recognise.Inner.{contentCount, ruledCount, Sized, decode, ElementCounted, countAfter}
 use Rattle.crmf.proofs.theorems.recognise.CountSteps.{not-recognised, same-rows}
@@ -122,14 +122,14 @@ module _ (e left k before at : ℕ) (bytes : List ℕ) (x : Span) (short : lengt
   level = omega arith
 
   -- no line fits
-  pub place-nowhere : seek k id ≡ Nowhere → (p : ℕ) → countsAt e left k before p (drop at bytes) ≡ Unrecognised
+  pub place-nowhere : findLine k id ≡ Nowhere → (p : ℕ) → countsAt e left k before p (drop at bytes) ≡ Unrecognised
   place-nowhere missing p =
       subst (λ (l : ℕ). countsAt e l k before p (drop at bytes) ≡ Unrecognised) level
-      (at-nowhere e (left - 1) k before p (drop at bytes) short measured (ap (seek k) same-id ∙ missing))
+      (at-nowhere e (left - 1) k before p (drop at bytes) short measured (ap (findLine k) same-id ∙ missing))
 
-  module _ (j : ℕ) (found : seek k id ≡ At j) where
-    found-there : seek k (getD (drop at bytes) 0 0) ≡ At j
-    found-there = ap (seek k) same-id ∙ found
+  module _ (j : ℕ) (found : findLine k id ≡ At j) where
+    found-there : findLine k (getD (drop at bytes) 0 0) ≡ At j
+    found-there = ap (findLine k) same-id ∙ found
 
     same-count : (p : ℕ) → contentCount e j (spanOf (drop at bytes) .octets + spanOf (drop at bytes) .length) (left - 1) (before + rowsBy (line j)) (p + spanOf (drop at bytes) .octets) (getD (drop at bytes) 0 0)
         (slice (spanOf (drop at bytes) .octets) (spanOf (drop at bytes) .octets + spanOf (drop at bytes) .length) (drop at bytes))

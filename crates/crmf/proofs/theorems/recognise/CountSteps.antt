@@ -11,9 +11,9 @@ use Rattle.crmf.specs.declared.recognise.Recognition.{Recognition}
 use Rattle.crmf.specs.declared.recognise.Recognition.the-variants.{Rows, Unrecognised}
 use Rattle.crmf.specs.declared.grammar.judge.Onward.{Onward}
 use Rattle.crmf.specs.declared.grammar.judge.Onward.the-variants.{To, Breaks}
-use Rattle.crmf.specs.declared.grammar.table.Found.the-variants.{At, Nowhere}
-use Rattle.crmf.specs.steps.explain.Walk.{line, seek, closed, judged, rowsBy}
-use Rattle.crmf.specs.steps.recognise.Count.{stands, counts}
+use Rattle.crmf.specs.declared.grammar.table.FoundLine.the-variants.{At, Nowhere}
+use Rattle.crmf.specs.steps.explain.Walk.{line, findLine, closed, judged, rowsBy}
+use Rattle.crmf.specs.steps.recognise.Count.{mayStand, counts}
 
 -- rows are an answer that the unrecognised doesn't have
 pub not-recognised : {A : Type 0} {n : ℕ} → Unrecognised ≡ Rows n → A
@@ -39,17 +39,17 @@ counts-open e k n gap = rw (gap, counts)
 
 module _ (e k n id first whole : ℕ) (c : List ℕ) (inside rest : Tree) where
   -- an element that fits no part
-  pub counts-nowhere : seek k id ≡ Nowhere → counts e k n (element id first whole c inside rest) ≡ Unrecognised
+  pub counts-nowhere : findLine k id ≡ Nowhere → counts e k n (element id first whole c inside rest) ≡ Unrecognised
   unfolding counts
   counts-nowhere missing = rw (missing, counts)
 
-  module _ (j : ℕ) (found : seek k id ≡ At j) where
+  module _ (j : ℕ) (found : findLine k id ≡ At j) where
     -- the count up to the end of the element's inside
     abbrev pub within : Recognition
     within = countsIn e (line j .inside) (n + rowsBy (line j)) inside
 
     -- an element that may not stand there
-    pub counts-wrong : stands e (line j) whole ≡ false → counts e k n (element id first whole c inside rest) ≡ Unrecognised
+    pub counts-wrong : mayStand e (line j) whole ≡ false → counts e k n (element id first whole c inside rest) ≡ Unrecognised
     unfolding counts
     counts-wrong wrong = rw (found, counts) (rw wrong)
 
@@ -57,25 +57,25 @@ module _ (e k n id first whole : ℕ) (c : List ℕ) (inside rest : Tree) where
     pub counts-breaks : (d : ℕ) → judged (line j .judge) (line j .next) c ≡ Breaks d
         → counts e k n (element id first whole c inside rest) ≡ Unrecognised
     unfolding counts
-    counts-breaks d breaks = go (stands e (line j) whole) refl
+    counts-breaks d breaks = go (mayStand e (line j) whole) refl
       where
-        go : (b : Bool) → stands e (line j) whole ≡ b → counts e k n (element id first whole c inside rest) ≡ Unrecognised
+        go : (b : Bool) → mayStand e (line j) whole ≡ b → counts e k n (element id first whole c inside rest) ≡ Unrecognised
         go false wrong = counts-wrong wrong
         go true good = rw (found, counts) (rw good (rw breaks))
 
     -- an element whose inside isn't recognised
     pub counts-none : within ≡ Unrecognised → counts e k n (element id first whole c inside rest) ≡ Unrecognised
     unfolding counts
-    counts-none nothing = go (stands e (line j) whole) refl (judged (line j .judge) (line j .next) c) refl
+    counts-none nothing = go (mayStand e (line j) whole) refl (judged (line j .judge) (line j .next) c) refl
       where
-        go : (b : Bool) → stands e (line j) whole ≡ b → (o : Onward) → judged (line j .judge) (line j .next) c ≡ o
+        go : (b : Bool) → mayStand e (line j) whole ≡ b → (o : Onward) → judged (line j .judge) (line j .next) c ≡ o
             → counts e k n (element id first whole c inside rest) ≡ Unrecognised
         go false wrong o is = counts-wrong wrong
         go true good (Breaks d) breaks = counts-breaks d breaks
         go true good (To next) onward = rw (found, counts) (rw good (rw onward (rw nothing)))
 
     -- an element that is recognised: the count goes on after it
-    pub counts-next : (next m : ℕ) → stands e (line j) whole ≡ true → judged (line j .judge) (line j .next) c ≡ To next → within ≡ Rows m
+    pub counts-next : (next m : ℕ) → mayStand e (line j) whole ≡ true → judged (line j .judge) (line j .next) c ≡ To next → within ≡ Rows m
         → counts e k n (element id first whole c inside rest) ≡ counts e next m rest
     unfolding counts
     counts-next next m good onward some = rw (found, counts) (rw good (rw onward (rw some)))

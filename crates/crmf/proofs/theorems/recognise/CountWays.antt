@@ -20,11 +20,11 @@ use Rattle.der.proofs.Laws.{tree-end, is-list-none, is-list-short, is-list-deep
 use Rattle.crmf.specs.declared.recognise.Recognition.{Recognition}
 use Rattle.crmf.specs.declared.recognise.Recognition.the-variants.{Rows, Unrecognised}
 use Rattle.crmf.specs.declared.grammar.judge.Onward.the-variants.{To, Breaks}
-use Rattle.crmf.specs.declared.grammar.table.Found.the-variants.{At, Nowhere}
+use Rattle.crmf.specs.declared.grammar.table.FoundLine.the-variants.{At, Nowhere}
 use Rattle.crmf.specs.meaning.Notation.{named}
-use Rattle.crmf.specs.steps.explain.Walk.{line, seek, closed, judged, rowsBy}
+use Rattle.crmf.specs.steps.explain.Walk.{line, findLine, closed, judged, rowsBy}
 use Rattle.crmf.specs.steps.rows.Fill.{filled}
-use Rattle.crmf.specs.steps.recognise.Count.{stands, counts, countsAt, quickCount, quickTable}
+use Rattle.crmf.specs.steps.recognise.Count.{mayStand, counts, countsAt, recognised, recognisedTable}
 use Rattle.crmf.specs.steps.recognise.Inner.{contentCount}
 use Rattle.crmf.proofs.theorems.lines.Search.{found-names}
 use Rattle.crmf.proofs.theorems.recognise.CountSteps.{not-recognised, countsIn}
@@ -33,16 +33,16 @@ use Rattle.crmf.proofs.theorems.recognise.Actions.{inside-constructed}
 
 -- an element's own nest, in the form of line j
 module _ (e j whole left n p id : ℕ) (c : List ℕ) (fits : named (line j .identifiers) id ≡ true) where
-  content-wrong : stands e (line j) whole ≡ false → contentCount e j whole left n p id c ≡ Unrecognised
+  content-wrong : mayStand e (line j) whole ≡ false → contentCount e j whole left n p id c ≡ Unrecognised
   unfolding contentCount
   content-wrong bad = rw (contentCount, bad)
 
   -- one with a fault isn't recognised
   content-fault : isElement id left c ≡ false → contentCount e j whole left n p id c ≡ Unrecognised
   unfolding contentCount countsAt
-  content-fault fault = go (stands e (line j) whole) refl (eqb (line j .inside) 0) refl
+  content-fault fault = go (mayStand e (line j) whole) refl (eqb (line j .inside) 0) refl
     where
-      go : (b : Bool) → stands e (line j) whole ≡ b → (f : Bool) → eqb (line j .inside) 0 ≡ f → contentCount e j whole left n p id c ≡ Unrecognised
+      go : (b : Bool) → mayStand e (line j) whole ≡ b → (f : Bool) → eqb (line j .inside) 0 ≡ f → contentCount e j whole left n p id c ≡ Unrecognised
       go false bad f test = content-wrong bad
       go true good true free = rw (contentCount, good, free, fault)
       go true good false lined =
@@ -51,7 +51,7 @@ module _ (e j whole left n p id : ℕ) (c : List ℕ) (fits : named (line j .ide
           rw (contentCount, good, lined, countsAt, same)
 
   -- and one without is what is inside it
-  content-sound : isElement id left c ≡ true → stands e (line j) whole ≡ true
+  content-sound : isElement id left c ≡ true → mayStand e (line j) whole ≡ true
       → contentCount e j whole left n p id c ≡ countsIn e (line j .inside) n (elim (constructed id) [ true ↦ tree p c | false ↦ none ])
   unfolding contentCount countsAt
   content-sound sound good = go (eqb (line j .inside) 0) refl
@@ -111,10 +111,10 @@ module _ (e left k n p : ℕ) (bs : List ℕ) (short : length bs ≤ longest) (m
       go true sound = let x = parts sound in rw (countsAt, sound, x .read) (nothing x)
 
   -- no line fits
-  pub at-nowhere : seek k id ≡ Nowhere → countsAt e (suc left) k n p bs ≡ Unrecognised
+  pub at-nowhere : findLine k id ≡ Nowhere → countsAt e (suc left) k n p bs ≡ Unrecognised
   at-nowhere missing = unrecognised-if (λ x. counts-nowhere e k n id p to content inside _ missing)
 
-  module _ (j : ℕ) (found : seek k id ≡ At j) where
+  module _ (j : ℕ) (found : findLine k id ≡ At j) where
     abbrev counted : Recognition
     counted = contentCount e j to left (n + rowsBy (line j)) (p + from) id content
 
@@ -127,9 +127,9 @@ module _ (e left k n p : ℕ) (bs : List ℕ) (short : length bs ≤ longest) (m
 
     -- the content isn't recognised
     pub at-nothing : counted ≡ Unrecognised → countsAt e (suc left) k n p bs ≡ Unrecognised
-    at-nothing nothing = unrecognised-if (λ x. go x (stands e (line j) to) refl)
+    at-nothing nothing = unrecognised-if (λ x. go x (mayStand e (line j) to) refl)
       where
-        go : Parts → (b : Bool) → stands e (line j) to ≡ b → counts e k n (element id p to content inside (tree (p + to) (drop to bs))) ≡ Unrecognised
+        go : Parts → (b : Bool) → mayStand e (line j) to ≡ b → counts e k n (element id p to content inside (tree (p + to) (drop to bs))) ≡ Unrecognised
         go x false bad = counts-wrong e k n id p to content inside _ j found bad
         go x true good =
             counts-none e k n id p to content inside _ j found
@@ -141,10 +141,10 @@ module _ (e left k n p : ℕ) (bs : List ℕ) (short : length bs ≤ longest) (m
     unfolding countsAt
     at-on next m some on = go (isList (suc left) bs) refl
       where
-        stood : stands e (line j) to ≡ true
-        stood = by (stands e (line j) to) refl
+        stood : mayStand e (line j) to ≡ true
+        stood = by (mayStand e (line j) to) refl
           where
-            by : (b : Bool) → stands e (line j) to ≡ b → stands e (line j) to ≡ true
+            by : (b : Bool) → mayStand e (line j) to ≡ b → mayStand e (line j) to ≡ true
             by true good = good
             by false bad = not-recognised (sym (content-wrong e j to left _ (p + from) id content fits bad) ∙ some)
 
@@ -182,19 +182,19 @@ unfolding countsAt
 at-deep e k n p bs more = rw (countsAt, is-list-deep bs more)
 
 -- a longer input isn't recognised
-pub too-long : (e : ℕ) (s : List ℕ) → longest < length s → quickCount e s ≡ Unrecognised
-unfolding quickCount countsAt
+pub too-long : (e : ℕ) (s : List ℕ) → longest < length s → recognised e s ≡ Unrecognised
+unfolding recognised countsAt
 too-long e s over = go (isList depth s) refl
   where
-    go : (b : Bool) → isList depth s ≡ b → quickCount e s ≡ Unrecognised
-    go false fault = rw (quickCount, countsAt, fault)
+    go : (b : Bool) → isList depth s ≡ b → recognised e s ≡ Unrecognised
+    go false fault = rw (recognised, countsAt, fault)
     go true sound = absurd (omega (arith, is-list-short depth s sound))
 
 -- the table that a reading leaves: as it was where the input isn't recognised, and else filled
-pub quick-stays : (e : ℕ) (s old : List ℕ) → quickCount e s ≡ Unrecognised → old ≡ quickTable e s old
-unfolding quickTable
-quick-stays e s old nothing = rw (quickTable, nothing)
+pub unrecognised-stays : (e : ℕ) (s old : List ℕ) → recognised e s ≡ Unrecognised → old ≡ recognisedTable e s old
+unfolding recognisedTable
+unrecognised-stays e s old nothing = rw (recognisedTable, nothing)
 
-pub quick-fills : (e : ℕ) (s old : List ℕ) (n : ℕ) → quickCount e s ≡ Rows n → filled s n old ≡ quickTable e s old
-unfolding quickTable
-quick-fills e s old n counted = rw (quickTable, counted)
+pub recognised-fills : (e : ℕ) (s old : List ℕ) (n : ℕ) → recognised e s ≡ Rows n → filled s n old ≡ recognisedTable e s old
+unfolding recognisedTable
+recognised-fills e s old n counted = rw (recognisedTable, counted)

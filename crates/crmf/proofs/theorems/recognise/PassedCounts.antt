@@ -17,9 +17,9 @@ use Rattle.crmf.specs.declared.explain.Walked.the-variants.{Passed}
 use Rattle.crmf.specs.meaning.Notation.{Top}
 use Rattle.crmf.specs.meaning.Rows.{firstLong}
 use Rattle.crmf.specs.steps.grammar.Lines.{start}
-use Rattle.crmf.specs.steps.explain.Walk.{line, rowsBy, met, walk, fresh}
-use Rattle.crmf.specs.steps.rows.Fill.{rowsOf}
-use Rattle.crmf.specs.steps.recognise.Count.{counts, countsAt, quickCount}
+use Rattle.crmf.specs.steps.explain.Walk.{line, rowsBy, withElement, walk, emptyTally}
+use Rattle.crmf.specs.steps.rows.Fill.{rowsOfInput}
+use Rattle.crmf.specs.steps.recognise.Count.{counts, countsAt, recognised}
 use Rattle.crmf.proofs.theorems.recognise.CountSteps.{countsIn, counts-closed, counts-next}
 use Rattle.crmf.proofs.theorems.explain.Passing.{Chosen, innerWalk, inner-walked, passed-element, passed-none}
 use Rattle.crmf.proofs.theorems.explain.LongIds.{rows-long, walk-short, inner-short, met-short}
@@ -58,7 +58,7 @@ counts-element e id first whole c inside rest inner later s r k around n passed 
     go : Chosen (own e) s k around id first whole c inside rest r → (j : ℕ) × (counts e k n (element id first whole c inside rest) ≡ Rows j)
     go f =
         let x = line (f .at) in
-        let m = met x first whole s in
+        let m = withElement x first whole s in
         let later-short = walk-short (own e) rest (f .seen) r (f .next) around (f .further) short in
         let own-short = met-short x first whole s (inner-short (own e) m (f .seen) (x .inside) first inside (f .inner) later-short) in
         let (i, within) = counts-within e inside inner m (f .seen) (x .inside) first (n + rowsBy x) (f .inner) later-short in
@@ -72,13 +72,13 @@ walk-counted e (element id first whole c inside rest) =
     counts-element e id first whole c inside rest (walk-counted e inside) (walk-counted e rest)
 
 -- An input is recognised, where it is one element without a fault, the edition's own walk passes, and none of its rows is a long certReqId.
-pub walk-quick : (e : ℕ) (s : List ℕ) → walkAt s 0 (length s) ≡ End (length s) → (r : Tally)
-    → walk (λ x. eqb x e) fresh (start Top) 0 (tree 0 s) ≡ Passed r → firstLong (0, 0) (rowsOf s) .0 ≡ 0 → (n : ℕ) × (quickCount e s ≡ Rows n)
-unfolding quickCount countsAt fresh
-walk-quick e s ends r passed short =
+pub walk-recognised : (e : ℕ) (s : List ℕ) → walkAt s 0 (length s) ≡ End (length s) → (r : Tally)
+    → walk (λ x. eqb x e) emptyTally (start Top) 0 (tree 0 s) ≡ Passed r → firstLong (0, 0) (rowsOfInput s) .0 ≡ 0 → (n : ℕ) × (recognised e s ≡ Rows n)
+unfolding recognised countsAt emptyTally
+walk-recognised e s ends r passed short =
     let sound = single-is-list s ends in
-    let met-long = ap (firstLong (0, 0)) (rows-whole s (is-list-short depth s sound)) ∙ rows-long (own e) (tree 0 s) fresh r (start Top) 0 0 0 0 0 passed in
+    let met-long = ap (firstLong (0, 0)) (rows-whole s (is-list-short depth s sound)) ∙ rows-long (own e) (tree 0 s) emptyTally r (start Top) 0 0 0 0 0 passed in
     let none-long : r .long .whole ≡ 0 = sym (ap (λ (h : ℕ × ℕ). h .0) met-long) ∙ short in
-    let same : quickCount e s ≡ counts e (start Top) 0 (tree 0 s) = rw (quickCount, countsAt, sound) in
-    let (n, counted) = walk-counted e (tree 0 s) fresh r (start Top) 0 0 passed none-long in
+    let same : recognised e s ≡ counts e (start Top) 0 (tree 0 s) = rw (recognised, countsAt, sound) in
+    let (n, counted) = walk-counted e (tree 0 s) emptyTally r (start Top) 0 0 passed none-long in
     (n, same ∙ counted)

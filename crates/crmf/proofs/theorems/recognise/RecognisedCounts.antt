@@ -22,15 +22,15 @@ use Rattle.crmf.specs.declared.explain.Walked.{Walked}
 use Rattle.crmf.specs.declared.explain.Walked.the-variants.{Passed}
 use Rattle.crmf.specs.declared.grammar.judge.Onward.{Onward}
 use Rattle.crmf.specs.declared.grammar.judge.Onward.the-variants.{To, Breaks}
-use Rattle.crmf.specs.declared.grammar.table.Found.{Found}
-use Rattle.crmf.specs.declared.grammar.table.Found.the-variants.{At, Nowhere}
+use Rattle.crmf.specs.declared.grammar.table.FoundLine.{FoundLine}
+use Rattle.crmf.specs.declared.grammar.table.FoundLine.the-variants.{At, Nowhere}
 use Rattle.crmf.specs.meaning.Notation.{Mark, both, alone, Top, Form, once, part}
 use Rattle.crmf.specs.meaning.Grammar.{content}
 use Rattle.crmf.specs.meaning.Language.{readable, occurs, Matches, end, pass, take}
 use Rattle.crmf.specs.meaning.Rows.{longId, longer}
 use Rattle.crmf.specs.steps.grammar.Lines.{Line, start}
-use Rattle.crmf.specs.steps.explain.Walk.{line, seek, closed, judged, rowsBy, met, walk, fresh, countOf}
-use Rattle.crmf.specs.steps.recognise.Count.{stands, counts, countsAt, quickCount}
+use Rattle.crmf.specs.steps.explain.Walk.{line, findLine, closed, judged, rowsBy, withElement, walk, emptyTally, countOf}
+use Rattle.crmf.specs.steps.recognise.Count.{mayStand, counts, countsAt, recognised}
 use Rattle.crmf.proofs.theorems.recognise.CountSteps.{not-recognised, same-rows, countsIn, within}
 use Rattle.crmf.proofs.theorems.recognise.CountSteps.{counts-closed, counts-open, counts-nowhere, counts-wrong, counts-breaks, counts-none, counts-next}
 use Rattle.crmf.proofs.theorems.explain.Passing.{innerWalk, walk-closed, walk-next}
@@ -46,8 +46,8 @@ use Rattle.crmf.proofs.theorems.explain.WholeInput.{count-whole}
 -- What the count found for the first of elements that are recognised: its line, the rows up to its end, and the line after it.
 record FirstCounted (e k n id first whole : ℕ) (c : List ℕ) (inside rest : Tree) : Type 0 where
   at : ℕ
-  found : seek k id ≡ At at
-  standing : stands e (line at) whole ≡ true
+  found : findLine k id ≡ At at
+  standing : mayStand e (line at) whole ≡ true
   rows : ℕ
   within : countsIn e (line at .inside) (n + rowsBy (line at)) inside ≡ Rows rows
   next : ℕ
@@ -57,12 +57,12 @@ record FirstCounted (e k n id first whole : ℕ) (c : List ℕ) (inside rest : T
 module _ (e k n id first whole : ℕ) (c : List ℕ) (inside rest : Tree) where
   -- Of elements that are recognised, the first has a line in whose form it may stand, an inside that is recognised, and a good value.
   counted-element : (r : ℕ) → counts e k n (element id first whole c inside rest) ≡ Rows r → FirstCounted e k n id first whole c inside rest
-  counted-element r some = by-line (seek k id) refl
+  counted-element r some = by-line (findLine k id) refl
     where
       no : counts e k n (element id first whole c inside rest) ≡ Unrecognised → FirstCounted e k n id first whole c inside rest
       no nothing = not-recognised (sym nothing ∙ some)
 
-      by-inside : (j : ℕ) → (found : seek k id ≡ At j) → stands e (line j) whole ≡ true → (next : ℕ) → judged (line j .judge) (line j .next) c ≡ To next
+      by-inside : (j : ℕ) → (found : findLine k id ≡ At j) → mayStand e (line j) whole ≡ true → (next : ℕ) → judged (line j .judge) (line j .next) c ≡ To next
           → (m : Recognition) → within e k n id first whole c inside rest j found ≡ m → FirstCounted e k n id first whole c inside rest
       by-inside j found good next onward Unrecognised nothing = no (counts-none e k n id first whole c inside rest j found nothing)
       by-inside j found good next onward (Rows m) inner =
@@ -77,18 +77,18 @@ module _ (e k n id first whole : ℕ) (c : List ℕ) (inside rest : Tree) where
             same = counts-next e k n id first whole c inside rest j found next m good onward inner;
           }
 
-      by-onward : (j : ℕ) → (found : seek k id ≡ At j) → stands e (line j) whole ≡ true → (o : Onward) → judged (line j .judge) (line j .next) c ≡ o
+      by-onward : (j : ℕ) → (found : findLine k id ≡ At j) → mayStand e (line j) whole ≡ true → (o : Onward) → judged (line j .judge) (line j .next) c ≡ o
           → FirstCounted e k n id first whole c inside rest
       by-onward j found good (Breaks d) breaks = no (counts-breaks e k n id first whole c inside rest j found d breaks)
       by-onward j found good (To next) onward = by-inside j found good next onward (within e k n id first whole c inside rest j found) refl
 
-      by-test : (j : ℕ) → (found : seek k id ≡ At j) → (b : Bool) → stands e (line j) whole ≡ b → FirstCounted e k n id first whole c inside rest
+      by-test : (j : ℕ) → (found : findLine k id ≡ At j) → (b : Bool) → mayStand e (line j) whole ≡ b → FirstCounted e k n id first whole c inside rest
       by-test j found false wrong = no (counts-wrong e k n id first whole c inside rest j found wrong)
       by-test j found true good = by-onward j found good (judged (line j .judge) (line j .next) c) refl
 
-      by-line : (f : Found) → seek k id ≡ f → FirstCounted e k n id first whole c inside rest
+      by-line : (f : FoundLine) → findLine k id ≡ f → FirstCounted e k n id first whole c inside rest
       by-line Nowhere missing = no (counts-nowhere e k n id first whole c inside rest missing)
-      by-line (At j) found = by-test j found (stands e (line j) whole) refl
+      by-line (At j) found = by-test j found (mayStand e (line j) whole) refl
 
 -- a form that an edition reads leaves what is known of the other's
 own-after : {e : ℕ} → Edition e → (h : ℕ × ℕ) (m : Mark) (p : ℕ) → readable (λ y. eqb y e) m ≡ true → after (other e) h (occurs m p) ≡ h
@@ -112,7 +112,7 @@ abbrev Goes : ℕ → ℕ → ℕ → Tally → Walked → Type 0
 Goes e n m s w = (r : Tally) × (w ≡ Passed r) × Adds e n m s r
 
 -- an element that may stand in a line's form, met
-adds-met : {e : ℕ} → Edition e → (x : Line) (p w n : ℕ) (s : Tally) → stands e x w ≡ true → Adds e n (n + rowsBy x) s (met x p w s)
+adds-met : {e : ℕ} → Edition e → (x : Line) (p w n : ℕ) (s : Tally) → mayStand e x w ≡ true → Adds e n (n + rowsBy x) s (withElement x p w s)
 adds-met {e} ed x p w n s standing =
     let good = and-eq-true-iff (readable (λ y. eqb y e) (x .mark)) (not (longId (x .kind) w)) .0 standing in
     let unmet : longer (s .long .whole, s .long .place) (x .kind) p w ≡ (s .long .whole, s .long .place) = rw (longer, not-true (longId (x .kind) w) (good .1)) in
@@ -168,7 +168,7 @@ walks-element {e} ed id first whole c inside rest inner later s k around n total
     go f =
         let x = line (f .at) in
         let own = n + rowsBy x in
-        let m = met x first whole s in
+        let m = withElement x first whole s in
         let (i, is, within) = goes-within e m (x .inside) first own inside (f .rows) (inner m (x .inside) first own (f .rows)) (f .within) in
         let (r, passed, after-it) = later i (f .next) around (f .rows) total (sym (f .same) ∙ some) in (
           r,
@@ -196,17 +196,17 @@ one-matched (take f among fits read kept within m) = single-element _ _ _ _ _ _ 
 counts-single : {e : ℕ} → Edition e → (n m : ℕ) (t : Tree) → counts e (start Top) n t ≡ Rows m → Single t
 unfolding content
 counts-single ed n m t some =
-    let (r, passed, more) = counts-walk ed t fresh (start Top) 0 n m some in
-    one-matched (accepts-sound all fresh r Top 0 t passed)
+    let (r, passed, more) = counts-walk ed t emptyTally (start Top) 0 n m some in
+    one-matched (accepts-sound all emptyTally r Top 0 t passed)
 
 -- an input that is recognised has no fault in its nest
-quick-sound : (e n : ℕ) (s : List ℕ) → quickCount e s ≡ Rows n → (isList depth s ≡ true) × (counts e (start Top) 0 (tree 0 s) ≡ Rows n)
-unfolding quickCount countsAt
-quick-sound e n s is = go (isList depth s) refl
+recognised-sound : (e n : ℕ) (s : List ℕ) → recognised e s ≡ Rows n → (isList depth s ≡ true) × (counts e (start Top) 0 (tree 0 s) ≡ Rows n)
+unfolding recognised countsAt
+recognised-sound e n s is = go (isList depth s) refl
   where
     go : (b : Bool) → isList depth s ≡ b → (isList depth s ≡ true) × (counts e (start Top) 0 (tree 0 s) ≡ Rows n)
-    go true sound = (sound, sym (rw (quickCount, countsAt, sound)) ∙ is)
-    go false faulty = let nothing : quickCount e s ≡ Unrecognised = rw (quickCount, countsAt, faulty) in not-recognised (sym nothing ∙ is)
+    go true sound = (sound, sym (rw (recognised, countsAt, sound)) ∙ is)
+    go false faulty = let nothing : recognised e s ≡ Unrecognised = rw (recognised, countsAt, faulty) in not-recognised (sym nothing ∙ is)
 
 -- What the recogniser says of an input with n rows: it is one element that is not too long, without a fault in its nest, and the walk
 -- that reads every form passes with as many rows, no long certReqId and no form of the other edition.
@@ -220,17 +220,17 @@ pub record Quick (e : ℕ) (s : List ℕ) (n : ℕ) : Type 0 where
   pub clear : firstSeen (other e) seen .0 ≡ 0
 
 -- At first no form of the other edition was met.
-pub none-met : {e : ℕ} → Edition e → firstSeen (other e) fresh .0 ≡ 0
-unfolding fresh
+pub none-met : {e : ℕ} → Edition e → firstSeen (other e) emptyTally .0 ≡ 0
+unfolding emptyTally
 none-met first-edition = refl
 none-met second-edition = refl
 
 -- An input that is recognised with n rows is such an input.
-pub quick-walk : {e : ℕ} → Edition e → (s : List ℕ) (n : ℕ) → quickCount e s ≡ Rows n → Quick e s n
-unfolding fresh
-quick-walk {e} ed s n is =
-    let (sound, counted) = quick-sound e n s is in
-    let (r, passed, g) = counts-walk ed (tree 0 s) fresh (start Top) 0 0 n counted in
+pub recognised-walk : {e : ℕ} → Edition e → (s : List ℕ) (n : ℕ) → recognised e s ≡ Rows n → Quick e s n
+unfolding emptyTally
+recognised-walk {e} ed s n is =
+    let (sound, counted) = recognised-sound e n s is in
+    let (r, passed, g) = counts-walk ed (tree 0 s) emptyTally (start Top) 0 0 n counted in
     let fits = is-list-short depth s sound in
     record {
       fits = fits;

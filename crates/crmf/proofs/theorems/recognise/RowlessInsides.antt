@@ -19,21 +19,21 @@ use Rattle.der.specs.steps.Recognise.{isElement}
 use Rattle.der.proofs.Laws.{span-fits, is-element-value, holds-object-identifier, holds-bit-string, constructed-octet, known-allowed, take-slice, take-from}
 use Rattle.crmf.specs.declared.recognise.Recognition.the-variants.{Rows}
 use Rattle.crmf.specs.declared.grammar.judge.Onward.the-variants.{To}
-use Rattle.crmf.specs.declared.grammar.table.Found.the-variants.{At}
+use Rattle.crmf.specs.declared.grammar.table.FoundLine.the-variants.{At}
 use Rattle.crmf.specs.meaning.Value.{keeps}
 use Rattle.crmf.specs.meaning.Notation.{named, Name, AlgId, Spki, OneName, RdnSequence, Rdn, Attribute}
 use Rattle.crmf.specs.meaning.Grammar as grammar
 use Rattle.crmf.specs.steps.grammar.Lines.{start, size}
-use Rattle.crmf.specs.steps.explain.Walk.{line, seekIn, seek, closedIn, closed, judged, rowsBy}
-use Rattle.crmf.specs.steps.recognise.Count.{stands, countsAt}
+use Rattle.crmf.specs.steps.explain.Walk.{line, findLineIn, findLine, closedIn, closed, judged, rowsBy}
+use Rattle.crmf.specs.steps.recognise.Count.{mayStand, countsAt}
 use Rattle.crmf.specs.steps.recognise.Inner.{contentCount, RowlessFrom, Leading, Sole}
 use Rattle.crmf.proofs.theorems.lines.WordFields.{computed}
 use Rattle.crmf.proofs.theorems.recognise.CountWays.{at-on, at-end}
 
 -- A line that an identifier leads to from a line on: of every edition, without a row, with the lines inside it and the line after it.
 record RowlessLine (k id j within next : ℕ) : Type 0 where
-  found : seek k id ≡ At j
-  stood : (e whole : ℕ) → stands e (line j) whole ≡ true
+  found : findLine k id ≡ At j
+  stood : (e whole : ℕ) → mayStand e (line j) whole ≡ true
   rowless : rowsBy (line j) ≡ 0
   inside : line j .inside ≡ within
   goes : (c : List ℕ) → judged (line j .judge) (line j .next) c ≡ To next
@@ -80,42 +80,42 @@ module _ (bs : List ℕ) (short : length bs ≤ longest) (some-octets : spanOf b
 
 -- The lines of the small containers, by the identifiers of their elements. An AlgorithmIdentifier's OBJECT IDENTIFIER and value.
 alg-id-type : RowlessLine (start AlgId) 0x06 34 0 (suc (start AlgId))
-unfolding computed line seek seekIn named judged keeps
+unfolding computed line findLine findLineIn named judged keeps
 alg-id-type = record { found = refl; stood = λ e whole. refl; rowless = refl; inside = refl; goes = λ c. refl }
 
 alg-id-value : (id : ℕ) → RowlessLine (suc (start AlgId)) id 35 0 36
-unfolding computed line seek seekIn named judged keeps
+unfolding computed line findLine findLineIn named judged keeps
 alg-id-value id = record { found = refl; stood = λ e whole. refl; rowless = refl; inside = refl; goes = λ c. refl }
 
 -- an AttributeTypeAndValue's OBJECT IDENTIFIER and value
 attribute-type : RowlessLine (start Attribute) 0x06 47 0 (suc (start Attribute))
-unfolding computed line seek seekIn named judged keeps
+unfolding computed line findLine findLineIn named judged keeps
 attribute-type = record { found = refl; stood = λ e whole. refl; rowless = refl; inside = refl; goes = λ c. refl }
 
 attribute-value : (id : ℕ) → RowlessLine (suc (start Attribute)) id 48 0 49
-unfolding computed line seek seekIn named judged keeps
+unfolding computed line findLine findLineIn named judged keeps
 attribute-value id = record { found = refl; stood = λ e whole. refl; rowless = refl; inside = refl; goes = λ c. refl }
 
 -- an AttributeTypeAndValue in a RelativeDistinguishedName, that in an RDNSequence, and that in a Name
 rdn-attribute : RowlessLine (start Rdn) 0x30 44 (start Attribute) 45
-unfolding computed line seek seekIn named judged keeps
+unfolding computed line findLine findLineIn named judged keeps
 rdn-attribute = record { found = refl; stood = λ e whole. refl; rowless = refl; inside = refl; goes = λ c. refl }
 
 sequence-rdn : RowlessLine (start RdnSequence) 0x31 42 (start Rdn) (start RdnSequence)
-unfolding computed line seek seekIn named judged keeps
+unfolding computed line findLine findLineIn named judged keeps
 sequence-rdn = record { found = refl; stood = λ e whole. refl; rowless = refl; inside = refl; goes = λ c. refl }
 
 name-sequence : RowlessLine (start OneName) 0x30 40 (start RdnSequence) 41
-unfolding computed line seek seekIn named judged keeps
+unfolding computed line findLine findLineIn named judged keeps
 name-sequence = record { found = refl; stood = λ e whole. refl; rowless = refl; inside = refl; goes = λ c. refl }
 
 -- a SubjectPublicKeyInfo's AlgorithmIdentifier and BIT STRING
 key-alg-id : RowlessLine (start Spki) 0x30 37 (start AlgId) (suc (start Spki))
-unfolding computed line seek seekIn named judged keeps
+unfolding computed line findLine findLineIn named judged keeps
 key-alg-id = record { found = refl; stood = λ e whole. refl; rowless = refl; inside = refl; goes = λ c. refl }
 
 key-bits : RowlessLine (suc (start Spki)) 0x03 38 0 39
-unfolding computed line seek seekIn named judged keeps
+unfolding computed line findLine findLineIn named judged keeps
 key-bits = record { found = refl; stood = λ e whole. refl; rowless = refl; inside = refl; goes = λ c. refl }
 
 -- An OBJECT IDENTIFIER and a BIT STRING have no fault, whatever levels are left.

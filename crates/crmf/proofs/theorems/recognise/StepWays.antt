@@ -26,7 +26,7 @@ use Rattle.crmf.specs.meaning.Rows.{longId}
 use Rattle.crmf.specs.steps.grammar.Lines.{keep, start}
 use Rattle.crmf.specs.steps.grammar.Packed.{markCode, actionOf}
 use Rattle.crmf.specs.steps.explain.Walk.{line, judged, ruleDetail}
-use Rattle.crmf.specs.steps.recognise.Count.{stands, countsAt}
+use Rattle.crmf.specs.steps.recognise.Count.{mayStand, countsAt}
 use Rattle.crmf.specs.steps.recognise.Inner.{contentCount, ruledCount, Sized, VisitJustified, RowlessFrom}
 use Rattle.crmf.proofs.theorems.lines.WordFields.{computed, at-line}
 use Rattle.crmf.proofs.theorems.recognise.Actions.{Plain, plain-names, Asked, id-kind, Opens}
@@ -58,15 +58,15 @@ pub reads : (k code e : ℕ) → markCode (line k .mark) ≡ code → readable (
 reads k code e coded = by-code (line k .mark) code e (sure-at k) coded
 
 -- an element of a line that isn't a certReqId's stands there where the line's mark is read
-pub stands-by : (e k whole : ℕ) → eqb (line k .kind) kinds.certReqId ≡ false → stands e (line k) whole ≡ readable (λ y. eqb y e) (line k .mark)
+pub stands-by : (e k whole : ℕ) → eqb (line k .kind) kinds.certReqId ≡ false → mayStand e (line k) whole ≡ readable (λ y. eqb y e) (line k .mark)
 stands-by e k whole short = rw short (and-true _)
 
 -- and of a line of both editions by its kind and its length
-stands-common : (e k whole : ℕ) → line k .mark ≡ both → (b : Bool) → longId (line k .kind) whole ≡ b → stands e (line k) whole ≡ not b
+stands-common : (e k whole : ℕ) → line k .mark ≡ both → (b : Bool) → longId (line k .kind) whole ≡ b → mayStand e (line k) whole ≡ not b
 stands-common e k whole common b long = ap₂ _&&_ (ap (readable (λ y. eqb y e)) common) (ap not long)
 
 -- so it stands in a line of both editions whose action isn't a certReqId's
-pub stands-at : (e k whole a : ℕ) → line k .mark ≡ both → actionOf (line k) ≡ a → eqb a codes.takeCertReqId ≡ false → stands e (line k) whole ≡ true
+pub stands-at : (e k whole a : ℕ) → line k .mark ≡ both → actionOf (line k) ≡ a → eqb a codes.takeCertReqId ≡ false → mayStand e (line k) whole ≡ true
 stands-at e k whole a common is other =
     stands-by e k whole (id-kind k ∙ ap (λ (x : ℕ). eqb x codes.takeCertReqId) is ∙ other) ∙ ap (readable (λ y. eqb y e)) common
 
@@ -96,11 +96,11 @@ module _ (e k whole left id : ℕ) (c : List ℕ) where
       go (Breaks d) breaks = rw (ruledCount, breaks)
 
   -- it may not stand there
-  pub refuse-wrong : stands e (line k) whole ≡ false → VisitJustified e k whole left id c Refuse
+  pub refuse-wrong : mayStand e (line k) whole ≡ false → VisitJustified e k whole left id c Refuse
   unfolding contentCount
   refuse-wrong wrong = refuse-content (λ n p. rw (contentCount, wrong))
 
-  module _ (good : stands e (line k) whole ≡ true) (next : ℕ) where
+  module _ (good : mayStand e (line k) whole ≡ true) (next : ℕ) where
     -- a content with lines of its own
     pub descend : says ≡ To next → eqb (line k .inside) 0 ≡ false → VisitJustified e k whole left id c (Descend next)
     unfolding contentCount

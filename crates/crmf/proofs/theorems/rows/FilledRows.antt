@@ -16,9 +16,9 @@ use Rattle.crmf.specs.declared.explain.Walked.the-variants.{Passed}
 use Rattle.crmf.specs.meaning.Notation.{Top}
 use Rattle.crmf.specs.meaning.Grammar.{content}
 use Rattle.crmf.specs.meaning.Language.{Matches}
-use Rattle.crmf.specs.steps.explain.Walk.{every, fresh, countOf}
+use Rattle.crmf.specs.steps.explain.Walk.{every, emptyTally, countOf}
 use Rattle.crmf.specs.meaning.Rows.{Row, width, numbers, batchRows}
-use Rattle.crmf.specs.steps.rows.Fill.{written, fits, rowsOf, filled}
+use Rattle.crmf.specs.steps.rows.Fill.{written, fits, rowsOfInput, filled}
 use Rattle.crmf.specs.meaning.Lists.{over}
 use Rattle.crmf.proofs.theorems.rows.RowsOfLines.{rows-lines, walk-counts}
 use Rattle.crmf.proofs.theorems.rows.Writing.{numbers-length, length-over}
@@ -63,17 +63,17 @@ over-holds old rs room =
 
 module _ (s : List ℕ) (short : length s ≤ longest) {R : ℕ → Bool} (m : Matches R (content Top) (tree 0 s)) where
   -- The rows that filling finds in a batch are those of any derivation.
-  pub rows-of : rowsOf s ≡ batchRows m
-  unfolding rowsOf batchRows
-  rows-of = rw (rowsOf, le-leb _ _ short) (rows-lines Top m 0 0 0 0)
+  pub rows-of : rowsOfInput s ≡ batchRows m
+  unfolding rowsOfInput batchRows
+  rows-of = rw (rowsOfInput, le-leb _ _ short) (rows-lines Top m 0 0 0 0)
 
   module _ (r : Tally) (passed : countOf s ≡ Passed r) where
     -- They are as many as counting answers.
     pub rows-counted : length (batchRows m) ≡ r .count
-    unfolding countOf fresh batchRows
+    unfolding countOf emptyTally batchRows
     rows-counted =
         let walked = rw (countOf, le-leb _ _ short) at passed in
-        omega (arith, walk-counts every Top m fresh r 0 0 0 0 0 walked)
+        omega (arith, walk-counts every Top m emptyTally r 0 0 0 0 0 walked)
 
     -- With room for them the table then holds these rows, and its other numbers are as they were.
     pub filled-rows : (old : List ℕ) → fits (r .count) old ≡ true → Holds (batchRows m) (r .count) old (filled s (r .count) old)
@@ -90,6 +90,6 @@ unfolding filled
 filled-short s count old few = rw (filled, few)
 
 -- With room for all of an input's rows they are written into the first numbers, and the others stay.
-pub filled-whole : (s old : List ℕ) → fits (length (rowsOf s)) old ≡ true → filled s (length (rowsOf s)) old ≡ over old 0 (numbers (rowsOf s))
+pub filled-whole : (s old : List ℕ) → fits (length (rowsOfInput s)) old ≡ true → filled s (length (rowsOfInput s)) old ≡ over old 0 (numbers (rowsOfInput s))
 unfolding filled
-filled-whole s old room = rw (filled, room) (written-all old (length (rowsOf s)) (rowsOf s) refl (leb-true _ _ (sym (fits-room (length (rowsOf s)) old) ∙ room)) .whole)
+filled-whole s old room = rw (filled, room) (written-all old (length (rowsOfInput s)) (rowsOfInput s) refl (leb-true _ _ (sym (fits-room (length (rowsOfInput s)) old) ∙ room)) .whole)

@@ -12,9 +12,9 @@ use Rattle.crmf.specs.meaning.Lists.{same, over}
 use Rattle.crmf.specs.meaning.Notation.{among, named, order}
 use Rattle.crmf.specs.meaning.Grammar.{content}
 use Rattle.crmf.specs.steps.grammar.Lines.{partSize, size, startsFrom, start, insideLine, passOf, formLines, nextLine, wayLine, partLines, containerLines, linesFrom, lines}
-use Rattle.crmf.specs.steps.explain.Walk.{line, seekIn, seek}
+use Rattle.crmf.specs.steps.explain.Walk.{line, findLineIn, findLine}
 use Rattle.crmf.specs.meaning.Rows.{numbers}
-use Rattle.crmf.specs.steps.rows.Fill.{goes, rowsFrom, rowsOf, fits, filled}
+use Rattle.crmf.specs.steps.rows.Fill.{goes, rowsFrom, rowsOfInput, fits, filled}
 
 -- A batch, its octets as the digits of a number, and the numbers of its rows.
 record Example : Type 0 where
@@ -30,7 +30,7 @@ batch bs = base256 128 bs
 
 -- the rows have these numbers
 abbrev Shows : Example → Type 0
-Shows e = numbers (rowsOf (batch (e .octets))) ≡ e .table
+Shows e = numbers (rowsOfInput (batch (e .octets))) ≡ e .table
 
 -- the rows of a message at 2 with an empty template, where it and the batch have such whole lengths
 abbrev first : ℕ → ℕ → List ℕ
@@ -70,7 +70,7 @@ worked : Each Shows examples
 unfolding tagNumber constructed allowed valueFrom shortest longForm lengthOf base256 sizedBy headOf
     nothingAt given read treeOf tree same number typeNumber selected among named order content
     partSize size startsFrom start insideLine passOf formLines nextLine wayLine partLines containerLines linesFrom lines
-    line seekIn seek goes rowsFrom rowsOf numbers
+    line findLineIn findLine goes rowsFrom rowsOfInput numbers
 worked = (refl, (refl, (refl, (refl, (refl, (refl, (refl, (refl, tt))))))))
 
 -- a table of one number, so many times, and behind it others
@@ -83,5 +83,5 @@ tables : map (filled (batch 0x3009300730050201003000) 5) (before [] ∷ before (
 unfolding tagNumber constructed allowed valueFrom shortest longForm lengthOf base256 sizedBy headOf
     nothingAt given read treeOf tree same number typeNumber selected among named order content
     partSize size startsFrom start insideLine passOf formLines nextLine wayLine partLines containerLines linesFrom lines
-    line seekIn seek goes rowsFrom rowsOf numbers over fits filled
+    line findLineIn findLine goes rowsFrom rowsOfInput numbers over fits filled
 tables = refl

@@ -8,14 +8,14 @@ use borrow.Author.Tests.{eqb-true, ltb-true, not-true}
 use lib.Dec.{eqb, ltb}
 use Rattle.der.specs.meaning.Tree.{Tree, none, element}
 use Rattle.crmf.specs.declared.rows.Around.{Around}
-use Rattle.crmf.specs.declared.grammar.table.Found.{Found}
-use Rattle.crmf.specs.declared.grammar.table.Found.the-variants.{At, Nowhere}
+use Rattle.crmf.specs.declared.grammar.table.FoundLine.{FoundLine}
+use Rattle.crmf.specs.declared.grammar.table.FoundLine.the-variants.{At, Nowhere}
 use Rattle.crmf.specs.steps.grammar.Codes as codes
 use Rattle.crmf.specs.meaning.Notation.{among, Name, Time, AlgId, Spki, OneName, RdnSequence, Rdn, Attribute, Extension}
 use Rattle.crmf.specs.meaning.Grammar.{content}
 use Rattle.crmf.specs.steps.grammar.Lines.{start, size}
 use Rattle.crmf.specs.steps.grammar.Packed.{judgeCode}
-use Rattle.crmf.specs.steps.explain.Walk.{line, goesOn, seek}
+use Rattle.crmf.specs.steps.explain.Walk.{line, goesOn, findLine}
 use Rattle.crmf.specs.meaning.Rows.{Row}
 use Rattle.crmf.specs.steps.rows.Fill.{goes, rowsFrom, innerRows, rowless}
 use Rattle.crmf.proofs.theorems.lists.Tests.{all, all-among, either}
@@ -85,14 +85,14 @@ quiet-rows : (t : Tree) (k n up place whole : ℕ) → among quiet k ≡ true �
 unfolding rowsFrom
 quiet-rows none k n up place whole q = refl
 quiet-rows (element id p w c inside rest) k n up place whole q =
-    go (seek k id) refl (λ j i u. quiet-rows inside j i u p w) (λ j i. quiet-rows rest j i up place whole)
+    go (findLine k id) refl (λ j i u. quiet-rows inside j i u p w) (λ j i. quiet-rows rest j i up place whole)
   where
     within : (i : ℕ) → among quiet i ≡ true → ((j m u : ℕ) → among quiet j ≡ true → rowsFrom j inside m u p w ≡ [])
         → (b : Bool) → eqb i 0 ≡ b → (m u : ℕ) → rowsWithin i inside m u p w ≡ []
     within i s inner true e m u = inner-no-rows i inside m u p w e
     within i s inner false e m u = inner-rows i inside m u p w e ∙ inner i m u s
 
-    go : (r : Found) → seek k id ≡ r → ((j m u : ℕ) → among quiet j ≡ true → rowsFrom j inside m u p w ≡ [])
+    go : (r : FoundLine) → findLine k id ≡ r → ((j m u : ℕ) → among quiet j ≡ true → rowsFrom j inside m u p w ≡ [])
         → ((j m : ℕ) → among quiet j ≡ true → rowsFrom j rest m up place whole ≡ []) → rowsFrom k (element id p w c inside rest) n up place whole ≡ []
     go Nowhere e inner behind = rows-nowhere k id p w c inside rest n up place whole e
     go (At m) e inner behind =

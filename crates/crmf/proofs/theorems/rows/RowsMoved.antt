@@ -7,13 +7,13 @@ use lib.Dec.{eqb}
 use lib.ListN.{length-map}
 use Rattle.der.specs.meaning.Tree.{Tree, none, element, moved}
 use Rattle.der.proofs.Laws.{moved-none, moved-element}
-use Rattle.crmf.specs.declared.grammar.table.Found.{Found}
-use Rattle.crmf.specs.declared.grammar.table.Found.the-variants.{At, Nowhere}
+use Rattle.crmf.specs.declared.grammar.table.FoundLine.{FoundLine}
+use Rattle.crmf.specs.declared.grammar.table.FoundLine.the-variants.{At, Nowhere}
 use Rattle.crmf.specs.meaning.Notation.{Name, Inside, Part, part, select}
 use Rattle.crmf.specs.meaning.Grammar.{content}
 use Rattle.crmf.specs.meaning.Language.{Matches, end, pass, take, choose, Within, unseen, parts}
 use Rattle.crmf.specs.steps.grammar.Lines.{start}
-use Rattle.crmf.specs.steps.explain.Walk.{line, seek}
+use Rattle.crmf.specs.steps.explain.Walk.{line, findLine}
 use Rattle.crmf.specs.meaning.Rows.{Row, rowIf, rows}
 use Rattle.crmf.specs.steps.rows.Fill.{goes, rowsFrom}
 use Rattle.crmf.proofs.theorems.rows.RowsOfLines.{rowsOne, rowsWithin, inner-no-rows, inner-rows, rows-nowhere, rows-found, row-none, row-own, rows-lines}
@@ -57,11 +57,11 @@ unfolding rowsFrom
 rows-from-moved d none k n up place whole = ap (λ (t : Tree). rowsFrom k t n up (d + place) whole) (moved-none d)
 rows-from-moved d (element id p w c inside rest) k n up place whole =
     ap (λ (t : Tree). rowsFrom k t n up (d + place) whole) (moved-element d id p w c inside rest)
-    ∙ go (λ i j u. rows-from-moved d inside i j u p w) (λ i j. rows-from-moved d rest i j up place whole) (seek k id) refl
+    ∙ go (λ i j u. rows-from-moved d inside i j u p w) (λ i j. rows-from-moved d rest i j up place whole) (findLine k id) refl
   where
     go : ((i j u : ℕ) → rowsFrom i (moved d inside) j u (d + p) w ≡ map (shift d) (rowsFrom i inside j u p w))
         → ((i j : ℕ) → rowsFrom i (moved d rest) j up (d + place) whole ≡ map (shift d) (rowsFrom i rest j up place whole))
-        → (f : Found) → seek k id ≡ f
+        → (f : FoundLine) → findLine k id ≡ f
         → rowsFrom k (element id (d + p) w c (moved d inside) (moved d rest)) n up (d + place) whole
         ≡ map (shift d) (rowsFrom k (element id p w c inside rest) n up place whole)
     go each further Nowhere e =

@@ -14,19 +14,19 @@ use Rattle.der.specs.meaning.Tree.{Tree, none, element}
 use Rattle.crmf.specs.declared.explain.tally.Tally.{Tally}
 use Rattle.crmf.specs.declared.explain.Walked.the-variants.{Passed}
 use Rattle.crmf.specs.declared.grammar.judge.Onward.the-variants.{To}
-use Rattle.crmf.specs.declared.grammar.table.Found.the-variants.{At, Nowhere}
+use Rattle.crmf.specs.declared.grammar.table.FoundLine.the-variants.{At, Nowhere}
 use Rattle.crmf.specs.meaning.Value.{keeps, selected}
 use Rattle.crmf.specs.meaning.Notation.{Mark, both, alone, Name, Inside, free, holds, Form, Occurs, Part, part}
 use Rattle.crmf.specs.meaning.Grammar.{content}
 use Rattle.crmf.specs.meaning.Language.{passable, Matches, end, pass, take, choose, Within, unseen, parts}
 use Rattle.crmf.specs.steps.grammar.Lines
 use Rattle.crmf.specs.steps.grammar.Lines.{Judge, keep, Line, start, insideLine}
-use Rattle.crmf.specs.steps.explain.Walk.{line, seek, ways, judged, rowsOf, lengthy, noted, met, walk}
+use Rattle.crmf.specs.steps.explain.Walk.{line, findLine, ways, judged, rowsOfKind, withLongId, withForm, withElement, walk}
 use Rattle.crmf.specs.meaning.Rows.{Row, rowIf, parentIf, rows, rowsIn, longId}
 use Rattle.crmf.specs.steps.rows.Fill.{goes, rowsFrom}
 use Rattle.crmf.proofs.theorems.explain.Passing.{judged-kept, judged-way, kept-onward, way-onward, innerWalk, inner-free, inner-walked, passed-element, passed-none}
 use Rattle.crmf.proofs.theorems.grammar.Choices.{Choice, taking, choosing, choices, determinate-apart, only-choice}
-use Rattle.crmf.proofs.theorems.lines.LinesOfParts.{Stands, stands-start, starts-past, Shows, Finds, seek-chooses}
+use Rattle.crmf.proofs.theorems.lines.LinesOfParts.{Stands, stands-start, starts-past, Shows, Finds, find-line-chooses}
 use Rattle.crmf.proofs.theorems.grammar.ChoicesMatch.{holds-true, Keeps, Begins, begins-past, matches-begin}
 use Rattle.crmf.proofs.theorems.explain.Accepts.{name-below}
 use Rattle.crmf.proofs.theorems.rows.Writing.{rows-given}
@@ -58,13 +58,13 @@ unfolding rowsWithin
 inner-rows i inside n up place whole e = rw (e, rowsWithin)
 
 -- the rows of an element that fits no part
-pub rows-nowhere : (k id p w : ℕ) (c : List ℕ) (inside rest : Tree) (n up place whole : ℕ) → seek k id ≡ Nowhere
+pub rows-nowhere : (k id p w : ℕ) (c : List ℕ) (inside rest : Tree) (n up place whole : ℕ) → findLine k id ≡ Nowhere
     → rowsFrom k (element id p w c inside rest) n up place whole ≡ []
 unfolding rowsFrom
 rows-nowhere k id p w c inside rest n up place whole e = rw (e, rowsFrom)
 
 -- the rows of an element whose line is found
-pub rows-found : (k id p w : ℕ) (c : List ℕ) (inside rest : Tree) (n up place whole m : ℕ) → seek k id ≡ At m
+pub rows-found : (k id p w : ℕ) (c : List ℕ) (inside rest : Tree) (n up place whole m : ℕ) → findLine k id ≡ At m
     → rowsFrom k (element id p w c inside rest) n up place whole
     ≡ rowsOne (line m .kind) (line m .item) p w (λ j u. rowsWithin (line m .inside) inside j u p w)
     (λ j. rowsFrom (goes (line m .judge) (line m .next) c) rest j up place whole) n up place whole
@@ -78,7 +78,7 @@ judged-goes (keep r) next c onward e = kept-onward r next onward c e .1
 judged-goes (Lines.choose s) next c onward e = way-onward s next onward c e .1
 
 -- the rows from a line on, where the element's line and the line behind it are known
-pub rows-from-element : (k id p w : ℕ) (c : List ℕ) (inside rest : Tree) (n up place whole m onward : ℕ) → seek k id ≡ At m
+pub rows-from-element : (k id p w : ℕ) (c : List ℕ) (inside rest : Tree) (n up place whole m onward : ℕ) → findLine k id ≡ At m
     → judged (line m .judge) (line m .next) c ≡ To onward
     → rowsFrom k (element id p w c inside rest) n up place whole
     ≡ rowsOne (line m .kind) (line m .item) p w (λ j u. rowsWithin (line m .inside) inside j u p w)
@@ -143,7 +143,7 @@ module _ (R : ℕ → Bool) where
       inner-rows (start a) inside n up place whole (starts-past a) ∙ each a m n up place whole
 
   -- the rows from the line of the choice that an element keeps
-  rows-first : (k id p w m : ℕ) (c : List ℕ) (inside rest : Tree) (h : Choice) → seek k id ≡ At m → Shows h (line m)
+  rows-first : (k id p w m : ℕ) (c : List ℕ) (inside rest : Tree) (h : Choice) → findLine k id ≡ At m → Shows h (line m)
       → (kept : Keeps R h c inside rest)
       → ((a : Name) (d : Matches R (content a) inside) (n up place whole : ℕ) → rowsFrom (start a) inside n up place whole ≡ rows d n up place whole)
       → ((j : ℕ) (ps : List Part) → Stands j ps → (d : Matches R ps rest) (n up place whole : ℕ)
@@ -180,7 +180,7 @@ module _ (R : ℕ → Bool) where
   rows-stand (element id p w c inside rest) k ps stands m n up place whole =
       let b = matches-begin m in
       let only = only-choice (b .choice) (choices ps) id (determinate-apart ps (stands .determined)) (b .among) (b .identified) in
-      let (at, found, shows) = subst (λ (o : Option Choice). Finds o (seek k id)) only (seek-chooses ps k stands id) in
+      let (at, found, shows) = subst (λ (o : Option Choice). Finds o (findLine k id)) only (find-line-chooses ps k stands id) in
       rows-first k id p w at c inside rest (b .choice) found shows (b .keeping)
       (λ a d. rows-stand inside (start a) (content a) (stands-start a) d) (λ j qs st d. rows-stand rest j qs st d) n up place whole
       ∙ sym (rows-begun m n up place whole)
@@ -213,37 +213,37 @@ pub parent-own : (kind n up : ℕ) → eqb kind 0 ≡ false → parentIf kind n 
 parent-own kind n up e = rw (e, parentIf)
 
 -- what is noted leaves the count
-noted-count : (m : Mark) (p : ℕ) (s : Tally) → noted m p s .count ≡ s .count
-unfolding noted
+noted-count : (m : Mark) (p : ℕ) (s : Tally) → withForm m p s .count ≡ s .count
+unfolding withForm
 noted-count both p s = refl
 noted-count (alone e d) p s = by-one (eqb e 1 && eqb (s .one .number) 0) refl
   where
-    by-two : (eqb e 1 && eqb (s .one .number) 0) ≡ false → (b : Bool) → (eqb e 2 && eqb (s .two .number) 0) ≡ b → noted (alone e d) p s .count ≡ s .count
-    by-two f true t = rw (noted, f) (rw t)
-    by-two f false t = rw (noted, f) (rw t)
+    by-two : (eqb e 1 && eqb (s .one .number) 0) ≡ false → (b : Bool) → (eqb e 2 && eqb (s .two .number) 0) ≡ b → withForm (alone e d) p s .count ≡ s .count
+    by-two f true t = rw (withForm, f) (rw t)
+    by-two f false t = rw (withForm, f) (rw t)
 
-    by-one : (b : Bool) → (eqb e 1 && eqb (s .one .number) 0) ≡ b → noted (alone e d) p s .count ≡ s .count
-    by-one true t = rw (noted, t)
+    by-one : (b : Bool) → (eqb e 1 && eqb (s .one .number) 0) ≡ b → withForm (alone e d) p s .count ≡ s .count
+    by-one true t = rw (withForm, t)
     by-one false t = by-two t (eqb e 2 && eqb (s .two .number) 0) refl
 
 -- as does a long certReqId
-lengthy-count : (kind p w : ℕ) (s : Tally) → lengthy kind p w s .count ≡ s .count
-unfolding lengthy
+lengthy-count : (kind p w : ℕ) (s : Tally) → withLongId kind p w s .count ≡ s .count
+unfolding withLongId
 lengthy-count kind p w s = go (longId kind w && eqb (s .long .whole) 0) refl
   where
-    go : (b : Bool) → (longId kind w && eqb (s .long .whole) 0) ≡ b → lengthy kind p w s .count ≡ s .count
-    go true t = rw (lengthy, t)
-    go false t = rw (lengthy, t)
+    go : (b : Bool) → (longId kind w && eqb (s .long .whole) 0) ≡ b → withLongId kind p w s .count ≡ s .count
+    go true t = rw (withLongId, t)
+    go false t = rw (withLongId, t)
 
 -- an element's line counts the rows of its kinds
-pub met-count : (x : Line) (p w : ℕ) (s : Tally) → met x p w s .count ≡ s .count + (rowsOf (x .item) + rowsOf (x .kind))
-unfolding met
+pub met-count : (x : Line) (p w : ℕ) (s : Tally) → withElement x p w s .count ≡ s .count + (rowsOfKind (x .item) + rowsOfKind (x .kind))
+unfolding withElement
 met-count x p w s =
-    ap (λ (n : ℕ). n + (rowsOf (x .item) + rowsOf (x .kind))) (lengthy-count (x .kind) p w (noted (x .mark) p s) ∙ noted-count (x .mark) p s)
+    ap (λ (n : ℕ). n + (rowsOfKind (x .item) + rowsOfKind (x .kind))) (lengthy-count (x .kind) p w (withForm (x .mark) p s) ∙ noted-count (x .mark) p s)
 
 -- an element's rows are as many as its kinds have, with those inside it and those behind it, counted up from a to d
 rows-one-count : (kind item p w : ℕ) (inner : ℕ → ℕ → List Row) (behind : ℕ → List Row) (n up place whole a b d : ℕ)
-    → ((j u : ℕ) → length (inner j u) + (a + (rowsOf item + rowsOf kind)) ≡ b) → ((j : ℕ) → length (behind j) + b ≡ d)
+    → ((j u : ℕ) → length (inner j u) + (a + (rowsOfKind item + rowsOfKind kind)) ≡ b) → ((j : ℕ) → length (behind j) + b ≡ d)
     → length (rowsOne kind item p w inner behind n up place whole) + a ≡ d
 unfolding rowsOne
 rows-one-count kind item p w inner behind n up place whole a b d within further =
@@ -285,7 +285,7 @@ rows-count R none s r k around n up place whole passed =
 rows-count R (element id p w c inside rest) s r k around n up place whole passed =
     let e = passed-element R s k around id p w c inside rest r passed in
     let x = line (e .at) in
-    let m = met x p w s in
+    let m = withElement x p w s in
     let inner : ℕ → ℕ → List Row = λ j u. rowsWithin (x .inside) inside j u p w in
     let behind : ℕ → List Row = λ j. rowsFrom (e .next) rest j up place whole in
     let within : (j u : ℕ) → length (rowsWithin (x .inside) inside j u p w) + m .count ≡ e .seen .count =

@@ -18,13 +18,13 @@ use Rattle.crmf.specs.declared.rows.Around.{Around}
 use Rattle.crmf.specs.declared.rows.Bounds.{Bounds}
 use Rattle.crmf.specs.declared.rows.Numbers.{Numbers}
 use Rattle.crmf.specs.declared.rows.Spot.{Spot}
-use Rattle.crmf.specs.declared.grammar.table.Found.the-variants.{At, Nowhere}
+use Rattle.crmf.specs.declared.grammar.table.FoundLine.the-variants.{At, Nowhere}
 use Rattle.crmf.specs.meaning.Notation.{order}
 use Rattle.crmf.specs.steps.grammar.Lines.{start, startsFrom}
-use Rattle.crmf.specs.steps.explain.Walk.{line, seek, rowsOf as rowsGiven}
+use Rattle.crmf.specs.steps.explain.Walk.{line, findLine, rowsOfKind as rowsGiven}
 use Rattle.crmf.specs.steps.grammar.Fitting.{FitsAt}
 use Rattle.crmf.specs.meaning.Rows.{Row, rowIf, parentIf, width}
-use Rattle.crmf.specs.steps.rows.Fill.{goes, rowsFrom, rowsAt, ownRows, rowAbove, innerRows, written, fits, rowsOf, filled, Wrote, Going, Shown, Inner, within}
+use Rattle.crmf.specs.steps.rows.Fill.{goes, rowsFrom, rowsAt, ownRows, rowAbove, innerRows, written, fits, rowsOfInput, filled, Wrote, Going, Shown, Inner, aroundInside}
 use Rattle.crmf.proofs.theorems.lines.Fitting.{fitted, fit-read, fit-order}
 use Rattle.crmf.proofs.theorems.explain.Walking.{tree-read, found-constructed, at-end}
 use Rattle.crmf.proofs.theorems.rows.RowsOfLines.{rowsOne, rowsWithin, inner-no-rows, rows-nowhere, rows-found}
@@ -41,7 +41,7 @@ module _ (k id p w : ℕ) (c : List ℕ) (inside rest : Tree) (row : ℕ) (a : A
       rowsWithin (line n .inside) inside i u p w
       ++ rowsFrom (goes (line n .judge) (line n .next) c) rest (i + length (rowsWithin (line n .inside) inside i u p w)) (a .up) (a .place) (a .whole)
 
-  rows-split : seek k id ≡ At n → rowsFrom k (element id p w c inside rest) row (a .up) (a .place) (a .whole)
+  rows-split : findLine k id ≡ At n → rowsFrom k (element id p w c inside rest) row (a .up) (a .place) (a .whole)
       ≡ ownRows (line n) p w row a ++ tail (row + length (ownRows (line n) p w row a)) (rowAbove (line n) row (a .up))
   unfolding rowsOne tail
   rows-split e =
@@ -56,7 +56,7 @@ module _ (k id p w : ℕ) (c : List ℕ) (inside rest : Tree) (row : ℕ) (a : A
       ∙ ap (λ (l : List Row). (item ++ own) ++ l) (ap₂ tail i u)
 
 -- an inside that has rows is the tree's
-inside-found : (k id n i u p w : ℕ) (t : Tree) → seek k id ≡ At n
+inside-found : (k id n i u p w : ℕ) (t : Tree) → findLine k id ≡ At n
     → rowsWithin (line n .inside) (elim (constructed id) [ true ↦ t | false ↦ none ]) i u p w ≡ rowsWithin (line n .inside) t i u p w
 inside-found k id n i u p w t e = by-inside (eqb (line n .inside) 0) refl
   where
@@ -75,7 +75,7 @@ shown-end s q e a h = rw (at-end s (q .at) e h)
 -- The same by places, over the element at a spot.
 module _ (s : List ℕ) (q : Spot) (z : Bounds) (some : q .at < z .end) (fits : z .end ≤ length s) (high : length s ≤ longest) (a : Around) where
   -- it fits no line: no row is written, and nothing is left
-  pub shown-misfit : (old : List ℕ) → q .row ≤ 2 * q .at → seek (q .state) (readAt s (q .at) (z .end) .identifier) ≡ Nowhere
+  pub shown-misfit : (old : List ℕ) → q .row ≤ 2 * q .at → findLine (q .state) (readAt s (q .at) (z .end) .identifier) ≡ Nowhere
       → Shown s q z a old (record { state = q .state; at = z .end; row = q .row }) old
   shown-misfit old few f =
       let none : rowsAt s q (z .end) a ≡ [] =
@@ -167,7 +167,7 @@ pub held-rows : (k : ℕ) (s : List ℕ) (f : Fit) (m : Numbers) (limit : ℕ) (
 held-rows k s f m limit old new next start above starts is some wrote =
     let rows : ℕ → ℕ → List Row =
     λ i u. rowsAt s (record { state = i; at = f .content; row = m .next }) (f .end) (record { up = u; place = f .first; whole = f .end - f .first }) in
-    let held : rows (line k .inside) (rowAbove (line k) (m .row) (m .up)) ≡ innerRows k s (f .content) (f .end) (m .next) (within (line k) f m) =
+    let held : rows (line k .inside) (rowAbove (line k) (m .row) (m .up)) ≡ innerRows k s (f .content) (f .end) (m .next) (aroundInside (line k) f m) =
     rw (innerRows, ne-eqb _ _ some) in
     subst (λ (l : List Row). Wrote l (m .next) limit old next new) (ap₂ rows starts is ∙ held) wrote
 
@@ -192,20 +192,20 @@ module _ (s : List ℕ) (count : ℕ) (old : List ℕ) where
   fill-short few = (rw (fits, lt-leb _ _ few), rw (filled, lt-leb _ _ few))
 
   module _ (room : width * count ≤ length old) where
-    fill-all : (true ≡ fits count old) × (written old 0 count (rowsOf s) ≡ filled s count old)
+    fill-all : (true ≡ fits count old) × (written old 0 count (rowsOfInput s) ≡ filled s count old)
     unfolding filled fits
     fill-all = (rw (fits, le-leb _ _ room), rw (filled, le-leb _ _ room))
 
     pub fill-long : longest < length s → (true ≡ fits count old) × (old ≡ filled s count old)
-    unfolding rowsOf
+    unfolding rowsOfInput
     fill-long long =
-        let none : rowsOf s ≡ [] = rw (rowsOf, lt-leb _ _ long) in
+        let none : rowsOfInput s ≡ [] = rw (rowsOfInput, lt-leb _ _ long) in
         (fill-all .0, wrote-none 0 count old .kept ∙ ap (written old 0 count) (sym none) ∙ fill-all .1)
 
     pub fill-rows : length s ≤ longest → (new : List ℕ) → new ≡ written old 0 count (rowsAt s (record { state = 1; at = 0; row = 0 }) (length s) (record { up = 0; place = 0; whole = 0 }))
         → (true ≡ fits count old) × (new ≡ filled s count old)
-    unfolding rowsOf start startsFrom order
+    unfolding rowsOfInput start startsFrom order
     fill-rows short new e =
-        let all : rowsOf s ≡ rowsAt s (record { state = 1; at = 0; row = 0 }) (length s) (record { up = 0; place = 0; whole = 0 }) =
-        rw (rowsOf, le-leb _ _ short) (ap (λ (l : List ℕ). rowsFrom 1 (tree 0 l) 0 0 0 0) (sym (take-length s))) in
+        let all : rowsOfInput s ≡ rowsAt s (record { state = 1; at = 0; row = 0 }) (length s) (record { up = 0; place = 0; whole = 0 }) =
+        rw (rowsOfInput, le-leb _ _ short) (ap (λ (l : List ℕ). rowsFrom 1 (tree 0 l) 0 0 0 0) (sym (take-length s))) in
         (fill-all .0, e ∙ ap (written old 0 count) (sym all) ∙ fill-all .1)

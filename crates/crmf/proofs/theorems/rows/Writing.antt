@@ -13,7 +13,7 @@ use lib.Dec.{eqb}
 use borrow.Author.Tests.{eq-eqb, ne-eqb}
 use Rattle.crmf.specs.declared.rows.Entry.{Entry}
 use Rattle.crmf.specs.meaning.Rows.{Row, rowIf, width, numbers}
-use Rattle.crmf.specs.steps.explain.Walk.{rowsOf as rowsGiven}
+use Rattle.crmf.specs.steps.explain.Walk.{rowsOfKind as rowsGiven}
 use Rattle.crmf.specs.steps.rows.Fill.{written, rowOf, Wrote}
 use Rattle.crmf.specs.meaning.Lists.{over}
 

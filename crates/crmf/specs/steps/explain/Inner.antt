@@ -13,8 +13,8 @@ use Rattle.crmf.specs.declared.grammar.judge.Onward.{Onward}
 use Rattle.crmf.specs.declared.grammar.judge.Onward.the-variants.{To, Breaks}
 use Rattle.crmf.specs.declared.explain.tally.Tally.{Tally}
 use Rattle.crmf.specs.declared.explain.Cursor.{Cursor}
-use Rattle.crmf.specs.declared.explain.Step.{Step}
-use Rattle.crmf.specs.declared.explain.Step.the-variants.{On, Stop}
+use Rattle.crmf.specs.declared.explain.WalkStep.{WalkStep}
+use Rattle.crmf.specs.declared.explain.WalkStep.the-variants.{On, Stop}
 use Rattle.crmf.specs.declared.explain.Walked.{Walked}
 use Rattle.crmf.specs.declared.explain.Walked.the-variants.{Passed, Broken}
 use Rattle.crmf.specs.steps.grammar.Packed.{packed}
@@ -29,8 +29,8 @@ pub record Lent (bytes : List ℕ) (at end count : ℕ) (table : List ℕ) : Typ
   pub right : table ≡ packed
 
 -- the inside of an element in a line's form
-abbrev pub within : ℕ → Tally → ℕ → Tree → Walked
-within k s around t = elim (eqb (line k .inside) 0) [ true ↦ Passed s | false ↦ walk every s (line k .inside) around t ]
+abbrev pub insideWalk : ℕ → Tally → ℕ → Tree → Walked
+insideWalk k s around t = elim (eqb (line k .inside) 0) [ true ↦ Passed s | false ↦ walk every s (line k .inside) around t ]
 
 -- no more rows than two for each place up to an end
 abbrev pub Passing : ℕ → Walked → Type 0
@@ -42,21 +42,21 @@ abbrev pub walkFrom : List ℕ → Cursor → ℕ → ℕ → Walked
 walkFrom bytes c end around = walk every (c .tally) (c .state) around (tree (c .at) (slice (c .at) end bytes))
 
 -- the step that a value's answer makes, at an element from a place to its end
-abbrev pub stepped : ℕ → ℕ → Tally → Onward → Step
+abbrev pub stepped : ℕ → ℕ → Tally → Onward → WalkStep
 stepped at to s (To state) = On (record { state = state; at = to; tally = s })
 stepped at to s (Breaks d) = Stop at d s
 
 -- the walk after a step
-abbrev pub continued : List ℕ → ℕ → ℕ → Step → Walked
+abbrev pub continued : List ℕ → ℕ → ℕ → WalkStep → Walked
 continued bytes end around (On c) = walkFrom bytes c end around
 continued bytes end around (Stop p d s) = Broken p d s
 
 -- a step goes forward and stays within the end, with no more rows than two for each place
-abbrev pub Forward : ℕ → ℕ → Step → Type 0
+abbrev pub Forward : ℕ → ℕ → WalkStep → Type 0
 Forward at end (On c) = (at < c .at) × (c .at ≤ end) × (c .tally .count ≤ 2 * c .at)
 Forward at end (Stop p d s) = Unit {0}
 
 -- the step over the element at a cursor
-pub record Stepped (bytes : List ℕ) (c : Cursor) (end : ℕ) (r : Step) : Type 0 where
+pub record Stepped (bytes : List ℕ) (c : Cursor) (end : ℕ) (r : WalkStep) : Type 0 where
   pub same : (around : ℕ) → continued bytes end around r ≡ walkFrom bytes c end around
   pub forward : Forward (c .at) end r

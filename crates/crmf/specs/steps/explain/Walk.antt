@@ -12,8 +12,8 @@ use Rattle.crmf.specs.declared.explain.Walked.{Walked}
 use Rattle.crmf.specs.declared.explain.Walked.the-variants.{Passed, Broken}
 use Rattle.crmf.specs.declared.grammar.judge.Onward.{Onward}
 use Rattle.crmf.specs.declared.grammar.judge.Onward.the-variants.{To, Breaks}
-use Rattle.crmf.specs.declared.grammar.table.Found.{Found}
-use Rattle.crmf.specs.declared.grammar.table.Found.the-variants.{At, Nowhere}
+use Rattle.crmf.specs.declared.grammar.table.FoundLine.{FoundLine}
+use Rattle.crmf.specs.declared.grammar.table.FoundLine.the-variants.{At, Nowhere}
 use Rattle.crmf.specs.meaning.Kinds as kinds
 use Rattle.crmf.specs.meaning.Value.{Rule, always, integer, boolean, bitString, empty, zeroOrOne, true-only, utcTime, generalizedTime, some, never}
 use Rattle.crmf.specs.meaning.Value.{keeps, Selector, action, method, controlType, infoType, selected}
@@ -34,13 +34,13 @@ goesOn another = true
 goesOn over = true
 
 -- "the element that fits no part it can reach, a needed part never being passed over": the first line from k on that has the identifier
-unfoldable pub seekIn : List Line → ℕ → ℕ → Found
-seekIn [] k id = Nowhere
-seekIn (x ∷ xs) k id =
-    elim (named (x .identifiers) id) [ true ↦ At k | false ↦ elim (goesOn (x .pass)) [ true ↦ seekIn xs (suc k) id | false ↦ Nowhere ] ]
+unfoldable pub findLineIn : List Line → ℕ → ℕ → FoundLine
+findLineIn [] k id = Nowhere
+findLineIn (x ∷ xs) k id =
+    elim (named (x .identifiers) id) [ true ↦ At k | false ↦ elim (goesOn (x .pass)) [ true ↦ findLineIn xs (suc k) id | false ↦ Nowhere ] ]
 
-unfoldable pub seek : ℕ → ℕ → Found
-seek k id = seekIn (drop k lines) k id
+unfoldable pub findLine : ℕ → ℕ → FoundLine
+findLine k id = findLineIn (drop k lines) k id
 
 -- "the container where a needed part is missing at its end": whether a container may end at a line
 unfoldable pub closedIn : List Line → Bool
@@ -84,17 +84,17 @@ unreadDetail both = 1
 unreadDetail (alone e d) = elim (eqb d 3) [ true ↦ 4 | false ↦ 1 ]
 
 -- one row for each kind but none
-abbrev pub rowsOf : ℕ → ℕ
-rowsOf k = elim (eqb k kinds.none) [ true ↦ 0 | false ↦ 1 ]
+abbrev pub rowsOfKind : ℕ → ℕ
+rowsOfKind k = elim (eqb k kinds.none) [ true ↦ 0 | false ↦ 1 ]
 
 -- the rows that an element of a line's form gives by itself: an item's, and its own
 abbrev pub rowsBy : Line → ℕ
-rowsBy x = rowsOf (x .item) + rowsOf (x .kind)
+rowsBy x = rowsOfKind (x .item) + rowsOfKind (x .kind)
 
 -- the tally with an element at a place in a form of a mark: the first of each edition stays
-unfoldable pub noted : Mark → ℕ → Tally → Tally
-noted both p s = s
-noted (alone e d) p s =
+unfoldable pub withForm : Mark → ℕ → Tally → Tally
+withForm both p s = s
+withForm (alone e d) p s =
     elim (eqb e 1 && eqb (s .one .number) 0) [
       | true ↦ record { count = s .count; one = record { number = d; place = p }; two = s .two; long = s .long }
       | false ↦ elim (eqb e 2 && eqb (s .two .number) 0) [
@@ -104,31 +104,31 @@ noted (alone e d) p s =
     ]
 
 -- the tally with an element of a kind at a place that has a whole length: the first long certReqId stays
-unfoldable pub lengthy : ℕ → ℕ → ℕ → Tally → Tally
-lengthy kind p whole s =
+unfoldable pub withLongId : ℕ → ℕ → ℕ → Tally → Tally
+withLongId kind p whole s =
     elim (longId kind whole && eqb (s .long .whole) 0) [
       | true ↦ record { count = s .count; one = s .one; two = s .two; long = record { whole = whole; place = p } }
       | false ↦ s
     ]
 
 -- the tally with some rows more
-abbrev pub counted : ℕ → Tally → Tally
-counted n s = record { count = s .count + n; one = s .one; two = s .two; long = s .long }
+abbrev pub withRows : ℕ → Tally → Tally
+withRows n s = record { count = s .count + n; one = s .one; two = s .two; long = s .long }
 
 -- the tally with an element at a place and of a whole length that a line is chosen for
-unfoldable pub met : Line → ℕ → ℕ → Tally → Tally
-met x p whole s = counted (rowsBy x) (lengthy (x .kind) p whole (noted (x .mark) p s))
+unfoldable pub withElement : Line → ℕ → ℕ → Tally → Tally
+withElement x p whole s = withRows (rowsBy x) (withLongId (x .kind) p whole (withForm (x .mark) p s))
 
 -- The walk over the elements of a container from a line on, where the container's own place is `around`, and R says which editions' own
 -- forms may be read: an element's line is chosen by its identifier alone, its inside is walked first, then its value is judged.
 unfoldable pub walk : (ℕ → Bool) → Tally → ℕ → ℕ → Tree → Walked
 walk R s k around none = elim (closed k) [ true ↦ Passed s | false ↦ Broken around 2 s ]
 walk R s k around (element id first whole c inside rest) =
-    elim (seek k id) [
+    elim (findLine k id) [
       | Nowhere ↦ Broken first 1 s
       | At n ↦
           let x = line n in
-          let m = met x first whole s in
+          let m = withElement x first whole s in
           elim (readable R (x .mark)) [
             | false ↦ Broken first (unreadDetail (x .mark)) s
             | true ↦
@@ -144,7 +144,7 @@ walk R s k around (element id first whole c inside rest) =
 unfoldable pub passes : ℕ → Tree → Bool
 passes k none = closed k
 passes k (element id first whole c inside rest) =
-    elim (seek k id) [
+    elim (findLine k id) [
       | Nowhere ↦ false
       | At n ↦
           let x = line n in
@@ -156,7 +156,7 @@ passes k (element id first whole c inside rest) =
 unfoldable pub trail : ℕ → Tree → List Occurrence
 trail k none = []
 trail k (element id first whole c inside rest) =
-    elim (seek k id) [
+    elim (findLine k id) [
       | Nowhere ↦ []
       | At n ↦
           let x = line n in
@@ -171,10 +171,10 @@ abbrev pub every : ℕ → Bool
 every e = true
 
 -- the tally before the first element
-unfoldable pub fresh : Tally
-fresh =
+unfoldable pub emptyTally : Tally
+emptyTally =
     record { count = 0; one = record { number = 0; place = 0 }; two = record { number = 0; place = 0 }; long = record { whole = 0; place = 0 } }
 
 -- The walk over a whole input, which is to be one batch, where every form is read; in a longer input no element stands.
 unfoldable pub countOf : List ℕ → Walked
-countOf s = elim (leb (length s) longest) [ true ↦ walk every fresh (start Top) 0 (tree 0 s) | false ↦ Broken 0 1 fresh ]
+countOf s = elim (leb (length s) longest) [ true ↦ walk every emptyTally (start Top) 0 (tree 0 s) | false ↦ Broken 0 1 emptyTally ]

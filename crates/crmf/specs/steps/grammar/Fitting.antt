@@ -6,14 +6,14 @@ use Rattle.der.specs.declared.element.reading.Element.{Element}
 use Rattle.crmf.specs.declared.grammar.element.Fit.{Fit}
 use Rattle.crmf.specs.declared.grammar.element.Fitting.{Fitting}
 use Rattle.crmf.specs.declared.grammar.element.Fitting.the-variants.{Misfit, Fits}
-use Rattle.crmf.specs.declared.grammar.table.Found.the-variants.{At, Nowhere}
+use Rattle.crmf.specs.declared.grammar.table.FoundLine.the-variants.{At, Nowhere}
 use Rattle.crmf.specs.steps.grammar.Packed.{packed}
-use Rattle.crmf.specs.steps.explain.Walk.{seek}
+use Rattle.crmf.specs.steps.explain.Walk.{findLine}
 
 -- An element with its first byte at p fits the line of a number, which the search from the line k on finds.
 pub record FitsAt (x : Element) (p k : ℕ) (f : Fit) : Type 0 where
   pub number : ℕ
-  pub found : seek k (x .identifier) ≡ At number
+  pub found : findLine k (x .identifier) ≡ At number
   pub word : f .word ≡ getD packed number 0
   pub first : f .first ≡ p
   pub content : f .content ≡ x .content
@@ -21,5 +21,5 @@ pub record FitsAt (x : Element) (p k : ℕ) (f : Fit) : Type 0 where
 
 -- it fits a line, or none
 abbrev pub Fitted : Element → ℕ → ℕ → Fitting → Type 0
-Fitted x p k Misfit = seek k (x .identifier) ≡ Nowhere
+Fitted x p k Misfit = findLine k (x .identifier) ≡ Nowhere
 Fitted x p k (Fits f) = FitsAt x p k f

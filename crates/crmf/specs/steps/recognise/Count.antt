@@ -11,30 +11,30 @@ use Rattle.der.specs.steps.Reading.{tree}
 use Rattle.crmf.specs.declared.recognise.Recognition.{Recognition}
 use Rattle.crmf.specs.declared.recognise.Recognition.the-variants.{Rows, Unrecognised}
 use Rattle.crmf.specs.declared.grammar.judge.Onward.the-variants.{To, Breaks}
-use Rattle.crmf.specs.declared.grammar.table.Found.the-variants.{At, Nowhere}
+use Rattle.crmf.specs.declared.grammar.table.FoundLine.the-variants.{At, Nowhere}
 use Rattle.crmf.specs.meaning.Notation.{Top}
 use Rattle.crmf.specs.meaning.Language.{readable}
 use Rattle.crmf.specs.meaning.Rows.{longId}
 use Rattle.crmf.specs.steps.grammar.Lines.{Line, start}
 use Rattle.crmf.specs.steps.rows.Fill.{filled}
-use Rattle.crmf.specs.steps.explain.Walk.{line, seek, closed, judged, rowsBy}
+use Rattle.crmf.specs.steps.explain.Walk.{line, findLine, closed, judged, rowsBy}
 
 -- whether an element of a whole length may stand in a line's form, in an edition: the form is this edition's, and no certReqId is too long
-abbrev pub stands : ℕ → Line → ℕ → Bool
-stands e x whole = readable (λ y. eqb y e) (x .mark) && not (longId (x .kind) whole)
+abbrev pub mayStand : ℕ → Line → ℕ → Bool
+mayStand e x whole = readable (λ y. eqb y e) (x .mark) && not (longId (x .kind) whole)
 
 -- The elements of a container from a line on, after n rows: the rows up to their end, where the elements are what the lines say. A free inside,
 -- where no line starts, has no rows.
 unfoldable pub counts : ℕ → ℕ → ℕ → Tree → Recognition
 counts e k n none = elim (closed k) [ true ↦ Rows n | false ↦ Unrecognised ]
 counts e k n (element id first whole c inside rest) =
-    elim (seek k id) [
+    elim (findLine k id) [
       | Nowhere ↦ Unrecognised
       | At j ↦
           let x = line j in
           let own = n + rowsBy x in
           let within : Recognition = elim (eqb (x .inside) 0) [ true ↦ Rows own | false ↦ counts e (x .inside) own inside ] in
-          elim (stands e x whole) [
+          elim (mayStand e x whole) [
             | false ↦ Unrecognised
             | true ↦ elim (judged (x .judge) (x .next) c) [
               | Breaks d ↦ Unrecognised
@@ -48,9 +48,9 @@ unfoldable pub countsAt : ℕ → ℕ → ℕ → ℕ → ℕ → List ℕ → R
 countsAt e left k n p bs = elim (isList left bs) [ true ↦ counts e k n (tree p bs) | false ↦ Unrecognised ]
 
 -- the rows of an input that is a batch of an edition, with no certReqId too long; any other input is not recognised
-unfoldable pub quickCount : ℕ → List ℕ → Recognition
-quickCount e s = countsAt e depth (start Top) 0 0 s
+unfoldable pub recognised : ℕ → List ℕ → Recognition
+recognised e s = countsAt e depth (start Top) 0 0 s
 
 -- a table with the rows of such a batch written into it where it has room for them; it stays where it has none, and for any other input
-unfoldable pub quickTable : ℕ → List ℕ → List ℕ → List ℕ
-quickTable e s old = elim (quickCount e s) [ Rows n ↦ filled s n old | Unrecognised ↦ old ]
+unfoldable pub recognisedTable : ℕ → List ℕ → List ℕ → List ℕ
+recognisedTable e s old = elim (recognised e s) [ Rows n ↦ filled s n old | Unrecognised ↦ old ]

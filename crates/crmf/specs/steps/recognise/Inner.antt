@@ -18,13 +18,13 @@ use Rattle.crmf.specs.declared.recognise.step.Visit.{Visit}
 use Rattle.crmf.specs.declared.recognise.step.Visit.the-variants.{Refuse, Skip, Descend}
 use Rattle.crmf.specs.steps.grammar.Packed.{packed}
 use Rattle.crmf.specs.steps.explain.Walk.{line, judged}
-use Rattle.crmf.specs.steps.recognise.Count.{stands, countsAt}
+use Rattle.crmf.specs.steps.recognise.Count.{mayStand, countsAt}
 
 -- The count over an element's content, after n rows: for an element of a whole length in the form of line k, by its identifier and its content
 -- at a place.
 unfoldable pub contentCount : (e k whole left n p id : ℕ) → List ℕ → Recognition
 contentCount e k whole left n p id c =
-    elim (stands e (line k) whole) [
+    elim (mayStand e (line k) whole) [
       | false ↦ Unrecognised
       | true ↦ elim (eqb (line k .inside) 0) [
         | true ↦ elim (isElement id left c) [ true ↦ Rows n | false ↦ Unrecognised ]

@@ -56,6 +56,6 @@ assembled n [] = []
 assembled n (x ∷ xs) = own x (childrenOf n (suc n) xs) ++ assembled (suc n) xs
 
 -- whether none of them is longer than a limit
-unfoldable pub within : ℕ → ℕ → List Piece → Bool
-within limit n [] = true
-within limit n (x ∷ xs) = leb (wholeOf x (childrenOf n (suc n) xs)) limit && within limit (suc n) xs
+unfoldable pub noneLonger : ℕ → ℕ → List Piece → Bool
+noneLonger limit n [] = true
+noneLonger limit n (x ∷ xs) = leb (wholeOf x (childrenOf n (suc n) xs)) limit && noneLonger limit (suc n) xs

@@ -16,12 +16,12 @@ use Rattle.crmf.specs.declared.rows.Bounds.{Bounds}
 use Rattle.crmf.specs.declared.rows.Entry.{Entry}
 use Rattle.crmf.specs.declared.rows.Numbers.{Numbers}
 use Rattle.crmf.specs.declared.rows.Spot.{Spot}
-use Rattle.crmf.specs.declared.grammar.table.Found.the-variants.{At, Nowhere}
+use Rattle.crmf.specs.declared.grammar.table.FoundLine.the-variants.{At, Nowhere}
 use Rattle.crmf.specs.meaning.Value.{selected}
 use Rattle.crmf.specs.meaning.Notation.{among, Top, Time, AlgId, Spki, OneName, Extension}
 use Rattle.crmf.specs.steps.grammar.Lines.{Judge, keep, choose, Line, start}
 use Rattle.crmf.specs.steps.grammar.Packed.{packed}
-use Rattle.crmf.specs.steps.explain.Walk.{line, seek, rowsOf as rowsGiven}
+use Rattle.crmf.specs.steps.explain.Walk.{line, findLine, rowsOfKind as rowsGiven}
 use Rattle.crmf.specs.meaning.Rows.{Row, rowIf, parentIf, width, numbers}
 
 -- the line to go on with after an element whose value is known to keep its rule
@@ -33,7 +33,7 @@ goes (choose s) next c = line (next + selected s c) .next
 unfoldable pub rowsFrom : ℕ → Tree → (n up place whole : ℕ) → List Row
 rowsFrom k none n up place whole = []
 rowsFrom k (element id p w c inside rest) n up place whole =
-    elim (seek k id) [
+    elim (findLine k id) [
       | Nowhere ↦ []
       | At m ↦
           let x = line m in
@@ -61,12 +61,12 @@ unfoldable pub fits : ℕ → List ℕ → Bool
 fits count old = leb (width * count) (length old)
 
 -- the rows of a whole input, which is to be one batch; a longer input has none
-unfoldable pub rowsOf : List ℕ → List Row
-rowsOf s = elim (leb (length s) longest) [ true ↦ rowsFrom (start Top) (tree 0 s) 0 0 0 0 | false ↦ [] ]
+unfoldable pub rowsOfInput : List ℕ → List Row
+rowsOfInput s = elim (leb (length s) longest) [ true ↦ rowsFrom (start Top) (tree 0 s) 0 0 0 0 | false ↦ [] ]
 
 -- a table with the rows of an input written into it as far as their numbers are below a count; with no room for that many it stays
 unfoldable pub filled : List ℕ → ℕ → List ℕ → List ℕ
-filled s count old = elim (fits count old) [ true ↦ written old 0 count (rowsOf s) | false ↦ old ]
+filled s count old = elim (fits count old) [ true ↦ written old 0 count (rowsOfInput s) | false ↦ old ]
 
 -- What the inner functions are lent: a part of an input, the number of the next row, no more than two for each place before it, the lines,
 -- and a table with room up to the limit.
@@ -106,8 +106,8 @@ abbrev pub rowAbove : Line → ℕ → ℕ → ℕ
 rowAbove x row up = parentIf (x .kind) (row + rowsGiven (x .item)) (parentIf (x .item) row up)
 
 -- what is around the rows inside an element in a line's form
-abbrev pub within : Line → Fit → Numbers → Around
-within x fit n = record { up = rowAbove x (n .row) (n .up); place = fit .first; whole = fit .end - fit .first }
+abbrev pub aroundInside : Line → Fit → Numbers → Around
+aroundInside x fit n = record { up = rowAbove x (n .row) (n .up); place = fit .first; whole = fit .end - fit .first }
 
 -- the rows inside an element in a line's form
 abbrev pub innerRows : ℕ → List ℕ → ℕ → ℕ → ℕ → Around → List Row
@@ -116,7 +116,7 @@ innerRows k bytes at end row around =
 
 abbrev pub Inner : ℕ → List ℕ → Fit → Numbers → ℕ → List ℕ → ℕ → List ℕ → Type 0
 Inner k bytes fit n limit old next new =
-    Wrote (innerRows k bytes (fit .content) (fit .end) (n .next) (within (line k) fit n)) (n .next) limit old next new
+    Wrote (innerRows k bytes (fit .content) (fit .end) (n .next) (aroundInside (line k) fit n)) (n .next) limit old next new
 
 -- Some rows of a list of elements are written, and the list goes on after them.
 pub record Going (bytes : List ℕ) (spot : Spot) (bounds : Bounds) (around : Around) (old : List ℕ) (r : Spot) (new : List ℕ) : Type 0 where

@@ -10,23 +10,23 @@ use native.Mathlib.Omega.{arith}
 use borrow.Author.Tests.{leb-true, eqb-true}
 use lib.Dec.{T, leb, eqb}
 use lib.Ieee.Bits.{is-true}
-use Rattle.der.specs.meaning.Utf8.{Within, Tail, Character, utf8-1, utf8-2, utf8-3-E0, utf8-3-E1, utf8-3-ED, utf8-3-EE, utf8-4-F0, utf8-4-F1, utf8-4-F4, Utf8, none, char}
-use Rattle.der.specs.steps.Utf8Classes.{within, classOf, leads, tails, lowest, highest, utf8From, utf8}
+use Rattle.der.specs.meaning.Utf8.{InRange, Tail, Character, utf8-1, utf8-2, utf8-3-E0, utf8-3-E1, utf8-3-ED, utf8-3-EE, utf8-4-F0, utf8-4-F1, utf8-4-F4, Utf8, none, char}
+use Rattle.der.specs.steps.Utf8Classes.{inRange, classOf, leads, tails, lowest, highest, utf8From, utf8}
 use Rattle.der.proofs.theorems.lists.Range.{every, each}
 use Rattle.der.proofs.theorems.content.Utf8Steps.{inside, begin, go-on}
 
 -- an octet of a class has passed the class's own test
 data Class (b : ℕ) : ℕ → Type 0 where
   ascii : leb b 0x7F ≡ true → Class b 0
-  tail-8 : within 0x80 0x8F b ≡ true → Class b 1
-  tail-9 : within 0x90 0x9F b ≡ true → Class b 2
-  tail-A : within 0xA0 0xBF b ≡ true → Class b 3
-  lead-C2 : within 0xC2 0xDF b ≡ true → Class b 4
+  tail-8 : inRange 0x80 0x8F b ≡ true → Class b 1
+  tail-9 : inRange 0x90 0x9F b ≡ true → Class b 2
+  tail-A : inRange 0xA0 0xBF b ≡ true → Class b 3
+  lead-C2 : inRange 0xC2 0xDF b ≡ true → Class b 4
   lead-E0 : eqb b 0xE0 ≡ true → Class b 5
-  lead-E1 : within 0xE1 0xEC b || within 0xEE 0xEF b ≡ true → Class b 6
+  lead-E1 : inRange 0xE1 0xEC b || inRange 0xEE 0xEF b ≡ true → Class b 6
   lead-ED : eqb b 0xED ≡ true → Class b 7
   lead-F0 : eqb b 0xF0 ≡ true → Class b 8
-  lead-F1 : within 0xF1 0xF3 b ≡ true → Class b 9
+  lead-F1 : inRange 0xF1 0xF3 b ≡ true → Class b 9
   lead-F4 : eqb b 0xF4 ≡ true → Class b 10
   other : Class b 11
 
@@ -53,7 +53,7 @@ abbrev last : ℕ → ℕ
 last c = 0x7F + 0x10 * c + 0x10 * (c - 2)
 
 -- an octet of a class of tails lies in that class's range
-span : {b c : ℕ} → Class b c → Within 1 3 c → Within (first c) (last c) b
+span : {b c : ℕ} → Class b c → InRange 1 3 c → InRange (first c) (last c) b
 span (ascii e) w = omega arith
 span (tail-8 e) w = inside e
 span (tail-9 e) w = inside e
@@ -75,10 +75,10 @@ either false b e = inr e
 -- a number of tails, the first of a class from low to high, and then characters
 data Rest : ℕ → ℕ → ℕ → List ℕ → Type 0 where
   end : {low high : ℕ} {bs : List ℕ} → Utf8 bs → Rest 0 low high bs
-  tail : {left low high b : ℕ} {bs : List ℕ} → Within low high (classOf b) → Rest left 1 3 bs → Rest (suc left) low high (b ∷ bs)
+  tail : {left low high b : ℕ} {bs : List ℕ} → InRange low high (classOf b) → Rest left 1 3 bs → Rest (suc left) low high (b ∷ bs)
 
 -- a tail of a class from low to high, as a production has it
-octet : {low high b : ℕ} → Within low high (classOf b) → leb 1 low && leb high 3 ≡ true → Within (first low) (last high) b
+octet : {low high b : ℕ} → InRange low high (classOf b) → leb 1 low && leb high 3 ≡ true → InRange (first low) (last high) b
 octet {low} {high} {b} w e =
     let p = and-eq-true-iff (leb 1 low) (leb high 3) .0 e in
     omega (arith, span (classed b) (omega (arith, leb-true)))
@@ -96,7 +96,7 @@ lead {a} (lead-E1 e) l (tail b (tail c (end u))) =
     ⊎-elim
     (λ e. char (utf8-3-E1 (inside e) (octet b refl) (octet c refl)) u)
     (λ e. char (utf8-3-EE (inside e) (octet b refl) (octet c refl)) u)
-    (either (within 0xE1 0xEC a) (within 0xEE 0xEF a) e)
+    (either (inRange 0xE1 0xEC a) (inRange 0xEE 0xEF a) e)
 lead {a} (lead-ED e) l (tail b (tail c (end u))) = rw (eqb-true a 0xED e) (char (utf8-3-ED (octet b refl) (octet c refl)) u)
 lead {a} (lead-F0 e) l (tail b (tail c (tail d (end u)))) = rw (eqb-true a 0xF0 e) (char (utf8-4-F0 (octet b refl) (octet c refl) (octet d refl)) u)
 lead (lead-F1 e) l (tail b (tail c (tail d (end u)))) = char (utf8-4-F1 (inside e) (octet b refl) (octet c refl) (octet d refl)) u
@@ -121,23 +121,23 @@ ended (end u) = u
 
 -- every octet from lo to hi has a class from low to high
 abbrev spans : ℕ → ℕ → ℕ → ℕ → Bool
-spans low high lo hi = every (suc (hi - lo)) (λ i. within low high (classOf (lo + i)))
+spans low high lo hi = every (suc (hi - lo)) (λ i. inRange low high (classOf (lo + i)))
 
 -- an octet from lo to hi has such a class
-among : (low high lo hi : ℕ) → spans low high lo hi ≡ true → {b : ℕ} → Within lo hi b → within low high (classOf b) ≡ true
+among : (low high lo hi : ℕ) → spans low high lo hi ≡ true → {b : ℕ} → InRange lo hi b → inRange low high (classOf b) ≡ true
 among low high lo hi e {b} w =
     let q : lo + (b - lo) ≡ b = omega arith in
-    rw q at (each (suc (hi - lo)) (λ i. within low high (classOf (lo + i))) e (b - lo) (omega arith))
+    rw q at (each (suc (hi - lo)) (λ i. inRange low high (classOf (lo + i))) e (b - lo) (omega arith))
 
 -- the check enters a character by a lead from lo to hi, and goes on by a tail from lo to hi
-enter : (c lo hi : ℕ) → leads c ≡ true → spans c c lo hi ≡ true → {a : ℕ} → Within lo hi a
+enter : (c lo hi : ℕ) → leads c ≡ true → spans c c lo hi ≡ true → {a : ℕ} → InRange lo hi a
     → (low high : ℕ) (bs : List ℕ) → utf8From 0 low high (a ∷ bs) ≡ utf8From (tails c) (lowest c) (highest c) bs
 enter c lo hi l e {a} w =
-    let p : Within c c (classOf a) = inside (among c c lo hi e w) in
+    let p : InRange c c (classOf a) = inside (among c c lo hi e w) in
     begin a (omega arith) l
 
 -- a tail from lo to hi
-next : (low high lo hi : ℕ) → spans low high lo hi ≡ true → {b : ℕ} → Within lo hi b
+next : (low high lo hi : ℕ) → spans low high lo hi ≡ true → {b : ℕ} → InRange lo hi b
     → (left : ℕ) (bs : List ℕ) → utf8From (suc left) low high (b ∷ bs) ≡ utf8From left 1 3 bs
 next low high lo hi e {b} w = go-on b refl low high (among low high lo hi e w)
 
@@ -147,7 +147,7 @@ unfolding classOf
 any w = next 1 3 0x80 0xBF refl w
 
 -- the range of one octet
-exactly : (a : ℕ) → Within a a a
+exactly : (a : ℕ) → InRange a a a
 exactly a = omega arith
 
 -- a character before what the check accepts is accepted

@@ -14,27 +14,27 @@ use lib.Bits.{bitOr, or-add-and, and-le-l, and-le-r}
 use lib.Dec.{leb, eqb}
 use lib.ListN.{length, getD, drop}
 use lib.Seq.{drop-cons}
-use Rattle.der.specs.declared.content.utf8.Step.{Step}
-use Rattle.der.specs.meaning.Utf8.{Within}
-use Rattle.der.specs.steps.Utf8Classes.{within, classOf, leads, tails, lowest, highest, utf8From, Classes, after}
+use Rattle.der.specs.declared.content.utf8.OctetStep.{OctetStep}
+use Rattle.der.specs.meaning.Utf8.{InRange}
+use Rattle.der.specs.steps.Utf8Classes.{inRange, classOf, leads, tails, lowest, highest, utf8From, Classes, afterStep}
 use Rattle.der.proofs.theorems.lists.Range.{every, each}
 
 -- what a test of a range says
-pub inside : {lo hi b : ℕ} → within lo hi b ≡ true → Within lo hi b
+pub inside : {lo hi b : ℕ} → inRange lo hi b ≡ true → InRange lo hi b
 inside {lo} {hi} {b} e =
     let p = and-eq-true-iff (leb lo b) (leb b hi) .0 e in
     (leb-true lo b (p .0), leb-true b hi (p .1))
 
 -- what does not lie in a range fails its test
-outside : (lo hi b : ℕ) → (Within lo hi b → ⊥) → within lo hi b ≡ false
-outside lo hi b h = go (within lo hi b) refl
+outside : (lo hi b : ℕ) → (InRange lo hi b → ⊥) → inRange lo hi b ≡ false
+outside lo hi b h = go (inRange lo hi b) refl
   where
-    go : (t : Bool) → within lo hi b ≡ t → t ≡ false
+    go : (t : Bool) → inRange lo hi b ≡ t → t ≡ false
     go true e = absurd (h (inside e))
     go false e = refl
 
 -- a class that is neither 0 nor from 4 to 10 begins no character
-pub none-leads : (c : ℕ) → (c ≡ 0 → ⊥) → (Within 4 10 c → ⊥) → leads c ≡ false
+pub none-leads : (c : ℕ) → (c ≡ 0 → ⊥) → (InRange 4 10 c → ⊥) → leads c ≡ false
 unfolding leads
 none-leads c n h = rw (leads, ne-eqb c 0 n) (outside 4 10 c h)
 
@@ -51,19 +51,19 @@ module _ (b : ℕ) {c : ℕ} (e : classOf b ≡ c) where
   no-lead l low high bs = rw (utf8From, e, l)
 
   -- a tail of the range is taken
-  pub go-on : (low high : ℕ) → within low high c ≡ true → (left : ℕ) (bs : List ℕ) → utf8From (suc left) low high (b ∷ bs) ≡ utf8From left 1 3 bs
+  pub go-on : (low high : ℕ) → inRange low high c ≡ true → (left : ℕ) (bs : List ℕ) → utf8From (suc left) low high (b ∷ bs) ≡ utf8From left 1 3 bs
   unfolding utf8From
   go-on low high w left bs = rw (utf8From, e, w)
 
   -- any other octet is not
-  pub no-tail : (low high : ℕ) → within low high c ≡ false → (left : ℕ) (bs : List ℕ) → utf8From (suc left) low high (b ∷ bs) ≡ false
+  pub no-tail : (low high : ℕ) → inRange low high c ≡ false → (left : ℕ) (bs : List ℕ) → utf8From (suc left) low high (b ∷ bs) ≡ false
   unfolding utf8From
   no-tail low high w left bs = rw (utf8From, e, w)
 
 -- the octet at i of the content, its class looked up in the table, and the step that it makes
-pub turn : (s table : List ℕ) (i left low high : ℕ) (r : Step) → Classes table → i < length s → getD s i 0 < 256
-    → ((b : ℕ) (bs : List ℕ) → classOf b ≡ getD table (getD s i 0) 0 → after r bs ≡ utf8From left low high (b ∷ bs))
-    → after r (drop (i + 1) s) ≡ utf8From left low high (drop i s)
+pub turn : (s table : List ℕ) (i left low high : ℕ) (r : OctetStep) → Classes table → i < length s → getD s i 0 < 256
+    → ((b : ℕ) (bs : List ℕ) → classOf b ≡ getD table (getD s i 0) 0 → afterStep r bs ≡ utf8From left low high (b ∷ bs))
+    → afterStep r (drop (i + 1) s) ≡ utf8From left low high (drop i s)
 turn s table i left low high r t h o f = rw (add-one, drop-cons s i 0) (f (getD s i 0) (drop (suc i) s) (sym (t .entry (getD s i 0) o)))
 
 -- a table is one of the classes if it is so at every octet, which is computed

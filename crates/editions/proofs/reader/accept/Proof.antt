@@ -2,12 +2,12 @@
 use borrow.Author.Needs.{needs}
 use mathlib.Core.Path.{sym, _∙_}
 use Rattle.editions.proofs.theorems.Answers.{no-edition, in-range}
-use Rattle.editions.proofs.theorems.RecognisedAnswer.{quick-accepted}
+use Rattle.editions.proofs.theorems.RecognisedAnswer.{recognised-accepted}
 use Rattle.editions.proofs.reader.accept.Statement.{statement}
 use Rattle.editions.proofs.reader.accept.Tie as tie
 
-is-none-requires : tie.Need-is-none-requires
-is-none-requires c κs = search needs
+is-unknown-requires : tie.Need-is-unknown-requires
+is-unknown-requires c κs = search needs
 
 refuse-requires : tie.Need-refuse-requires
 refuse-requires c κs = search needs
@@ -16,7 +16,7 @@ returns : tie.Need-returns
 returns c =
     let tested = c .before .before in
     let a = tested .before .before .args in
-    c .refuse .ensures ∙ no-edition (a .edition) (a .bytes .now) (sym (tested .is-none .ensures) ∙ c .before .if1 .taken)
+    c .refuse .ensures ∙ no-edition (a .edition) (a .bytes .now) (sym (tested .is-unknown .ensures) ∙ c .before .if1 .taken)
 
 count-requires : tie.Need-count-requires
 count-requires c κs = search needs
@@ -34,7 +34,7 @@ exact-requires : tie.Need-exact-requires
 exact-requires c κs =
     let tested = c .before .before .before .before in
     let a = tested .before .before .args in
-    in-range (a .edition) (a .bytes .now) (sym (tested .is-none .ensures) ∙ c .before .before .before .if1 .left)
+    in-range (a .edition) (a .bytes .now) (sym (tested .is-unknown .ensures) ∙ c .before .before .before .if1 .left)
 
 returns-2 : tie.Need-returns-2
 returns-2 c =
@@ -42,7 +42,7 @@ returns-2 c =
     let tested = counted .before .before in
     let a = tested .before .before .args in
     c .admit .ensures
-    ∙ quick-accepted (a .edition) (a .bytes .now) (sym (tested .is-none .ensures) ∙ counted .before .if1 .left) _
+    ∙ recognised-accepted (a .edition) (a .bytes .now) (sym (tested .is-unknown .ensures) ∙ counted .before .if1 .left) _
     (sym (counted .count .ensures) ∙ c .before .before .count2 .given .1)
 
 returns-3 : tie.Need-returns-3
@@ -50,4 +50,4 @@ returns-3 c = search needs
 
 pub accept-spec : {M : Type 1} → statement M
 accept-spec =
-    tie.close (tie.spec is-none-requires refuse-requires returns count-requires enum-known-count admit-requires enum-told exact-requires returns-2 returns-3)
+    tie.close (tie.spec is-unknown-requires refuse-requires returns count-requires enum-known-count admit-requires enum-told exact-requires returns-2 returns-3)

@@ -10,7 +10,7 @@ use mir.Syntax.{w64}
 use Rattle.der.specs.declared.element.reading.Element.{Element}
 use Rattle.der.proofs.Laws.{octets-each}
 use Rattle.verdict.specs.meaning.Duplicates.{signed}
-use Rattle.verdict.specs.steps.Collecting.{most, idIn}
+use Rattle.verdict.specs.steps.Collecting.{mostMessages, idIn}
 use Rattle.verdict.proofs.theorems.duplicates.Collecting.{Known, accepted-known, Step, step, Walk, walk-start, walk-end, walk-room, walk-more}
 use Rattle.verdict.proofs.duplicates.collect.Statement.{statement}
 use Rattle.verdict.proofs.duplicates.collect.Tie as tie
@@ -33,7 +33,7 @@ next c =
     step (c .before .before .before .before .args .bytes .now) (c .before .loop .at) (known (c .before .before)) (c .before .loop .inv .among) (c .loop-test .taken)
 
 -- there is room for its number
-room : (c : tie.In-loop Inv-loop μ-loop) → c .before .loop .count < most
+room : (c : tie.In-loop Inv-loop μ-loop) → c .before .loop .count < mostMessages
 room c = let l = c .before .loop in walk-room (c .before .before .before .before .args .bytes .now) (l .numbers) (l .at) (l .count) (known (c .before .before)) (l .inv) (next c)
 
 read-at-requires : tie.Need-read-at-requires Inv-loop μ-loop

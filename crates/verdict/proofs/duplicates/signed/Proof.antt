@@ -11,7 +11,7 @@ use mir.Syntax.{w64}
 use mir.Val.{SFits, toZ, ofZ}
 use Rattle.der.specs.meaning.Length.{valueFrom}
 use Rattle.der.proofs.Laws.{value-none, octets-each}
-use Rattle.verdict.specs.meaning.Duplicates.{part}
+use Rattle.verdict.specs.meaning.Duplicates.{magnitudeOctet}
 use Rattle.verdict.proofs.theorems.duplicates.Magnitudes.{negative, prefix, prefix-fits, prefix-more, prefix-all, signed-negative, signed-positive, minus-one}
 use Rattle.verdict.proofs.duplicates.signed.Statement.{statement}
 use Rattle.verdict.proofs.duplicates.signed.Tie as tie
@@ -31,15 +31,15 @@ fits l i =
 -- with one octet more
 more : (c : tie.In-loop Inv-loop μ-loop) → let content = c .before .before .before .before .args .content .now in
     let i = c .before .loop .i in
-    c .before .loop .m * 256 + part (negative content) (getD content i 0) ≡ prefix content (i + 1)
+    c .before .loop .m * 256 + magnitudeOctet (negative content) (getD content i 0) ≡ prefix content (i + 1)
 more c =
     let content = c .before .before .before .before .args .content .now in
     let i = c .before .loop .i in
-    ap (λ (m : ℕ). m * 256 + part (negative content) (getD content i 0)) (c .before .loop .inv .1) ∙ prefix-more content i (c .loop-test .taken)
+    ap (λ (m : ℕ). m * 256 + magnitudeOctet (negative content) (getD content i 0)) (c .before .loop .inv .1) ∙ prefix-more content i (c .loop-test .taken)
 
 -- the magnitude of all octets
 all : (c : tie.After-loop Inv-loop μ-loop) → let content = c .before .before .before .before .args .content .now in
-    (c .before .loop .m < 2 ^ 63) × (c .before .loop .m ≡ valueFrom 0 (map (part (negative content)) content))
+    (c .before .loop .m < 2 ^ 63) × (c .before .loop .m ≡ valueFrom 0 (map (magnitudeOctet (negative content)) content))
 all c =
     let content = c .before .before .before .before .args .content .now in
     let l = c .before .loop in

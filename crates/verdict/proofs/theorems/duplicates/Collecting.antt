@@ -23,7 +23,7 @@ use Rattle.crmf.specs.meaning.Messages.{Message, messageOf, messages}
 use Rattle.crmf.proofs.Laws.{MessageParts, batch-content, message-parts, fieldRead, fields-end, fields-at, id-read, batch-read, ids-some, ids-eight, messages-few}
 use Rattle.editions.proofs.theorems.Demand2.{nest-read, accepted-in}
 use Rattle.verdict.specs.meaning.Duplicates.{signed, ids}
-use Rattle.verdict.specs.steps.Collecting.{Accepted, most, Collected, idIn, Short}
+use Rattle.verdict.specs.steps.Collecting.{Accepted, mostMessages, Collected, idIn, Short}
 
 -- the messages from a place on
 abbrev pub messagesFrom : List ℕ → ℕ → List Message
@@ -36,7 +36,7 @@ pub record Known (s : List ℕ) : Type 0 where
   pub parts : (m : Message) → List·Memᴰ m (messages (tree 0 s)) → MessageParts m
   pub some : (m : Message) → List·Memᴰ m (messages (tree 0 s)) → 1 ≤ length (m .certReqId .content)
   pub eight : (m : Message) → List·Memᴰ m (messages (tree 0 s)) → length (m .certReqId .content) ≤ 8
-  pub few : length (messages (tree 0 s)) ≤ most
+  pub few : length (messages (tree 0 s)) ≤ mostMessages
 
 -- by the tree that the bytes are read as
 known-tree : {R : ℕ → Bool} (s : List ℕ) (t : Tree) → tree 0 s ≡ t → length s ≤ longest → (top : Matches R (content Top) t)
@@ -105,13 +105,13 @@ step s p k among some =
 
 -- Where the walk stands: so many numbers are collected, and the messages from a place on are left.
 pub record Walk (s : List ℕ) (numbers : List ℤ) (at count : ℕ) : Type 0 where
-  pub room : length numbers ≡ most
-  pub counted : count ≤ most
+  pub room : length numbers ≡ mostMessages
+  pub counted : count ≤ mostMessages
   pub same : take count numbers ++ map idOf (messagesFrom s at) ≡ ids s
   pub among : Among s at
 
 -- where it begins
-pub walk-start : (s : List ℕ) (numbers : List ℤ) → Known s → length numbers ≡ most → Walk s numbers (readAt s 0 (length s) .content) 0
+pub walk-start : (s : List ℕ) (numbers : List ℤ) → Known s → length numbers ≡ mostMessages → Walk s numbers (readAt s 0 (length s) .content) 0
 unfolding ids
 walk-start s numbers k room =
     record {
@@ -132,7 +132,7 @@ module _ (s : List ℕ) (numbers : List ℤ) (at count : ℕ) (k : Known s) (w :
 
   module _ (next : Step s at) where
     -- there is room for one number more
-    pub walk-room : count < most
+    pub walk-room : count < mostMessages
     unfolding ids
     walk-room =
         let front : length (take count numbers) ≡ count = length-take-le count numbers (omega (arith, w .counted, w .room)) in

@@ -14,7 +14,7 @@ use borrow.Author.Tests.{leb-true, leb-false, le-ltb, lt-ltb}
 use Rattle.der.specs.meaning.Octets.{Octets}
 use Rattle.der.specs.meaning.Length.{valueFrom}
 use Rattle.der.proofs.Laws.{value-none, value-more, value-last, value-below, octets-take, octets-none, octets-more, octets-at, octets-rest}
-use Rattle.verdict.specs.meaning.Duplicates.{part, signed}
+use Rattle.verdict.specs.meaning.Duplicates.{magnitudeOctet, signed}
 
 -- whether the number is negative
 abbrev pub negative : List ℕ → Bool
@@ -22,23 +22,23 @@ negative c = leb 0x80 (getD c 0 0)
 
 -- the magnitude that the first octets give
 abbrev pub prefix : List ℕ → ℕ → ℕ
-prefix c i = valueFrom 0 (map (part (negative c)) (take i c))
+prefix c i = valueFrom 0 (map (magnitudeOctet (negative c)) (take i c))
 
 -- the parts of octets are octets
-part-octet : (n : Bool) (b : ℕ) → b < 256 → part n b < 256
+part-octet : (n : Bool) (b : ℕ) → b < 256 → magnitudeOctet n b < 256
 part-octet true b h = omega arith
 part-octet false b h = h
 
-parts-octets : (n : Bool) (c : List ℕ) → Octets c → Octets (map (part n) c)
+parts-octets : (n : Bool) (c : List ℕ) → Octets c → Octets (map (magnitudeOctet n) c)
 parts-octets n [] o = octets-none
 parts-octets n (b ∷ c) o =
-    octets-more (part n b) (map (part n) c) (part-octet n b (octets-at (b ∷ c) o 0)) (parts-octets n c (octets-rest b c o))
+    octets-more (magnitudeOctet n b) (map (magnitudeOctet n) c) (part-octet n b (octets-at (b ∷ c) o 0)) (parts-octets n c (octets-rest b c o))
 
 -- the first octet's part is below 128
-part-first : (b : ℕ) → b < 256 → part (leb 0x80 b) b < 128
+part-first : (b : ℕ) → b < 256 → magnitudeOctet (leb 0x80 b) b < 128
 part-first b h = by-test (leb 0x80 b) refl
   where
-    by-test : (n : Bool) → leb 0x80 b ≡ n → part n b < 128
+    by-test : (n : Bool) → leb 0x80 b ≡ n → magnitudeOctet n b < 128
     by-test true e = omega (arith, leb-true 0x80 b e)
     by-test false e = leb-false 0x80 b e
 
@@ -55,29 +55,29 @@ prefix-fits c zero o short = rw (value-none 0) (lit< tt)
 prefix-fits [] (suc i) o short = rw (value-none 0) (lit< tt)
 prefix-fits (b ∷ c) (suc i) o short =
     let n = leb 0x80 b in
-    let few : length (map (part n) (take i c)) ≤ 7 = simp (length-map, length-take) (omega arith) in
-    value-fits (part n b) (map (part n) (take i c)) (parts-octets n (take i c) (octets-take i c (octets-rest b c o))) (part-first b (octets-at (b ∷ c) o 0)) few
+    let few : length (map (magnitudeOctet n) (take i c)) ≤ 7 = simp (length-map, length-take) (omega arith) in
+    value-fits (magnitudeOctet n b) (map (magnitudeOctet n) (take i c)) (parts-octets n (take i c) (octets-take i c (octets-rest b c o))) (part-first b (octets-at (b ∷ c) o 0)) few
 
 -- one octet more
-pub prefix-more : (c : List ℕ) (i : ℕ) → i < length c → prefix c i * 256 + part (negative c) (getD c i 0) ≡ prefix c (i + 1)
-prefix-more c i h = rw (add-one, take-suc c i 0 h, map-append) (sym (value-last 0 (map (part (negative c)) (take i c)) (part (negative c) (getD c i 0))))
+pub prefix-more : (c : List ℕ) (i : ℕ) → i < length c → prefix c i * 256 + magnitudeOctet (negative c) (getD c i 0) ≡ prefix c (i + 1)
+prefix-more c i h = rw (add-one, take-suc c i 0 h, map-append) (sym (value-last 0 (map (magnitudeOctet (negative c)) (take i c)) (magnitudeOctet (negative c) (getD c i 0))))
 
 -- all octets
-pub prefix-all : (c : List ℕ) (i : ℕ) → length c ≤ i → prefix c i ≡ valueFrom 0 (map (part (negative c)) c)
-prefix-all c i h = ap (λ (l : List ℕ). valueFrom 0 (map (part (negative c)) l)) (take-all i c h)
+pub prefix-all : (c : List ℕ) (i : ℕ) → length c ≤ i → prefix c i ≡ valueFrom 0 (map (magnitudeOctet (negative c)) c)
+prefix-all c i h = ap (λ (l : List ℕ). valueFrom 0 (map (magnitudeOctet (negative c)) l)) (take-all i c h)
 
 -- a negative number, by its magnitude
-pub signed-negative : (c : List ℕ) (m : ℕ) → negative c ≡ true → m ≡ valueFrom 0 (map (part (negative c)) c) → signed c ≡ negsuc m
+pub signed-negative : (c : List ℕ) (m : ℕ) → negative c ≡ true → m ≡ valueFrom 0 (map (magnitudeOctet (negative c)) c) → signed c ≡ negsuc m
 unfolding signed
 signed-negative c m n e =
-    let magnitude : m ≡ valueFrom 0 (map (part true) c) = rw n at e in
+    let magnitude : m ≡ valueFrom 0 (map (magnitudeOctet true) c) = rw n at e in
     rw (signed, le-ltb (getD c 0 0) 0x80 (leb-true 0x80 (getD c 0 0) n)) (ap negsuc (sym magnitude))
 
 -- a number that is not
-pub signed-positive : (c : List ℕ) (m : ℕ) → negative c ≡ false → m ≡ valueFrom 0 (map (part (negative c)) c) → signed c ≡ pos m
+pub signed-positive : (c : List ℕ) (m : ℕ) → negative c ≡ false → m ≡ valueFrom 0 (map (magnitudeOctet (negative c)) c) → signed c ≡ pos m
 unfolding signed
 signed-positive c m n e =
-    let magnitude : m ≡ valueFrom 0 (map (part false) c) = rw n at e in
+    let magnitude : m ≡ valueFrom 0 (map (magnitudeOctet false) c) = rw n at e in
     rw (signed, lt-ltb (getD c 0 0) 0x80 (leb-false 0x80 (getD c 0 0) n)) (ap pos (sym (magnitude ∙ ap (valueFrom 0) (map-id c))))
 
 -- what the machine makes of a negative number's magnitude

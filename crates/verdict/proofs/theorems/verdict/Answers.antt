@@ -8,7 +8,7 @@ use Rattle.der.specs.meaning.Refusal.{accepted, noSuchMessage}
 use Rattle.der.specs.steps.Reading.{tree}
 use Rattle.crmf.specs.meaning.Messages.{messages}
 use Rattle.editions.specs.meaning.Reading.{answer}
-use Rattle.verdict.specs.meaning.Verdict.{refused, judged, messageAt, verdictAnswer}
+use Rattle.verdict.specs.meaning.Verdict.{refused, verdictOn, messageAt, verdictAnswer}
 
 module _ (e : ℕ) (s : List ℕ) (position : ℕ) where
   pub answer-refused : (answer e s .number ≡ accepted → ⊥) → refused (answer e s .number) (answer e s .place) ≡ verdictAnswer e s position
@@ -20,6 +20,6 @@ module _ (e : ℕ) (s : List ℕ) (position : ℕ) where
     unfolding verdictAnswer
     answer-missing past = rw (verdictAnswer, eq-eqb _ _ accepted, le-ltb _ _ past)
 
-    pub answer-judged : position < length (messages (tree 0 s)) → judged (messageAt s position) ≡ verdictAnswer e s position
+    pub answer-judged : position < length (messages (tree 0 s)) → verdictOn (messageAt s position) ≡ verdictAnswer e s position
     unfolding verdictAnswer
     answer-judged within = rw (verdictAnswer, eq-eqb _ _ accepted, lt-ltb _ _ within)

@@ -13,18 +13,18 @@ use borrow.Author.Tests.{eq-eqb, ne-eqb}
 use Rattle.der.specs.declared.element.reading.Element.{Element}
 use Rattle.der.specs.steps.Reading.{readAt}
 use Rattle.der.proofs.Laws.{InOrder, read-at-in-order, read-at-within}
-use Rattle.crmf.specs.meaning.Fields.{Field, fieldsBetween, seek}
-use Rattle.crmf.proofs.Laws.{fieldAt, fields-end, fields-at, seek-none, seek-here, seek-next}
-use Rattle.verdict.specs.declared.verdict.Part.{Part}
-use Rattle.verdict.specs.steps.Judging.{Places, partOf, Found}
+use Rattle.crmf.specs.meaning.Fields.{Field, fieldsBetween, firstWith}
+use Rattle.crmf.proofs.Laws.{fieldAt, fields-end, fields-at, first-with-none, first-with-here, first-with-next}
+use Rattle.verdict.specs.declared.verdict.Extent.{Extent}
+use Rattle.verdict.specs.steps.Judging.{Places, partOf, FieldFound}
 
 -- what is found of equal things
-pub found-as : {o p : Option Field} {r : Part} → o ≡ p → Found o r → Found p r
-found-as {o} {p} {r} same found = subst (λ (q : Option Field). Found q r) same found
+pub found-as : {o p : Option Field} {r : Extent} → o ≡ p → FieldFound o r → FieldFound p r
+found-as {o} {p} {r} same found = subst (λ (q : Option Field). FieldFound q r) same found
 
 -- what is found has a length exactly where it is a field
-pub found-holds : (o : Option Field) (r : Part) → Found o r → not (eqb (r .length) 0) ≡ elim o [ absent ↦ false | some x ↦ true ]
-found-holds absent r found = ap not (eq-eqb (r .length) 0 (ap (λ (p : Part). p .length) (found .part)))
+pub found-holds : (o : Option Field) (r : Extent) → FieldFound o r → not (eqb (r .length) 0) ≡ elim o [ absent ↦ false | some x ↦ true ]
+found-holds absent r found = ap not (eq-eqb (r .length) 0 (ap (λ (p : Extent). p .length) (found .part)))
 found-holds (some x) r found = ap not (ne-eqb (r .length) 0 (λ e. Option·some-ne-none x (found .none e)))
 
 module _ (s : List ℕ) (at end : ℕ) (lent : Places s at end) where
@@ -33,9 +33,9 @@ module _ (s : List ℕ) (at end : ℕ) (lent : Places s at end) where
   skip-end n past = let none = fields-end s at end past in rw (none, drop-nil n)
 
   -- nor is anything found
-  pub find-end : (id : ℕ) → end ≤ at → Found (seek (id ∷ []) (fieldsBetween s at end)) (partOf absent)
+  pub find-end : (id : ℕ) → end ≤ at → FieldFound (firstWith (id ∷ []) (fieldsBetween s at end)) (partOf absent)
   find-end id past =
-      let none : seek (id ∷ []) (fieldsBetween s at end) ≡ absent = ap (seek (id ∷ [])) (fields-end s at end past) ∙ seek-none (id ∷ []) in
+      let none : firstWith (id ∷ []) (fieldsBetween s at end) ≡ absent = ap (firstWith (id ∷ [])) (fields-end s at end past) ∙ first-with-none (id ∷ []) in
       record { part = ap partOf (sym none); none = λ e. none }
 
   -- what is read from a place, whether an element or none
@@ -70,13 +70,13 @@ module _ (s : List ℕ) (at end : ℕ) (lent : Places s at end) where
     skip-next n = sym (ap (drop (suc n)) next-fields)
 
     -- it is the one that is searched for
-    pub find-here : (id : ℕ) → x .identifier ≡ id → Found (seek (id ∷ []) (fieldsBetween s at end)) (record { from = at; length = x .end - at })
+    pub find-here : (id : ℕ) → x .identifier ≡ id → FieldFound (firstWith (id ∷ []) (fieldsBetween s at end)) (record { from = at; length = x .end - at })
     find-here id is =
-        let found : seek (id ∷ []) (fieldsBetween s at end) ≡ some (fieldAt s at x) =
-        ap (seek (id ∷ [])) next-fields ∙ seek-here id (fieldAt s at x) (fieldsBetween s (x .end) end) is in
+        let found : firstWith (id ∷ []) (fieldsBetween s at end) ≡ some (fieldAt s at x) =
+        ap (firstWith (id ∷ [])) next-fields ∙ first-with-here id (fieldAt s at x) (fieldsBetween s (x .end) end) is in
         let o = next-in-order in
         record { part = ap partOf (sym found); none = λ e. absurd (omega arith) }
 
     -- or the search goes on behind it
-    pub find-next : (id : ℕ) → (x .identifier ≡ id → ⊥) → seek (id ∷ []) (fieldsBetween s (x .end) end) ≡ seek (id ∷ []) (fieldsBetween s at end)
-    find-next id other = sym (ap (seek (id ∷ [])) next-fields ∙ seek-next id (fieldAt s at x) (fieldsBetween s (x .end) end) other)
+    pub find-next : (id : ℕ) → (x .identifier ≡ id → ⊥) → firstWith (id ∷ []) (fieldsBetween s (x .end) end) ≡ firstWith (id ∷ []) (fieldsBetween s at end)
+    find-next id other = sym (ap (firstWith (id ∷ [])) next-fields ∙ first-with-next id (fieldAt s at x) (fieldsBetween s (x .end) end) other)

@@ -17,7 +17,7 @@ use Rattle.crmf.specs.meaning.Notation.{among}
 use Rattle.crmf.specs.meaning.Messages.{proofs, Message}
 use Rattle.crmf.proofs.Laws.{fieldAt, fields-at, fields-begin, inside-fields, IfAny, MessageParts, listed-none, listed-some}
 use Rattle.verdict.specs.declared.verdict.Verdict.{Verdict}
-use Rattle.verdict.specs.meaning.Verdict.{named, judged}
+use Rattle.verdict.specs.meaning.Verdict.{hasSubjectAndKey, verdictOn}
 use Rattle.verdict.specs.steps.Judging.{Places, partOf, proofAnswer}
 use Rattle.verdict.proofs.theorems.verdict.Elements.{content-places, behind-places}
 use Rattle.verdict.proofs.theorems.verdict.Judging.{judged-none, judged-proof}
@@ -59,9 +59,9 @@ first-inside s at end lent x read {f} same made = inside-read s at x f (first-re
 module _ (s : List ℕ) (m : Message) (parts : MessageParts m) (at end : ℕ) (lent : Places s at end) (x : Element) (read : x ≡ readAt s at end) where
   -- what it is by an identifier
   abbrev judgedBy : ℕ → Verdict
-  judgedBy id = proofAnswer id (fieldsBetween s (x .content) (x .end)) (named m) (partOf (some (m .certReq)))
+  judgedBy id = proofAnswer id (fieldsBetween s (x .content) (x .end)) (hasSubjectAndKey m) (partOf (some (m .certReq)))
 
-  by-fields : (p q : Option Field) → m .proof ≡ p → m .regInfo ≡ q → fieldsBetween s at end ≡ listed p ++ listed q → judgedBy (x .identifier) ≡ judged m
+  by-fields : (p q : Option Field) → m .proof ≡ p → m .regInfo ≡ q → fieldsBetween s at end ≡ listed p ++ listed q → judgedBy (x .identifier) ≡ verdictOn m
   unfolding proofAnswer
   by-fields (some p) q proven also same =
       let here = first-read s at end lent x read (same ∙ ap (λ (fs : List Field). fs ++ listed q) (listed-some p)) .0 in
@@ -76,7 +76,7 @@ module _ (s : List ℕ) (m : Message) (parts : MessageParts m) (at end : ℕ) (l
       let none = same ∙ ap₂ (λ (fs gs : List Field). fs ++ gs) listed-none listed-none in
       ap judgedBy (none-read s at end lent x read none) ∙ judged-none m lacks
 
-  pub proof-read : fieldsBetween s at end ≡ listed (m .proof) ++ listed (m .regInfo) → judgedBy (x .identifier) ≡ judged m
+  pub proof-read : fieldsBetween s at end ≡ listed (m .proof) ++ listed (m .regInfo) → judgedBy (x .identifier) ≡ verdictOn m
   proof-read same = by-fields (m .proof) (m .regInfo) refl refl same
 
 -- What is read inside a message: its certReq, what stands behind that, and what the certReq holds.

@@ -15,9 +15,9 @@ use Rattle.crmf.specs.meaning.Lists.{same}
 use Rattle.crmf.specs.meaning.Notation.{among, named, order}
 use Rattle.crmf.specs.meaning.Grammar.{content}
 use Rattle.crmf.specs.steps.grammar.Lines.{partSize, size, startsFrom, start, insideLine, passOf, formLines, nextLine, wayLine, partLines, containerLines, linesFrom, lines}
-use Rattle.crmf.specs.steps.explain.Walk.{line, seekIn, seek, closedIn, closed, judged, noted, lengthy, met, walk, fresh}
+use Rattle.crmf.specs.steps.explain.Walk.{line, findLineIn, findLine, closedIn, closed, judged, withForm, withLongId, withElement, walk, emptyTally}
 use Rattle.crmf.specs.meaning.Rows.{firstLong}
-use Rattle.crmf.specs.steps.rows.Fill.{goes, rowsFrom, rowsOf}
+use Rattle.crmf.specs.steps.rows.Fill.{goes, rowsFrom, rowsOfInput}
 use Rattle.crmf.specs.meaning.Fields.{fields, missing, nth, child}
 use Rattle.crmf.specs.meaning.Fields
 use Rattle.crmf.specs.meaning.Messages.{messageOf, batch, messages}
@@ -37,7 +37,7 @@ judgings : Each (λ x. Judges x 0 (x .verdicts)) entries
 unfolding tagNumber constructed allowed valueFrom shortest longForm lengthOf sizedBy headOf
     integer lastOf unpadded objectIdentifier holds listOf primitiveOf elementOf walkAt nothingAt given read treeOf tree same isUpTo keeps typeNumber selected
     among named order content partSize size startsFrom start insideLine passOf formLines nextLine wayLine partLines containerLines linesFrom lines
-    line seekIn seek closedIn closed judged noted lengthy met walk fresh firstLong goes rowsFrom rowsOf fields missing nth Fields.seek child messageOf batch messages
+    line findLineIn findLine closedIn closed judged withForm withLongId withElement walk emptyTally firstLong goes rowsFrom rowsOfInput fields missing nth Fields.firstWith child messageOf batch messages
     batchAnswer answer verdictOf signedOf verdictAnswer
 judgings =
     tt & tt & tt & tt & tt & tt & tt & tt & tt & tt & tt & tt & tt & tt

@@ -12,7 +12,7 @@ use Rattle.crmf.specs.meaning.Messages.{messages}
 use Rattle.editions.specs.meaning.Reading.{answer}
 use Rattle.editions.proofs.theorems.RefusalNumbers.{answer-number}
 use Rattle.verdict.specs.declared.verdict.Verdict.{Verdict}
-use Rattle.verdict.specs.meaning.Verdict.{refused, judged, messageAt, verdictAnswer}
+use Rattle.verdict.specs.meaning.Verdict.{refused, verdictOn, messageAt, verdictAnswer}
 
 -- the verdict answers a number up to 14
 pub verdict-number : (e : ℕ) (s : List ℕ) (position : ℕ) → Octets s → verdictAnswer e s position .number ≤ noSuchMessage
@@ -20,7 +20,7 @@ unfolding verdictAnswer
 verdict-number e s position o = by-tests (eqb (answer e s .number) 0) (ltb position (length (messages (tree 0 s))))
   where
     by-tests : (a b : Bool)
-        → (elim a as (λ x. Verdict) [ false ↦ refused (answer e s .number) (answer e s .place) | true ↦ elim b as (λ x. Verdict) [ false ↦ refused noSuchMessage 0 | true ↦ judged (messageAt s position) ] ]) .number ≤ noSuchMessage
+        → (elim a as (λ x. Verdict) [ false ↦ refused (answer e s .number) (answer e s .place) | true ↦ elim b as (λ x. Verdict) [ false ↦ refused noSuchMessage 0 | true ↦ verdictOn (messageAt s position) ] ]) .number ≤ noSuchMessage
     by-tests false b = omega (arith, answer-number e s o)
     by-tests true false = omega arith
     by-tests true true = omega arith

@@ -23,7 +23,7 @@ use Rattle.editions.specs.meaning.Membership.{InGrammar}
 use Rattle.editions.specs.meaning.Reading.{answer}
 use Rattle.editions.proofs.theorems.Demand2.{nest-read}
 use Rattle.verdict.specs.declared.verdict.Verdict.{Verdict}
-use Rattle.verdict.specs.meaning.Verdict.{signedInput, signedRequest, verdictOf, signedOf, messageAt, refused, judged, verdictAnswer, signedOctets}
+use Rattle.verdict.specs.meaning.Verdict.{signedInput, signedRequest, verdictOf, signedOf, messageAt, refused, verdictOn, verdictAnswer, signedOctets}
 use Rattle.verdict.proofs.theorems.verdict.Answers.{answer-refused, answer-missing, answer-judged}
 use Rattle.verdict.proofs.theorems.verdict.Batches.{Accepted, accepted-tree, position-member}
 use Rattle.verdict.proofs.theorems.verdict.Judging.{SignedInput, input-is, input-there, judged-none, signed-request, signed-input, signed-nothing}
@@ -36,7 +36,7 @@ batch-messages s g = ap messages (nest-read s g)
 pub record Judged (e : ℕ) (s : List ℕ) (position : ℕ) : Type 0 where
   pub accepted : answer e s .number ≡ accepted
   pub within : position < length (messages (tree 0 s))
-  pub same : verdictAnswer e s position ≡ judged (messageAt s position)
+  pub same : verdictAnswer e s position ≡ verdictOn (messageAt s position)
 
 -- A refusal.
 pub record Refused (e : ℕ) (s : List ℕ) (position : ℕ) : Type 0 where

@@ -6,7 +6,7 @@ use mathlib.Core.Path.{_≡_, refl, _∙_}
 use mathlib.Core.List.{[], _∷_}
 use borrow.Author.Needs.{needs}
 use Rattle.der.proofs.Laws.{InOrder}
-use Rattle.crmf.specs.meaning.Fields.{fieldsBetween, seek}
+use Rattle.crmf.specs.meaning.Fields.{fieldsBetween, firstWith}
 use Rattle.verdict.specs.steps.Judging.{Places}
 use Rattle.verdict.proofs.theorems.verdict.Elements.{found-as, find-end, next-in-order, behind-places, find-here, find-next}
 use Rattle.verdict.proofs.verdict.find.Statement.{statement}
@@ -14,7 +14,7 @@ use Rattle.verdict.proofs.verdict.find.Tie as tie
 
 abbrev Inv-loop : tie.InvT-loop
 Inv-loop bytes at end id place₀ place =
-    Places bytes place end × (seek (id ∷ []) (fieldsBetween bytes place end) ≡ seek (id ∷ []) (fieldsBetween bytes at end))
+    Places bytes place end × (firstWith (id ∷ []) (fieldsBetween bytes place end) ≡ firstWith (id ∷ []) (fieldsBetween bytes at end))
 
 abbrev μ-loop : tie.MeasureT-loop
 μ-loop bytes at end id place₀ place = end - place

@@ -4,7 +4,7 @@ use mathlib.Core.Path.{sym, ap, ap₂, _∙_}
 use mathlib.Core.Bool.{_&&_}
 use Rattle.verdict.specs.steps.Judging.{Places, holds}
 use Rattle.verdict.proofs.theorems.verdict.Elements.{content-places, behind-places}
-use Rattle.verdict.proofs.theorems.verdict.Judging.{has-seek}
+use Rattle.verdict.proofs.theorems.verdict.Judging.{has-first}
 use Rattle.verdict.proofs.theorems.verdict.MessagePlaces.{template-held}
 use Rattle.verdict.proofs.verdict.is_named.Statement.{statement}
 use Rattle.verdict.proofs.verdict.is_named.Tie as tie
@@ -36,8 +36,8 @@ returns c = λ m more same thirty.
     let start = second .before .before .before in
     let a = start .args in
     let inside = template-held (a .bytes .now) (a .at) (a .end) (start .pre) (second .before .read-at .result) (second .read-at2 .result) (second .before .read-at .ensures) (second .read-at2 .ensures) m more same thirty in
-    ap₂ _&&_ (c .before .has .ensures ∙ ap (holds 0xA5) inside ∙ sym (has-seek 0xA5 (m .template)))
-    (c .has2 .ensures ∙ ap (holds 0xA6) inside ∙ sym (has-seek 0xA6 (m .template)))
+    ap₂ _&&_ (c .before .has .ensures ∙ ap (holds 0xA5) inside ∙ sym (has-first 0xA5 (m .template)))
+    (c .has2 .ensures ∙ ap (holds 0xA6) inside ∙ sym (has-first 0xA6 (m .template)))
 
 pub is-named-spec : {M : Type 1} → statement M
 is-named-spec =

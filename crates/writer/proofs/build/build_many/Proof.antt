@@ -4,7 +4,7 @@ use Rattle.writer.proofs.theorems.Answering.{shaped-few, zeros-room}
 use native.Mathlib.Omega.{arith}
 use Prim.Native.Nat.{_*_}
 use Rattle.crmf.specs.meaning.Rows.{width}
-use Rattle.writer.specs.meaning.Writing.{most}
+use Rattle.writer.specs.meaning.Writing.{mostRows}
 use Rattle.writer.proofs.build.build_many.Statement.{statement}
 use Rattle.writer.proofs.build.build_many.Tie as tie
 
@@ -14,7 +14,7 @@ slice-aggregate-build-in c = search needs
 build-in-requires : tie.Need-build-in-requires
 build-in-requires c κs =
     let start = c .before .before .before .before .before in
-    zeros-room (start .args .draft .now) (start .args .scratch .now) (width * most) (start .pre .0) (start .pre .1) (omega (arith, shaped-few (start .args .draft .now) (start .pre .0)))
+    zeros-room (start .args .draft .now) (start .args .scratch .now) (width * mostRows) (start .pre .0) (start .pre .1) (omega (arith, shaped-few (start .args .draft .now) (start .pre .0)))
 
 same-length : tie.Need-same-length
 same-length c = search needs

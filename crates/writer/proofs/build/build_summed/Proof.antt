@@ -9,7 +9,7 @@ use mathlib.Core.Bool.{true, and-eq-true-iff}
 use mathlib.Core.Path.{_≡_, sym, _∙_}
 use native.Mathlib.Omega.{arith}
 use Rattle.der.specs.meaning.Bounds.{longest}
-use Rattle.crmf.specs.steps.rows.Assembly.{within}
+use Rattle.crmf.specs.steps.rows.Assembly.{noneLonger}
 use Rattle.writer.specs.meaning.Draft.{inside}
 use Rattle.writer.specs.meaning.Writing.{rowsIn, drafted, candidate, shows, described}
 use Rattle.writer.proofs.theorems.Describing.{too-long, by-showing}
@@ -26,7 +26,7 @@ assemble-requires c κs =
     let d = start .args .draft .now in
     let b = start .args .bytes .now in
     record {
-      fit = and-eq-true-iff (inside b (rowsIn d)) (within longest 0 (drafted d b)) .0 (start .pre .sounds) .1;
+      fit = and-eq-true-iff (inside b (rowsIn d)) (noneLonger longest 0 (drafted d b)) .0 (start .pre .sounds) .1;
       sized = omega (arith, start .pre .rows);
       summed = start .pre .summed;
       room = start .pre .octets;

@@ -6,7 +6,7 @@ use mathlib.Core.Bool.{_&&_}
 use lib.Dec.{eqb, leb}
 use lib.ListN.{length}
 use Rattle.crmf.specs.meaning.Rows.{width}
-use Rattle.writer.specs.meaning.Writing.{most}
+use Rattle.writer.specs.meaning.Writing.{mostRows}
 use Rattle.writer.proofs.theorems.DraftRows.{rows-room}
 use native.Mathlib.Omega.{arith}
 use Rattle.writer.proofs.writer.shaped.Statement.{statement}
@@ -22,7 +22,7 @@ rows-requires-2 : tie.Need-rows-requires-2
 rows-requires-2 c κs = search needs
 
 returns : tie.Need-returns
-returns c = ap₂ (λ (m n : ℕ). eqb (width * m) (length (c .before .before .before .args .draft .now)) && leb n most) (c .before .rows .ensures) (c .rows2 .ensures)
+returns c = ap₂ (λ (m n : ℕ). eqb (width * m) (length (c .before .before .before .args .draft .now)) && leb n mostRows) (c .before .rows .ensures) (c .rows2 .ensures)
 
 pub shaped-spec : {M : Type 1} → statement M
 shaped-spec = tie.close (tie.spec rows-requires mul-result rows-requires-2 returns)

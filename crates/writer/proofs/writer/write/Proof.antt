@@ -9,7 +9,7 @@ use mathlib.Core.List.{List}
 use mathlib.Core.Path.{_≡_, sym, ap, subst, _∙_}
 use native.Mathlib.Omega.{arith}
 use Rattle.crmf.specs.meaning.Lists.{over}
-use Rattle.writer.specs.declared.build.Found.the-variants.{Batch}
+use Rattle.writer.specs.declared.build.Outcome.the-variants.{Batch}
 use Rattle.writer.specs.meaning.Writing.{candidate}
 use Rattle.writer.specs.steps.Inner.{Built}
 use Rattle.writer.proofs.theorems.Describing.{shapeless}

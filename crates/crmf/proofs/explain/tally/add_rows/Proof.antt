@@ -1,4 +1,4 @@
--- `crmf::tally::add_rows` meets its contract: it is the sum, which is far below what a number holds. Assumes nothing.
+-- `crmf::explain::tally::add_rows` meets its contract: it is the sum, which is far below what a number holds. Assumes nothing.
 use mathlib.Core.Path.{refl}
 use borrow.Author.Needs.{needs}
 use Rattle.crmf.proofs.explain.tally.add_rows.Statement.{statement}

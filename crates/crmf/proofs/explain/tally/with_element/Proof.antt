@@ -1,11 +1,11 @@
--- `crmf::tally::with_element` meets its contract: the word's fields are the line's, and the form, the certReqId and the rows are tallied one after another. Assumes nothing.
+-- `crmf::explain::tally::with_element` meets its contract: the word's fields are the line's, and the form, the certReqId and the rows are tallied one after another. Assumes nothing.
 use Prim.Native.Nat.{ℕ, _+_, _-_, _≤_}
 use borrow.Author.Needs.{needs}
 use mathlib.Core.Path.{_≡_, sym, ap, _∙_}
 use native.Mathlib.Omega.{arith}
 use lib.ListN.{getD}
 use Rattle.crmf.specs.steps.grammar.Packed.{packed, markCode, kindField, itemField, markField}
-use Rattle.crmf.specs.steps.explain.Walk.{line, lengthy, rowsOf}
+use Rattle.crmf.specs.steps.explain.Walk.{line, withLongId, rowsOfKind}
 use Rattle.crmf.proofs.theorems.lines.WordFields.{kind-at, item-at, mark-at}
 use Rattle.crmf.proofs.theorems.explain.Meeting.{met-with}
 use Rattle.crmf.proofs.explain.tally.with_element.Statement.{statement}
@@ -50,10 +50,10 @@ returns c =
       λ k e.
           let coded = sym (mark-at k) ∙ ap markField (sym e) ∙ sym (form .before .mark-of .ensures) in
           let is-kind = kinds .kind-of .ensures ∙ ap kindField e ∙ kind-at k in
-          let item = c .before .before .row-of .ensures .0 ∙ ap rowsOf (items .item-of .ensures ∙ ap itemField e ∙ item-at k) in
-          let kind = c .before .row-of2 .ensures .0 ∙ ap rowsOf is-kind in
+          let item = c .before .before .row-of .ensures .0 ∙ ap rowsOfKind (items .item-of .ensures ∙ ap itemField e ∙ item-at k) in
+          let kind = c .before .row-of2 .ensures .0 ∙ ap rowsOfKind is-kind in
           met-with (line k) place whole (a .tally) (form .with-form .result) (long .with-long-id .result) _ _ _ (form .with-form .ensures .0 k coded)
-          (long .with-long-id .ensures .0 ∙ ap (λ (j : ℕ). lengthy j place whole (form .with-form .result)) is-kind) (c .add-rows .ensures) item kind,
+          (long .with-long-id .ensures .0 ∙ ap (λ (j : ℕ). withLongId j place whole (form .with-form .result)) is-kind) (c .add-rows .ensures) item kind,
       omega (arith, c .add-rows .ensures, c .before .row-of2 .ensures .1, c .before .before .row-of .ensures .1, long .with-long-id .ensures .1, form .with-form .ensures .1),
     )
 

@@ -1,4 +1,4 @@
--- `crmf::table::action_of` meets its contract: the word's field is the line's. Assumes nothing.
+-- `crmf::grammar::table::action_of` meets its contract: the word's field is the line's. Assumes nothing.
 use mathlib.Core.Path.{ap, _∙_}
 use Rattle.crmf.specs.steps.grammar.Packed.{actionField}
 use Rattle.crmf.proofs.theorems.lines.WordFields.{action-at}

@@ -1,4 +1,4 @@
--- `crmf::table::closed` meets its contract. The loop's invariant: the container may end where it began if it may end at the line looked at.
+-- `crmf::grammar::table::closed` meets its contract. The loop's invariant: the container may end where it began if it may end at the line looked at.
 -- Assumes nothing.
 use Prim.Native.Nat.{_-_, _<_}
 use mathlib.Core.Path.{_≡_, refl, _∙_}

@@ -1,4 +1,4 @@
--- `crmf::table::general` meets its contract: the identifiers are compared one by one. Assumes nothing.
+-- `crmf::grammar::table::general` meets its contract: the identifiers are compared one by one. Assumes nothing.
 use mathlib.Core.Bool.{or-assoc, or-false}
 use Rattle.crmf.specs.meaning.Notation.{among}
 use Rattle.crmf.proofs.grammar.table.general.Statement.{statement}

@@ -1,8 +1,8 @@
--- `crmf::table::here` meets its contract. Assumes nothing.
+-- `crmf::grammar::table::here` meets its contract. Assumes nothing.
 use mathlib.Core.Bool.{Bool, true, false}
 use mathlib.Core.Path.{sym, ap, _∙_}
 use borrow.Author.Needs.{needs}
-use Rattle.crmf.specs.declared.grammar.table.Found.the-variants.{At, Nowhere}
+use Rattle.crmf.specs.declared.grammar.table.FoundLine.the-variants.{At, Nowhere}
 use Rattle.crmf.proofs.grammar.table.here.Statement.{statement}
 use Rattle.crmf.proofs.grammar.table.here.Tie as tie
 

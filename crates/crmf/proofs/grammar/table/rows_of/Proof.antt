@@ -1,4 +1,4 @@
--- `crmf::table::rows_of` meets its contract: the word's field is the line's. Assumes nothing.
+-- `crmf::grammar::table::rows_of` meets its contract: the word's field is the line's. Assumes nothing.
 use mathlib.Core.Path.{ap, _∙_}
 use native.Mathlib.Omega.{arith}
 use Rattle.crmf.specs.steps.grammar.Packed.{rowsField}

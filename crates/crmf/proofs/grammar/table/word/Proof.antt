@@ -1,4 +1,4 @@
--- `crmf::table::word` meets its contract: past the table's end `getD` answers 0, as the code does. Assumes nothing.
+-- `crmf::grammar::table::word` meets its contract: past the table's end `getD` answers 0, as the code does. Assumes nothing.
 use Prim.Native.Nat.{ℕ, _≤_}
 use mathlib.Core.Path.{ap, sym, subst}
 use borrow.Author.Needs.{needs}

@@ -1,4 +1,4 @@
--- `crmf::table::words` meets its contract: the table is computed, and its numbers are the code's. Assumes nothing.
+-- `crmf::grammar::table::words` meets its contract: the table is computed, and its numbers are the code's. Assumes nothing.
 use mathlib.Core.Path.{refl}
 use Rattle.crmf.proofs.theorems.lines.WordFields.{computed}
 use Rattle.crmf.proofs.grammar.table.words.Statement.{statement}

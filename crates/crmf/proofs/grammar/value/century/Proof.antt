@@ -1,4 +1,4 @@
--- `crmf::value::century` meets its contract: its test is the definition's. Assumes nothing.
+-- `crmf::grammar::value::century` meets its contract: its test is the definition's. Assumes nothing.
 use borrow.Author.Needs.{needs}
 use borrow.Author.Tests.{le-leb, lt-leb}
 use Rattle.crmf.specs.meaning.Value.{century}

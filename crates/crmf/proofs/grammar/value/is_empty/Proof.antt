@@ -1,4 +1,4 @@
--- `crmf::value::is_empty` meets its contract: its test is the definition's. Assumes nothing.
+-- `crmf::grammar::value::is_empty` meets its contract: its test is the definition's. Assumes nothing.
 use mathlib.Core.Path.{refl}
 use Rattle.crmf.specs.meaning.Value.{isEmpty}
 use Rattle.crmf.proofs.grammar.value.is_empty.Statement.{statement}

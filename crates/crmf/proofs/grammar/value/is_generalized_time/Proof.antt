@@ -1,4 +1,4 @@
--- `crmf::value::is_generalized_time` meets its contract: 15 octets are judged as the definition does, and any other length is refused. Assumes nothing.
+-- `crmf::grammar::value::is_generalized_time` meets its contract: 15 octets are judged as the definition does, and any other length is refused. Assumes nothing.
 use Prim.Native.Nat.{_≤_}
 use mathlib.Core.Path.{sym}
 use borrow.Author.Needs.{needs}

@@ -1,4 +1,4 @@
--- `crmf::value::is_moment` meets its contract: the numbers that it reads are the definition's, and so are its tests. Assumes nothing.
+-- `crmf::grammar::value::is_moment` meets its contract: the numbers that it reads are the definition's, and so are its tests. Assumes nothing.
 use borrow.Author.Needs.{needs}
 use Rattle.crmf.specs.meaning.Value.{isMoment}
 use Rattle.crmf.proofs.grammar.value.is_moment.Statement.{statement}

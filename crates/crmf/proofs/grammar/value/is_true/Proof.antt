@@ -1,4 +1,4 @@
--- `crmf::value::is_true` meets its contract: a single octet is compared, and any other length is refused. Assumes nothing.
+-- `crmf::grammar::value::is_true` meets its contract: a single octet is compared, and any other length is refused. Assumes nothing.
 use mathlib.Core.List.{[], _∷_}
 use mathlib.Core.Path.{sym}
 use borrow.Author.Needs.{needs}

@@ -1,4 +1,4 @@
--- `crmf::value::is_up_to` meets its contract: a single octet is tested as the definition does, and any other length is refused.
+-- `crmf::grammar::value::is_up_to` meets its contract: a single octet is tested as the definition does, and any other length is refused.
 -- Assumes nothing.
 use borrow.Author.Needs.{needs}
 use borrow.Author.Tests.{eq-eqb, ne-eqb}

@@ -1,4 +1,4 @@
--- `crmf::value::is_utc_time` meets its contract: 13 octets are judged as the definition does, and any other length is refused. Assumes nothing.
+-- `crmf::grammar::value::is_utc_time` meets its contract: 13 octets are judged as the definition does, and any other length is refused. Assumes nothing.
 use mathlib.Core.Path.{sym}
 use borrow.Author.Needs.{needs}
 use borrow.Author.Tests.{eq-eqb, ne-eqb}

@@ -1,4 +1,4 @@
--- `crmf::value::leap` meets its contract: its tests are the definition's. Assumes nothing.
+-- `crmf::grammar::value::leap` meets its contract: its tests are the definition's. Assumes nothing.
 use mathlib.Core.Path.{refl}
 use Rattle.crmf.specs.meaning.Value.{leap}
 use Rattle.crmf.proofs.grammar.value.leap.Statement.{statement}

@@ -1,4 +1,4 @@
--- `crmf::value::type_number` meets its contract: nine octets are compared as the definition does, and any other length is refused.
+-- `crmf::grammar::value::type_number` meets its contract: nine octets are compared as the definition does, and any other length is refused.
 -- Assumes nothing.
 use borrow.Author.Needs.{needs}
 use native.Mathlib.Omega.{arith}

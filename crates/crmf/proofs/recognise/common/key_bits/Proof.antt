@@ -1,4 +1,4 @@
--- `crmf::small::key_bits` meets its contract: the bytes are one element, a BIT STRING. Assumes nothing.
+-- `crmf::recognise::common::key_bits` meets its contract: the bytes are one element, a BIT STRING. Assumes nothing.
 use borrow.Author.Needs.{needs}
 use borrow.Author.Tests.{eq-eqb}
 use mathlib.Core.Bool.{not, false≢true}

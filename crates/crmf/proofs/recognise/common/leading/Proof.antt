@@ -1,4 +1,4 @@
--- `crmf::small::leading` meets its contract: a span that it answers is the measured one, and the identifier was compared. Assumes nothing.
+-- `crmf::recognise::common::leading` meets its contract: a span that it answers is the measured one, and the identifier was compared. Assumes nothing.
 use Prim.Native.Nat.{_+_, _≤_}
 use borrow.Author.Needs.{needs}
 use mathlib.Core.Path.{refl, sym, ap, _∙_}

@@ -1,4 +1,4 @@
--- `crmf::small::name` meets its contract: one SEQUENCE of RDNs is a Name. Assumes nothing.
+-- `crmf::recognise::common::name` meets its contract: one SEQUENCE of RDNs is a Name. Assumes nothing.
 use borrow.Author.Needs.{needs}
 use borrow.Author.Tests.{eq-eqb}
 use mathlib.Core.Bool.{not, false≢true}

@@ -1,4 +1,4 @@
--- `crmf::small::primitive` meets its contract: one primitive element is a value after an OBJECT IDENTIFIER. Assumes nothing.
+-- `crmf::recognise::common::primitive` meets its contract: one primitive element is a value after an OBJECT IDENTIFIER. Assumes nothing.
 use borrow.Author.Needs.{needs}
 use mathlib.Core.Bool.{Bool, true, false, not, _||_, false≢true}
 use mathlib.Core.Path.{_≡_, refl, sym, _∙_}

@@ -1,4 +1,4 @@
--- `crmf::small::rdn` meets its contract: one SEQUENCE of a type and a value is an RDN with one attribute. Assumes nothing.
+-- `crmf::recognise::common::rdn` meets its contract: one SEQUENCE of a type and a value is an RDN with one attribute. Assumes nothing.
 use borrow.Author.Needs.{needs}
 use borrow.Author.Tests.{eq-eqb}
 use mathlib.Core.Bool.{not, false≢true}

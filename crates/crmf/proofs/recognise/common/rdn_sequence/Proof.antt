@@ -1,4 +1,4 @@
--- `crmf::small::rdn_sequence` meets its contract. The loop's invariant: the bytes are RDNs if those from the place looked at on are.
+-- `crmf::recognise::common::rdn_sequence` meets its contract. The loop's invariant: the bytes are RDNs if those from the place looked at on are.
 -- Assumes nothing.
 use Prim.Native.Nat.{_+_, _-_, _≤_}
 use borrow.Author.Needs.{needs}

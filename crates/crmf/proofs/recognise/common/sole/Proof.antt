@@ -1,4 +1,4 @@
--- `crmf::small::sole` meets its contract: the bytes start with the element, and end with it. Assumes nothing.
+-- `crmf::recognise::common::sole` meets its contract: the bytes start with the element, and end with it. Assumes nothing.
 use borrow.Author.Needs.{needs}
 use mathlib.Core.Path.{refl}
 use Rattle.crmf.proofs.recognise.common.sole.Statement.{statement}

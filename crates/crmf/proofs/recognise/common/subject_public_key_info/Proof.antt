@@ -1,4 +1,4 @@
--- `crmf::small::subject_public_key_info` meets its contract: an AlgorithmIdentifier, and a BIT STRING after it. Assumes nothing.
+-- `crmf::recognise::common::subject_public_key_info` meets its contract: an AlgorithmIdentifier, and a BIT STRING after it. Assumes nothing.
 use borrow.Author.Needs.{needs}
 use borrow.Author.Tests.{not-false}
 use mathlib.Core.Bool.{false≢true}

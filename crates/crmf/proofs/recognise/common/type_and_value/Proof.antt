@@ -1,4 +1,4 @@
--- `crmf::small::type_and_value` meets its contract: an OBJECT IDENTIFIER, and a primitive element after it or nothing. Assumes nothing.
+-- `crmf::recognise::common::type_and_value` meets its contract: an OBJECT IDENTIFIER, and a primitive element after it or nothing. Assumes nothing.
 use native.Mathlib.Omega.{arith}
 use borrow.Author.Needs.{needs}
 use borrow.Author.Tests.{not-true, not-false}

@@ -1,4 +1,4 @@
--- `crmf::step::take` meets its contract: an action says what its line is, and each way out is what such a line says. Assumes nothing.
+-- `crmf::recognise::step::take` meets its contract: an action says what its line is, and each way out is what such a line says. Assumes nothing.
 use borrow.Author.Needs.{needs}
 use Prim.Native.Nat.{ℕ, _+_, _≤_, _<_}
 use mathlib.Core.Path.{_≡_, refl, sym, ap, subst, _∙_}

@@ -1,4 +1,4 @@
--- `crmf::step::take_by_fields` meets its contract: the mark, the value and the inside are the line's. Assumes nothing.
+-- `crmf::recognise::step::take_by_fields` meets its contract: the mark, the value and the inside are the line's. Assumes nothing.
 use borrow.Author.Needs.{needs}
 use Prim.Native.Nat.{ℕ, _/_}
 use mathlib.Core.Path.{_≡_, sym, ap, subst, _∙_}
@@ -11,7 +11,7 @@ use Rattle.crmf.specs.steps.grammar.Codes as codes
 use Rattle.crmf.specs.meaning.Kinds as kinds
 use Rattle.crmf.specs.steps.grammar.Packed.{packed, markField, insideField, markCode}
 use Rattle.crmf.specs.steps.explain.Walk.{line, judged}
-use Rattle.crmf.specs.steps.recognise.Count.{stands}
+use Rattle.crmf.specs.steps.recognise.Count.{mayStand}
 use Rattle.crmf.specs.steps.recognise.Inner.{VisitJustified}
 use Rattle.crmf.proofs.theorems.lines.WordFields.{mark-at, inside-at}
 use Rattle.crmf.proofs.theorems.recognise.StepWays.{reads, stands-by, refuse-breaks, refuse-wrong, descend, skip-whole}
@@ -29,7 +29,7 @@ module _ (c : tie.After-mark-of) where
   -- an element of the line may stand in its form as the test of its mark says
   standing : (k whole : ℕ) → start .args .word ≡ getD packed k 0 → eqb (line k .kind) kinds.certReqId ≡ false → (b : Bool)
       → (not (eqb (c .mark-of .result) 0) && not (eqb (c .mark-of .result / codes.edition) (start .args .edition))) ≡ b
-      → stands (start .args .edition) (line k) whole ≡ not b
+      → mayStand (start .args .edition) (line k) whole ≡ not b
   standing k whole e short b test =
       let coded : markCode (line k .mark) ≡ c .mark-of .result = sym (mark-at k) ∙ ap markField (sym e) ∙ sym (c .mark-of .ensures) in
       stands-by _ k whole short ∙ reads k _ _ coded ∙ ap not test
@@ -37,8 +37,8 @@ module _ (c : tie.After-mark-of) where
 returns : tie.Need-returns
 returns c k whole e short = refuse-wrong _ k whole _ _ _ (standing (c .before) k whole e short true (c .if1 .taken))
 
-value-says-requires : tie.Need-value-says-requires
-value-says-requires c κs = search needs
+judge-value-requires : tie.Need-judge-value-requires
+judge-value-requires c κs = search needs
 
 enum-known-detail : tie.Need-enum-known-detail
 enum-known-detail c = search needs
@@ -63,10 +63,10 @@ module _ (c : tie.After-inside-of) where
 
   says : (k : ℕ) → word ≡ getD packed k 0
       → judged (line k .judge) (line k .next) (marked .before .before .args .content .now) ≡ To (c .before .before .next .given .0 .0)
-  says k e = sym (c .before .before .before .before .value-says .ensures k e) ∙ c .before .before .next .given .1
+  says k e = sym (c .before .before .before .before .judge-value .ensures k e) ∙ c .before .before .next .given .1
 
   stood : (k whole : ℕ) → word ≡ getD packed k 0 → eqb (line k .kind) kinds.certReqId ≡ false
-      → stands (marked .before .before .args .edition) (line k) whole ≡ true
+      → mayStand (marked .before .before .args .edition) (line k) whole ≡ true
   stood k whole e short = standing marked k whole e short false (c .before .before .before .before .before .if1 .left)
 
 returns-2 : tie.Need-returns-2
@@ -82,7 +82,7 @@ skip-or-refuse-requires c κs = search needs
 
 returns-3 : tie.Need-returns-3
 returns-3 c k whole e short =
-    refuse-breaks _ k whole _ _ _ _ (sym (c .before .before .before .value-says .ensures k e) ∙ c .before .detail .given .1)
+    refuse-breaks _ k whole _ _ _ _ (sym (c .before .before .before .judge-value .ensures k e) ∙ c .before .detail .given .1)
 
 returns-4 : tie.Need-returns-4
 returns-4 c k whole e short =
@@ -97,7 +97,7 @@ take-by-fields-spec =
     (tie.spec
     mark-of-requires
     returns
-    value-says-requires
+    judge-value-requires
     enum-known-detail
     enum-known-next
     inside-of-requires

@@ -2,7 +2,7 @@
 use mathlib.Core.Path.{refl, sym, _∙_}
 use native.Mathlib.Nat.{not-le-of-lt}
 use lib.Arith.{le-of-le-suc-ne as down}
-use Rattle.der.specs.meaning.Utf8.{Within}
+use Rattle.der.specs.meaning.Utf8.{InRange}
 use Rattle.der.specs.steps.Utf8Classes.{leads, tails, lowest, highest}
 use Rattle.der.proofs.theorems.content.Utf8Steps.{begin, no-lead, none-leads}
 use Rattle.der.proofs.content.utf8.lead.Statement.{statement}
@@ -41,7 +41,7 @@ unfolding leads tails lowest highest
 returns-8 c b bs e = sym (begin b (e ∙ c .match .keys8) refl 1 3 bs)
 
 -- no class from 4 to 10 is left, from the top down
-none : (c : tie.At-match-rest) → Within 4 10 (c .before .args .class) → ⊥
+none : (c : tie.At-match-rest) → InRange 4 10 (c .before .args .class) → ⊥
 none c w =
     let r = c .match .rest in
     let s = r .0 .0 .0 in

@@ -8,7 +8,7 @@ use borrow.Author.Needs.{needs}
 use borrow.Author.Tests.{leb-true, eqb-true}
 use lib.Dec.{leb, eqb}
 use lib.ListN.{length, drop, drop-of-length-le}
-use Rattle.der.specs.steps.Utf8Classes.{utf8From, utf8, after}
+use Rattle.der.specs.steps.Utf8Classes.{utf8From, utf8, afterStep}
 use Rattle.der.proofs.theorems.content.Utf8Steps.{turn, step-many}
 use Rattle.der.proofs.content.utf8.text.Statement.{statement}
 use Rattle.der.proofs.content.utf8.text.Tie as tie
@@ -75,7 +75,7 @@ enum-told c = search needs
 turned : (c : tie.After-advance Inv-loop μ-loop) →
     let a = c .before .before .before .before .before in
     let content = a .before .before .args .content .now in
-    after (c .advance .result) (drop (a .loop .i + 1) content) ≡ utf8 content
+    afterStep (c .advance .result) (drop (a .loop .i + 1) content) ≡ utf8 content
 turned c =
     let a = c .before .before .before .before .before in
     let p = a .before .before in

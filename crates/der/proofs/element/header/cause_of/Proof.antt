@@ -1,4 +1,4 @@
--- `der::header::cause_of` meets its contract: each way out is a law of the cause. Assumes nothing.
+-- `der::element::header::cause_of` meets its contract: each way out is a law of the cause. Assumes nothing.
 use borrow.Author.Needs.{needs}
 use borrow.Author.Tests.{not-true, not-false}
 use mathlib.Core.Bool.{true}

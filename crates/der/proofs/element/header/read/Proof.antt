@@ -1,4 +1,4 @@
--- `der::header::read` meets its contract: with an identifier that is allowed a span is the header, and without either the header is broken
+-- `der::element::header::read` meets its contract: with an identifier that is allowed a span is the header, and without either the header is broken
 -- for the cause that is told. Assumes nothing.
 use borrow.Author.Needs.{needs}
 use mathlib.Core.Bool.{true, false}

@@ -1,4 +1,4 @@
--- `der::identifier::is_allowed` meets its contract: the code agrees with the definition at every octet, which is computed. Assumes nothing.
+-- `der::element::identifier::is_allowed` meets its contract: the code agrees with the definition at every octet, which is computed. Assumes nothing.
 use borrow.Author.Needs.{needs}
 use Prim.Native.Nat.{ℕ, _+_, _-_, _/_, _%_, _^_}
 use mathlib.Core.Bool.{Bool, true, not, _||_, Bool·beq}

@@ -1,4 +1,4 @@
--- `der::reading::nothing_at` meets its contract: the code is the definition. Assumes nothing.
+-- `der::element::reading::nothing_at` meets its contract: the code is the definition. Assumes nothing.
 use mathlib.Core.Path.{refl}
 use Rattle.der.specs.steps.Reading.{nothingAt}
 use Rattle.der.proofs.element.reading.nothing_at.Statement.{statement}

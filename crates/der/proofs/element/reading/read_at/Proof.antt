@@ -1,4 +1,4 @@
--- `der::reading::read_at` meets its contract: a span of the part after an identifier that is allowed is its header, and without one the
+-- `der::element::reading::read_at` meets its contract: a span of the part after an identifier that is allowed is its header, and without one the
 -- header is broken. Assumes nothing.
 use borrow.Author.Needs.{needs}
 use mathlib.Core.Path.{_≡_, sym, ap, _∙_}

@@ -1,4 +1,4 @@
--- `crmf::table::seek` meets its contract. The loop's invariant: the search from the line looked at finds what it finds from where it began.
+-- `crmf::grammar::table::find_line` meets its contract. The loop's invariant: the search from the line looked at finds what it finds from where it began.
 -- Assumes nothing.
 use Prim.Native.Nat.{_-_, _<_}
 use mathlib.Core.Bool.{false}
@@ -9,14 +9,14 @@ use native.Mathlib.Numerals.{add-one}
 use lib.ListN.{getD}
 use Rattle.crmf.specs.meaning.Notation.{named}
 use Rattle.crmf.specs.steps.grammar.Packed.{passField, passCode, identifiersField, identifiersCode}
-use Rattle.crmf.specs.steps.explain.Walk.{line, seek}
+use Rattle.crmf.specs.steps.explain.Walk.{line, findLine}
 use Rattle.crmf.proofs.theorems.lines.WordFields.{lineCount, pass-at, identifiers-at}
-use Rattle.crmf.proofs.theorems.lines.Search.{stays, moves, own-code, other-code, seek-here, seek-stops, seek-next, seek-ends, seek-past}
-use Rattle.crmf.proofs.grammar.table.seek.Statement.{statement}
-use Rattle.crmf.proofs.grammar.table.seek.Tie as tie
+use Rattle.crmf.proofs.theorems.lines.Search.{stays, moves, own-code, other-code, find-line-here, find-line-stops, find-line-next, find-line-ends, find-line-past}
+use Rattle.crmf.proofs.grammar.table.find_line.Statement.{statement}
+use Rattle.crmf.proofs.grammar.table.find_line.Tie as tie
 
 abbrev Inv-loop : tie.InvT-loop
-Inv-loop table from id k₀ k = seek k id ≡ seek from id
+Inv-loop table from id k₀ k = findLine k id ≡ findLine from id
 
 abbrev μ-loop : tie.MeasureT-loop
 μ-loop table from id k₀ k = lineCount - k
@@ -53,7 +53,7 @@ returns : tie.Need-returns Inv-loop μ-loop
 returns c =
     let d = c .before in
     let k = a d .loop .k in
-    seek-here k (inside (d .before)) (a d .before .args .id) (own-code (line k .identifiers) _ (sym (coded d) ∙ c .if1 .taken)) ∙ a d .loop .inv
+    find-line-here k (inside (d .before)) (a d .before .args .id) (own-code (line k .identifiers) _ (sym (coded d) ∙ c .if1 .taken)) ∙ a d .loop .inv
 
 here-requires : tie.Need-here-requires Inv-loop μ-loop
 here-requires c κs = search needs
@@ -63,7 +63,7 @@ returns-2 c =
     let d = c .before .before .before in
     let k = a d .loop .k in
     let e = coded d in
-    c .here .ensures (line k .identifiers) (sym e) ∙ seek-ends k (inside (d .before)) (a d .before .args .id) (omega arith) ∙ a d .loop .inv
+    c .here .ensures (line k .identifiers) (sym e) ∙ find-line-ends k (inside (d .before)) (a d .before .args .id) (omega arith) ∙ a d .loop .inv
 
 -- behind the two tests of its identifiers the line doesn't have the identifier
 unfit : (c : tie.Else2 Inv-loop μ-loop) →
@@ -80,7 +80,7 @@ returns-3 c =
     let d = c .before .before .before in
     let k = a d .loop .k in
     let e = looked d in
-    seek-stops k (inside (d .before)) (a d .before .args .id) (unfit (c .before)) (stays (line k .pass) (omega arith)) ∙ a d .loop .inv
+    find-line-stops k (inside (d .before)) (a d .before .args .id) (unfit (c .before)) (stays (line k .pass) (omega arith)) ∙ a d .loop .inv
 
 add-k : tie.Need-add-k Inv-loop μ-loop
 add-k c = search needs
@@ -94,14 +94,14 @@ loop-again c =
     let d = c .before .before .before in
     let k = a d .loop .k in
     let e = looked d in
-    rw add-one (seek-next k (inside (d .before)) (a d .before .args .id) (unfit (c .before)) (moves (line k .pass) (omega arith)) ∙ a d .loop .inv)
+    rw add-one (find-line-next k (inside (d .before)) (a d .before .args .id) (unfit (c .before)) (moves (line k .pass) (omega arith)) ∙ a d .loop .inv)
 
 returns-4 : tie.Need-returns-4 Inv-loop μ-loop
 unfolding lineCount
-returns-4 c = seek-past (c .before .loop .k) (c .loop-test .left) (c .before .before .args .id) ∙ c .before .loop .inv
+returns-4 c = find-line-past (c .before .loop .k) (c .loop-test .left) (c .before .before .args .id) ∙ c .before .loop .inv
 
-pub seek-spec : {M : Type 1} → statement M
-seek-spec =
+pub find-line-spec : {M : Type 1} → statement M
+find-line-spec =
     tie.close
     (tie.spec
     Inv-loop

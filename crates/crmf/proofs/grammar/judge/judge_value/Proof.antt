@@ -1,4 +1,4 @@
--- `crmf::judge::value_says` meets its contract: the word's fields are the line's, and each way out is what the judge says. Assumes nothing.
+-- `crmf::grammar::judge::judge_value` meets its contract: the word's fields are the line's, and each way out is what the judge says. Assumes nothing.
 use borrow.Author.Needs.{needs}
 use Prim.Native.Nat.{ℕ, _+_}
 use mathlib.Core.Path.{_≡_, sym, ap, _∙_}
@@ -9,8 +9,8 @@ use Rattle.crmf.specs.steps.grammar.Packed.{packed, judgeCode, judgeFiel
 use Rattle.crmf.specs.steps.explain.Walk.{line}
 use Rattle.crmf.proofs.theorems.lines.WordFields.{judge-at, next-at}
 use Rattle.crmf.proofs.theorems.lines.Judging.{kept, lost, selects, selects-none}
-use Rattle.crmf.proofs.grammar.judge.value_says.Statement.{statement}
-use Rattle.crmf.proofs.grammar.judge.value_says.Tie as tie
+use Rattle.crmf.proofs.grammar.judge.judge_value.Statement.{statement}
+use Rattle.crmf.proofs.grammar.judge.judge_value.Tie as tie
 
 judge-of-requires : tie.Need-judge-of-requires
 judge-of-requires c κs = search needs
@@ -80,8 +80,8 @@ returns-4 c = λ k e.
     let d = c .before .before .before .before in
     selects-none (line k .next) _ (content d) (c .before .before .before .if1 .left) _ (c .before .before .selected .ensures .0) _ (c .before .ways .ensures .0) (line k .judge) (coded d k e) (c .if3 .left)
 
-pub value-says-spec : {M : Type 1} → statement M
-value-says-spec =
+pub judge-value-spec : {M : Type 1} → statement M
+judge-value-spec =
     tie.close
     (tie.spec
     judge-of-requires
