@@ -1,4 +1,4 @@
-# The tool, the benchmarks and what is installed. The archive is built from the proved crates where there is none yet.
+# The tool, the benchmarks and what is installed. The archive is built from the proved crates if there is none yet.
 PREFIX ?= /usr/local
 CC = gcc
 CFLAGS ?= -O2
@@ -18,7 +18,7 @@ INSTALLED = $(DESTDIR)$(PREFIX)
 
 .PHONY: all install demo bench test clean help
 
-all: $(BUILD)/phagundro ## the archive, where there is none yet, and the tool
+all: $(BUILD)/phagundro ## the archive, if there is none yet, and the tool
 
 $(ARCHIVE):
 	rt staticlib capi

@@ -1,4 +1,4 @@
-// OpenSSL's own decoder of the same batches, where the program is built with it.
+// OpenSSL's own decoder of the same batches, if the program is built with it.
 #include "subjects.h"
 
 #ifdef WITH_OPENSSL

@@ -1,4 +1,4 @@
-// What the benchmarks measure beside the library's own calls.
+// What the benchmarks measure besides the library's own calls.
 #ifndef SUBJECTS_H
 #define SUBJECTS_H
 
@@ -7,13 +7,13 @@
 #include <stdint.h>
 
 // The floor: walks the nest of elements by identifiers and lengths alone, with no content rule, no grammar and no rows. Answers whether the
-// bytes are elements without end trouble.
+// bytes are elements that each end in time.
 bool floor_walk(const uint8_t *bytes, size_t length);
 
 // Whether the program was built with OpenSSL.
 extern const bool openssl_there;
 
-// Decodes the batch by OpenSSL and gives back what it took. Answers whether it could.
+// Decodes the batch with OpenSSL and frees the result. Answers whether it could.
 bool openssl_decode(const uint8_t *bytes, size_t length);
 
 #endif

@@ -1,4 +1,4 @@
-"""The messages of independent encoders in corpus/, and the model held against what is to be answered for each."""
+"""The messages of independent encoders in corpus/, and the model checked against the expected answer for each."""
 
 import pathlib
 import re
@@ -19,7 +19,7 @@ def lines():
 
 
 def expected():
-    """The answers to be given: (name, edition) with (number, place, count)."""
+    """The expected answers: (name, edition) with (number, place, count)."""
     return {(name, int(edition)): tuple(map(int, answer[:3])) for name, edition, *answer in lines()}
 
 
@@ -49,7 +49,7 @@ def rows(name):
 
 
 def missing():
-    """What is not there that should be, or is there and shouldn't."""
+    """Files that are missing, and files that nothing expects."""
     shown = {name for (name, _), (number, _, count) in expected().items() if number == Answer.ACCEPTED and count <= SHOWN}
     should = {"expected.txt"} | {f"{name}.der" for name in names()} | {f"{name}.rows" for name in shown}
     there = {path.name for path in FOLDER.iterdir()}

@@ -1,4 +1,4 @@
-"""The stored files of the program crmf_cases, built from the table crmf_cases.txt, and the table held against the model."""
+"""The stored files of the program crmf_cases, built from the table crmf_cases.txt, and the table checked against the model."""
 
 import functools
 import pathlib

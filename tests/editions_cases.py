@@ -1,5 +1,5 @@
 """The stored files of the program editions_cases: the cases of the table editions_cases.txt and the messages of corpus/; and the table
-held against the model."""
+checked against the model."""
 
 import functools
 import pathlib

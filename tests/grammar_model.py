@@ -97,7 +97,7 @@ class Walk:
         return len(self.rows) - 1
 
     def alone(self, edition, difference, element):
-        """The element stands in a form that one edition alone allows."""
+        """The element is in a form that one edition alone allows."""
         if edition not in self.editions:
             raise Break(element, GrammarDetail.LIST_OR_LOCATION if difference == Difference.LOCATION else GrammarDetail.FITS_NO_PART)
         self.differences.append((element.place, edition, difference))
@@ -368,7 +368,7 @@ def is_time(element):
 def walk(octets, editions):
     """The walk over the first element of octets whose nest is sound, with the forms of these editions alone readable.
 
-    Answers the break, as (place, detail), or None where the batch is in the grammar; and the Walk, which has the rows and differences.
+    Answers the break, as (place, detail), or None if the batch is in the grammar; and the Walk, which has the rows and differences.
     """
     met = Walk(editions)
     try:

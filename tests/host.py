@@ -1,7 +1,7 @@
 """The programs of host/, compiled and run: what the tests of the C boundary have in common.
 
-host/reference*.c is document 01 in plain C, written from that paper alone; host/compare*.c hold the archive against it, on inputs at
-random. A fault can be planted in the plain C, so that a comparison is seen to find it.
+host/reference*.c is document 01 in plain C, written from that paper alone; host/compare*.c check the archive against it, on inputs at
+random. A fault can be planted in the plain C, to show that a comparison finds it.
 """
 
 import functools

@@ -1,5 +1,5 @@
-"""The reading in plain C, host/reference.c: held against the corpus, against host/examples.txt and against the model of the grammar; and
-the archive held against it by host/compare_reading.c, on inputs that host/inputs.c makes."""
+"""The reading in plain C, host/reference.c, checked against the corpus, host/examples.txt and the model of the grammar; and
+the archive checked against it by host/compare_reading.c, on inputs that host/inputs.c makes."""
 
 import itertools
 import re

@@ -1,5 +1,5 @@
-"""The verdict and the duplicate search in plain C, host/reference_verdict.c: held against the corpus and the table of cases, and against
-the model; and the archive held against it by host/compare_verdict.c, on the inputs of the reading and on batches that host/requests.c
+"""The verdict and the duplicate search in plain C, host/reference_verdict.c, checked against the corpus, the table of cases and
+the model; and the archive checked against it by host/compare_verdict.c, on the inputs of the reading and on batches that host/requests.c
 makes."""
 
 import corpus

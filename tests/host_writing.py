@@ -1,5 +1,5 @@
-"""The writing in plain C, host/reference_writing.c: held against the cases of writer_cases.txt and against the model of writing; and the
-archive held against it by host/compare_writing.c, on drafts that host/drafts.c makes."""
+"""The writing in plain C, host/reference_writing.c, checked against the cases of writer_cases.txt and the model of writing; and the
+archive checked against it by host/compare_writing.c, on drafts that host/drafts.c makes."""
 
 import host
 import writer_cases

@@ -1,5 +1,6 @@
 """The repository as a whole: the list of crates, the formatting of their files, and what no text speaks of."""
 
+import functools
 import pathlib
 import re
 import subprocess
@@ -17,6 +18,7 @@ def listed():
     return sorted(line.partition(":")[0].strip() for line in lines if line)
 
 
+@functools.cache
 def folders():
     return sorted(path.name for path in CRATES.iterdir())
 

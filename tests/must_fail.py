@@ -1,16 +1,16 @@
 """What refused the must-fail edits, as the logs that `rt ci` leaves have it.
 
-An edit is one wrong program, or several that don't touch each other, which saves a proof of the crate for each. Each stands below the
-comment that says what is wrong with it. A line `refused: proofs/..`, with a declaration's name after it where the file alone says too
-little, names the proof that must refuse it; `refused: fn ..` a function that Rattle proves by itself. With one wrong program the line may
-be left out: any proof may refuse it.
+An edit is one wrong program, or several that don't touch each other, which saves a proof of the crate for each. Each is below the
+comment that says what is wrong with it. A line `refused: proofs/..`, with a declaration's name after it if the file alone says too
+little, names the proof that must refuse it; `refused: fn ..` names a function that Rattle proves by itself. With one wrong program the line
+may be left out: then any proof may refuse it.
 """
 
 import re
 
 from layout import CRATES, ROOT
 
-# Errors that show nothing of a fact: a file is only unfit, as by a name taken away, or it waits for what was refused elsewhere.
+# Errors that show nothing of a fact: a file no longer fits, as when a name is gone, or it waits for what was refused elsewhere.
 UNFIT = ("that can be named from here", "is not in scope", "has no field", "was not admitted", "so this cannot be checked")
 
 # What is said of a function that Rattle proves by itself: it has no proof file to refuse.

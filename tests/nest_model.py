@@ -2,7 +2,7 @@
 
 It takes the text at its word: every rule is judged by itself, as far as there are octets to judge, and of all the faults the one
 with the least first byte is answered, and within one element the first in the document's order. The answer is
-(number, place, detail), or (ACCEPTED, end) where there is no fault: end is the place past the first element. TRUNCATED has a
+(number, place, detail), or (ACCEPTED, end) if there is no fault: end is the place past the first element. TRUNCATED has a
 TruncatedDetail, BAD_CONTENT the tag number, and any other fault 0.
 """
 
@@ -36,7 +36,7 @@ def nest(octets):
 
 
 def element(octets, place, parent_end, depth, faults):
-    """Adds the faults of an element and of those inside it, as (first byte, name); answers its end, or None where it has a fault."""
+    """Adds the faults of an element and of those inside it, as (first byte, name); answers its end, or None if it has a fault."""
     own = octets[place:parent_end]
     broken = set()
     if depth > DEEPEST:
@@ -72,7 +72,7 @@ def allowed(identifier):
 
 
 def length(own):
-    """The octets before the content, its length (None where length octets are missing), and whether it is a BAD_LENGTH."""
+    """The octets before the content, its length (None if length octets are missing), and whether it is a BAD_LENGTH."""
     first = own[1]
     if first < 0x80:
         return 2, first, False

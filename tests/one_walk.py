@@ -1,5 +1,5 @@
-"""One walk that reads the forms of both editions decides each edition's answer: held against the answers of document 01's own words,
-by which NOT_IN_GRAMMAR is this edition's own stop and OTHER_EDITION needs the opposite edition's grammar."""
+"""One walk that reads the forms of both editions decides each edition's answer. It is checked against document 01's own words, by
+which NOT_IN_GRAMMAR is this edition's own stop and OTHER_EDITION needs the opposite edition's grammar."""
 
 import corpus
 import crmf_cases

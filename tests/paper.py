@@ -1,5 +1,5 @@
 """The papers' numbers, each named once: the answers, the row kinds, the verdicts, the columns of a row and the limits of document 01, and
-the details of request A9. The models and the tests use these names, and a test holds the C header against them."""
+the details of request A9. The models and the tests use these names, and a test checks the C header against them."""
 
 import enum
 import typing

@@ -141,7 +141,7 @@ def other_verdicts(folder):
 
 
 def other_editions():
-    """Where editions doesn't show both expected answers, or its status is not ACCEPTED exactly where one of them is."""
+    """Where editions doesn't show both expected answers, or its status is not ACCEPTED exactly if one of them is."""
     wrong = []
     for name in corpus.names():
         answers = [corpus.expected()[name, edition] for edition in EDITIONS]
@@ -181,7 +181,7 @@ def wrong_lines():
         (["read", minimal], "--edition 1 (RFC 2511) or --edition 2 (RFC 4211)"), (["write", "-", minimal], "--edition 1"),
         (["duplicates", minimal], "--edition 1"), (["verdict", "--edition", 2, minimal], "--position"),
         (["verdict", "--position", 0, minimal], "--edition 1"), (["editions", "--edition", 2, minimal], "no such option"),
-        (["read", "--edition"], "--edition wants"), (["read", "--edition", "two", minimal], "not a whole number"),
+        (["read", "--edition"], "--edition wants 1 or 2 after it"), (["read", "--edition", "two", minimal], "not a whole number"),
         (["read", "--edition", "-1", minimal], "not a whole number"),
         (["read", "--edition", "18446744073709551616", minimal], "not a whole number"),
         (["read", "--edition", 1, "--edition", 2, minimal], "given twice"), (["read", "--edition", 2, "--hex=1"], "takes no value"),

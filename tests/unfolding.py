@@ -17,17 +17,30 @@ LINE = re.compile(r"^( *)unfolding\b(?P<names>.*(?:\n\1 +.*)*)", re.MULTILINE)
 TERM = re.compile(r"(?<![\w·-])unfold\s(?P<names>.*?)\sin\b", re.DOTALL)
 ABBREVIATION = re.compile(r"^ *(?:unfoldable )?abbrev pub (?P<name>\S+)", re.MULTILINE)
 
-# Each as crate.module.name, with what it is open for.
+# Each as crate.module.name, or crate.module for all of a module's, with what it is open for.
 OPEN = {
-    "der.Walk.depth": "document 01's number, which proofs count down from",
-    "der.Walk.longest": "document 01's number, which arithmetic compares with",
-    "crmf.Rows.width": "document 01's number, which arithmetic multiplies by",
-    "crmf.Messages.proofs": "document 01's list of identifiers",
-    "crmf.Walk.every": "the test that is always true",
-    "crmf.Fields.StandsAt": "a type's name: an equation",
-    "crmf.Pieces.pieceOf": "a record's name: its fields are read",
-    "editions.Reading.accepted": "a record's name: its fields are read",
-    "editions.Reading.refusal": "a record's name: its fields are read",
+    "der.meaning.Bounds": "document 01's bounds, which arithmetic compares with and counts down from",
+    "der.meaning.Refusal": "document 01's numbers",
+    "editions.meaning.Edition": "document 01's numbers",
+    "crmf.meaning.Kinds": "document 01's numbers",
+    "crmf.meaning.Rows.width": "document 01's number, which arithmetic multiplies by",
+    "crmf.meaning.Messages.proofs": "document 01's list of identifiers",
+    "crmf.steps.explain.Walk.every": "the test that is always true",
+    "crmf.meaning.Fields.StandsAt": "a type's name: an equation",
+    "crmf.meaning.Pieces.pieceOf": "a record's name: its fields are read",
+    "editions.meaning.Reading.accepted": "a record's name: its fields are read",
+    "editions.meaning.Reading.refusal": "a record's name: its fields are read",
+    "cases.Reading.largest": "the largest number that the tests read",
+}
+
+# What a file of specs/meaning takes from specs/steps, each with its reason. Everything else that a reader has to believe stands in
+# the meaning folders alone.
+STEPS_IN_MEANING = {
+    "editions/specs/meaning/Reading.antt": "the answers 2 to 8 are those of the walks, and its rows those of the lines; theorems tie them to the meaning",
+    "verdict/specs/meaning/Verdict.antt": "the batch's tree, as octets are read; it is the accepted batch's, by a theorem",
+    "verdict/specs/meaning/Duplicates.antt": "the same",
+    "crmf/specs/meaning/Fields.antt": "the fields between two places, as octets are read",
+    "writer/specs/meaning/Writing.antt": "the candidate is assembled and read; theorems tie it to what a draft describes",
 }
 
 
@@ -104,7 +117,7 @@ def taken_in(path, found):
             if not module.startswith(own + ".") and name in found.get(module, ()):
                 yield f"{module}.{name}"
     for alias, module in [*brought.items(), *((f"Rattle.{m.replace('.', '.specs.', 1)}", m) for m in found)]:
-        if module.startswith(own + "."):
+        if module.startswith(own + ".") or alias not in text:
             continue
         for name in re.findall(rf"(?<![\w·.]){re.escape(alias)}\.([^\s(){{}},;]+)", text):
             if name in found[module]:
@@ -118,12 +131,31 @@ def unlisted():
     for path in sources():
         for name in taken_in(path, found):
             taken.setdefault(name, path.relative_to(CRATES))
-    return [f"{path} takes the abbreviation {name}, which is open there" for name, path in taken.items() if name not in OPEN] + [
-        f"{name} is listed as open for other crates, and none takes it" for name in OPEN if name not in taken
+    return [
+        f"{path} takes the abbreviation {name}, which is open there"
+        for name, path in taken.items()
+        if name not in OPEN and name.rpartition(".")[0] not in OPEN
+    ] + [
+        f"{entry} is listed as open for other crates, and none takes it"
+        for entry in OPEN
+        if not any(name == entry or name.rpartition(".")[0] == entry for name in taken)
+    ]
+
+
+def steps_in_meaning():
+    """Files of specs/meaning that take something from a steps folder or a record of the code and aren't listed, and those listed that don't."""
+    taking = {
+        str(path.relative_to(CRATES))
+        for path in CRATES.glob("*/specs/meaning/*.antt")
+        if re.search(r"^use Rattle·\S+?specs\.(?:steps|declared)\.", path.read_text(), re.MULTILINE)
+    }
+    return [f"{path} takes something from the code's steps" for path in sorted(taking - STEPS_IN_MEANING.keys())] + [
+        f"{path} is listed as taking something from the code's steps, and takes nothing" for path in STEPS_IN_MEANING.keys() - taking
     ]
 
 
 TESTS = [
     ("no crate unfolds a definition of another", foreign),
     ("every abbreviation that a crate takes from another is listed with its reason", unlisted),
+    ("what a reader has to believe takes nothing from the code's steps, but for what is listed with its reason", steps_in_meaning),
 ]

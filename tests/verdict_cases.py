@@ -1,5 +1,5 @@
-"""The stored files of the program verdict_cases: the cases of the table verdict_cases.txt and the messages of corpus/; and the table held
-against the model of verdict and duplicates."""
+"""The stored files of the program verdict_cases: the cases of the table verdict_cases.txt and the messages of corpus/; and the table
+checked against the model of verdict and duplicates."""
 
 import functools
 import pathlib
@@ -83,7 +83,7 @@ def signed_from(octets, edition, verdict):
 
 
 def message(name, edition):
-    """What is to be answered for a message of the corpus, at position 0."""
+    """The expected answer for a message of the corpus, at position 0."""
     number, place, _ = corpus.expected()[name, edition]
     if number != Answer.ACCEPTED:
         return ((number, place, 0, 0, 0),) * 2

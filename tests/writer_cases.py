@@ -1,5 +1,5 @@
 """The stored files of the program writer_cases: the drafts of the table writer_cases.txt, and batches that are read and written again; and
-the table held against the model of writing."""
+the table checked against the model of writing."""
 
 import functools
 import pathlib
@@ -141,7 +141,7 @@ def files():
 
 
 def disagreements():
-    """The cases at which the model answers something else than the table; batches that it doesn't write again; kinds that aren't
+    """The cases at which the model answers something else than the table; batches that it doesn't write again; kinds that are never
     written."""
     found, kinds = [], set()
     for case in table():

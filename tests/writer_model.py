@@ -1,7 +1,7 @@
 """A model of writing, from the second paragraph of document 01's section "Rows", written from that document alone.
 
 At most one batch can have a draft's rows: a container's kind fixes its identifier, and its content is what the rows below it stand for.
-`write` puts that batch together, has it read by the model of the grammar, and holds what it shows against the draft.
+`write` puts that batch together, has it read by the model of the grammar, and compares what it shows with the draft.
 """
 
 import grammar_model
@@ -33,7 +33,7 @@ def element(identifier, content):
 
 
 def candidate(rows, octets):
-    """The only batch that can have these rows, put together from the last row to the first; None where there can be none."""
+    """The only batch that can have these rows, put together from the last row to the first; None if there can be none."""
     below = [[] for _ in rows]  # the elements below each row, the last first
     for row in reversed(range(len(rows))):
         kind, first, whole, parent = rows[row]

@@ -59,7 +59,7 @@ static void *grown(void *block, size_t count, size_t *room, size_t size)
     return block;
 }
 
-/* Cuts a block to its length, so that a memory checker sees where the bytes end. */
+/* Cuts a block to its length, so that a memory checker knows where the bytes end. */
 static void *shrunk(void *block, size_t length)
 {
     void *exact = realloc(block, length);
@@ -123,7 +123,7 @@ bool whole_number(const char *words, size_t *number)
     return errno == 0 && *number == found;
 }
 
-/* The next word of a file; false at its end. A word that is too long to be a number is cut where that shows. */
+/* The next word of a file; false at its end. A word that is too long to be a number is cut, and is still too long. */
 static bool next_word(FILE *file, char word[LONGEST_NUMBER + 2])
 {
     size_t length = 0;

@@ -22,19 +22,19 @@ enum { STATUS_ACCEPTED = 0, STATUS_REFUSED = 1, STATUS_TROUBLE = 2 };
 /* Says what is wrong and ends the program with STATUS_TROUBLE. */
 _Noreturn void trouble(const char *form, ...) __attribute__((format(printf, 1, 2)));
 
-/* Reads the bytes of a file, as they are or as hex digits; of standard input where the name is "-". It stops after `most` bytes. */
+/* Reads the bytes of a file, as they are or as hex digits; of standard input if the name is "-". It stops after `most` bytes. */
 octets read_octets(const char *name, bool hex, size_t most);
 
 /* Reads the numbers of a file, separated by white space. */
 numbers read_numbers(const char *name);
 
-/* Reads a whole number in decimal digits alone; false where the words are no such number, or one that is too large. */
+/* Reads a whole number in decimal digits alone; false if the text is no such number, or one that is too large. */
 bool whole_number(const char *words, size_t *number);
 
-/* Writes bytes to a file, or to standard output where the name is "-". */
+/* Writes bytes to a file, or to standard output if the name is "-". */
 void write_octets(const char *name, const uint8_t *bytes, size_t length);
 
-/* Flushes standard output: what can't be written is trouble. */
+/* Flushes standard output; it is trouble if that fails. */
 void finish_output(void);
 
 #endif

@@ -2,8 +2,8 @@
 #include "help.h"
 
 #define INPUT_HELP \
-    "FILE is the batch in DER; without it, or where it is -, standard input is read.\n" \
-    "  --hex          the batch is written in hex digits, white space between them or not\n"
+    "FILE is the batch in DER; without it, or if it is -, standard input is read.\n" \
+    "  --hex          the batch is written in hex digits, with or without white space between them\n"
 
 #define EDITION_HELP \
     "  --edition N    1 for RFC 2511, 2 for RFC 4211; needed, since it is never guessed\n"
@@ -38,16 +38,16 @@ const char write_help[] =
     "\n"
     "Writes the batch that rows over a slice of bytes describe. ROWS has numbers as read --numbers shows them, SLICE the bytes at\n"
     "which the leaves' rows point; one of the two may be -, standard input. Of a container's row the place and length are ignored.\n"
-    "  --hex          SLICE is written in hex digits, white space between them or not\n"
+    "  --hex          SLICE is written in hex digits, with or without white space between them\n"
     EDITION_HELP
-    "  --output FILE  where the batch goes, in DER; without it, or where it is -, to standard output\n"
+    "  --output FILE  where the batch goes, in DER; without it, or if it is -, to standard output\n"
     STATUS_HELP
     "After a refusal nothing is written.\n";
 
 const char verdict_help[] =
     "phagundro verdict --edition N --position P [--part FILE] [--hex] [--json] [FILE]\n"
     "\n"
-    "Says what there is to be checked of a message's proof of possession, and which bytes are signed. No signature is checked.\n"
+    "Says what a message's proof of possession covers, and which bytes are signed. No signature is checked.\n"
     INPUT_HELP EDITION_HELP
     "  --position P   which message, counted from 0; this is never its certReqId\n"
     "  --part FILE    the signed part is written there; it is empty with any verdict but 2 and 3\n"

@@ -1,4 +1,4 @@
-/* The command line, word by word. Nothing is guessed: an option twice or a word too many is trouble. */
+/* The command line, word by word. Nothing is guessed: an option given twice or a word too many is trouble. */
 #include "options.h"
 
 #include "files.h"
@@ -9,7 +9,7 @@ static const struct {
     const char *name;
     unsigned bit;
     const char *value;  /* what must follow it, or NULL */
-    const char *advice; /* where it is needed and missing */
+    const char *advice; /* if it is needed and missing */
 } known[] = {
     {"--edition", EDITION, "1 or 2", "say --edition 1 (RFC 2511) or --edition 2 (RFC 4211): which one a batch speaks is never guessed"},
     {"--hex", HEX, NULL, NULL},
@@ -73,7 +73,7 @@ static char **take_option(options *given, const char *command, unsigned taken, c
     if (value != NULL)
         value++;
     else if (known[option].value != NULL && (value = *++words) == NULL)
-        trouble("%s wants %s behind it", known[option].name, known[option].value);
+        trouble("%s wants %s after it", known[option].name, known[option].value);
     take(given, option, value);
     return words;
 }

@@ -29,10 +29,10 @@ typedef struct {
     size_t count; /* of files */
 } options;
 
-/* Parses the words after a command's name, where it takes these options and at most `most` files. Anything else is trouble. */
+/* Parses the words after the name of a command that takes these options and at most `most` files. Anything else is trouble. */
 options parsed(const char *command, unsigned taken, size_t most, char **words);
 
-/* Is trouble where one of these options isn't given. */
+/* It is trouble if one of these options isn't given. */
 void needed(const options *given, const char *command, unsigned bits);
 
 #endif

@@ -88,7 +88,7 @@ static void agree(size_t edition, phagundro_answer own, phagundro_answer opposit
 int LLVMFuzzerInitialize(int *count, char ***words);
 int LLVMFuzzerTestOneInput(const uint8_t *bytes, size_t length);
 
-/* A fault is planted in the plain C where the environment names its number. */
+/* A fault is planted in the plain C if the environment names its number. */
 int LLVMFuzzerInitialize(int *count, char ***words)
 {
     const char *fault = getenv("REFERENCE_FAULT");

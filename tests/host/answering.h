@@ -1,5 +1,5 @@
-/* What the programs have in common that show a reference's answers, for tests that hold them against what is expected elsewhere. A line is
- * shown for each input.
+/* What the programs have in common that show a reference's answers. Tests check these against what is expected elsewhere. A line is shown
+ * for each input.
  *
  *     PROGRAM                       takes the inputs from standard input, a line each
  *     PROGRAM COUNT SEED FILE...    takes COUNT of the comparison's own inputs */
@@ -10,7 +10,7 @@
 #include <stddef.h>
 #include <stdint.h>
 
-/* Runs such a program and answers its exit status: 2 where a line or a file is wrong. `take` takes an input from a line and answers whether
+/* Runs such a program and answers its exit status: 2 if a line or a file is wrong. `take` takes an input from a line and answers whether
  * it is one; `make` makes the next input; `show` shows the answers. */
 int answering(int count, char **words, bool (*take)(const char *line), void (*make)(void), void (*show)(void));
 

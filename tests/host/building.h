@@ -7,11 +7,11 @@
 /* Which forms of one edition alone may be used. */
 enum { NO_FORMS = 0, FORMS_OF_1 = 1, FORMS_OF_2 = 2 };
 
-/* Says what is built from now on: the forms of one edition alone that may be used; one decision in `slips` goes wrong, or none where it is
+/* Says what is built from now on: the forms of one edition alone that may be used; one decision in `slips` goes wrong, or none if it is
  * 0; and whether certReqIds may be too long. */
 void building_start(unsigned forms, size_t slips, bool long_ids);
 
-/* Any element, also such as mean something elsewhere. */
+/* Any element, also one that means something elsewhere. */
 Node *any(int levels);
 
 /* Elements around each other, `depth` of them. */
@@ -35,7 +35,7 @@ Node *least_message(void);
 /* A message with an item of an unknown type, in regInfo, around this value. */
 Node *message_around(Node *value);
 
-/* Adds a message such that the batch is `target` bytes long, where that can be. */
+/* Adds a message such that the batch is `target` bytes long, if there is one. */
 Node *fill(Node *node, size_t target);
 
 #endif

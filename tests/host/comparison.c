@@ -87,7 +87,7 @@ size_t messages_of(const size_t *rows, size_t count)
     return found;
 }
 
-/* -- Editions that there aren't -- */
+/* -- Numbers that are no edition -- */
 
 static const size_t no_editions[] = {0, 3, 256, 257, 258, 65537, 65538, 0x100000001, 0x100000002, SIZE_MAX, SIZE_MAX - 1,
     0x8000000000000001};

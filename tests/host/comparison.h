@@ -1,8 +1,8 @@
 /* What the comparisons of the archive with the references have in common: the command line, the input that is lent, differences, and the
  * account of what occurred.
  *
- * A comparison takes [--count N] [--seed S] [--fault F] FILE... and ends with 0 where all is equal and each answer occurred, with 1 at the
- * first difference, which it shows with what was compared, with 2 where it couldn't run, with 3 where something never occurred. */
+ * A comparison takes [--count N] [--seed S] [--fault F] FILE... and ends with 0 if all is equal and each answer occurred, with 1 at the
+ * first difference, which it shows with what was compared, with 2 if it couldn't run, with 3 if something never occurred. */
 #ifndef COMPARISON_H
 #define COMPARISON_H
 
@@ -24,7 +24,7 @@ extern uint64_t seed;
 extern size_t number; /* of the input or draft, from 0 */
 
 /* Takes the command line, opens the inputs' files and has signals reported by `show`, which shows what is compared. Answers how many inputs
- * or drafts there are to be, `usual` if not said. Ends the program with 2 where a word or a file is wrong. */
+ * or drafts to make, `usual` if not said. Ends the program with 2 if a word or a file is wrong. */
 size_t comparison_start(int count, char **words, size_t usual, void (*show)(void));
 
 /* -- The input that is compared, of the comparisons that have one -- */
@@ -35,7 +35,7 @@ extern size_t length;
 /* Copies the input to the edge of memory that must not be touched, after it and before it in turn; the copy is for the archive alone. */
 const uint8_t *lend_input(void);
 
-/* It is a difference where the copy, or what is beside it, has changed since. */
+/* It is a difference if the copy, or what is beside it, has changed since. */
 void check_lent_input(void);
 
 /* Shows the input in hex, with the seed and its number. */
@@ -44,7 +44,7 @@ void show_input(void);
 /* The count of messages among these rows. */
 size_t messages_of(const size_t *rows, size_t count);
 
-/* -- Editions that there aren't -- */
+/* -- Numbers that are no edition -- */
 
 /* One of the numbers that look like an edition in a byte, in two or in four, or are very large. */
 size_t far_edition(size_t n);
@@ -57,7 +57,7 @@ size_t no_edition(size_t n);
 /* Tells a difference in an edition, with what else was given, shows what is compared and ends the program with 1. */
 _Noreturn void comparison_differs(const char *what, size_t edition, const char *other, size_t value);
 
-/* Whether the archive's answer, which is numbers alone, is the reference's; shows both, with the names of the numbers, where it isn't. */
+/* Whether the archive's answer, which is numbers alone, is the reference's; shows both, with the names of the numbers, if it isn't. */
 bool alike(size_t count, const char *const *names, const void *answer, const void *right);
 
 /* -- The account -- */
@@ -65,7 +65,7 @@ bool alike(size_t count, const char *const *names, const void *answer, const voi
 /* Keeps the larger number. */
 void keep_most(size_t *most, size_t value);
 
-/* Tells what never occurred among what was compared, and counts it: 0 where it did. */
+/* Tells what never occurred among what was compared, and counts it: 0 if it did. */
 int missing(bool occurs, const char *what, size_t which, size_t edition);
 
 /* Tells which kinds of the edition's rows never occurred, and counts them. */

@@ -30,7 +30,7 @@ static Node *pick(Node *node, size_t *nth, Node **parent)
     return NULL;
 }
 
-/* Puts what begins with `now` in the place of `was`, which stands inside `parent`. */
+/* Puts what begins with `now` in the place of `was`, which is inside `parent`. */
 static void replace(Node *parent, Node *was, Node *now)
 {
     Node **link = &parent->first;

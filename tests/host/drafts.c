@@ -103,7 +103,7 @@ static void containers_anyhow(Draft *draft)
         }
 }
 
-/* The batch's bytes stand further back in a longer slice. */
+/* The batch's bytes begin later in a longer slice. */
 static void further_back(Draft *draft)
 {
     size_t by = chance(8) ? 66000 : below(300);
@@ -149,7 +149,7 @@ static void subtrees_swapped(Draft *draft)
     insert_rows(draft, i + end - middle, kept, middle - i);
 }
 
-/* A subtree is replaced by one of the source before, of the same kind where it looks. */
+/* A subtree is replaced by one of the source before, of the same kind if one is found. */
 static void subtree_replaced(Draft *draft)
 {
     Source *other = &sources[1 - present];
@@ -267,7 +267,7 @@ static void parent_changed(Draft *draft)
     row(draft, i)[PARENT] = chance(4) ? i + below(3) : below(i + 1);
 }
 
-/* A leaf whose next row is a leaf that comes right after it; 0 where it finds none. */
+/* A leaf whose next row is a leaf that comes right after it; 0 if it finds none. */
 static size_t neighbours(Draft *draft)
 {
     for (int tries = 0; tries < 50; tries++) {

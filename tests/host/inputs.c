@@ -64,7 +64,7 @@ static Node *on_a_day(size_t n)
     return around(0x30, around(0x30, add(add(box(0x30), leaf(0x02, "\0", 1)), fields)));
 }
 
-/* Inputs at the lines that document 01 draws; NULL where there are no more. */
+/* Inputs at the lines that document 01 draws; NULL if there are no more. */
 static Node *at_a_line(size_t n)
 {
     enum { DEPTHS = 30, ID_SIZES = 12 };
@@ -89,7 +89,7 @@ static Node *at_a_line(size_t n)
     return on_a_day(n - ID_SIZES);
 }
 
-/* A file, rarely a long one; NULL where there is none. */
+/* A file, rarely a long one; NULL if there is none. */
 static const File *some_file(void)
 {
     const File *file = files_read ? &read_files[below(files_read)] : NULL;

@@ -1,5 +1,5 @@
 /* Memory for the buffers that a comparison lends. A buffer is at an edge of memory that can't be touched, so that a step past it ends the
- * program; what is beside it on its other side is looked at afterwards. */
+ * program; what is beside it on its other side is checked afterwards. */
 #ifndef MEMORY_H
 #define MEMORY_H
 
@@ -15,7 +15,7 @@ typedef struct {
     size_t pattern; /* of what is beside it */
 } Buffer;
 
-/* A buffer for at most `most` bytes. Ends the program with 2 where there is no memory. */
+/* A buffer for at most `most` bytes. Ends the program with 2 if there is no memory. */
 Buffer buffer(size_t most);
 
 /* Puts the buffer, of `size` bytes now, at an edge of its memory and fills what is beside it. */

@@ -121,7 +121,7 @@ static size_t row(Walk *walk, size_t kind, Element element, size_t parent)
     return walk->count++;
 }
 
-/* An element stands in a form that this edition alone allows. */
+/* An element is in a form that this edition alone allows. */
 static void alone(Walk *walk, Element element)
 {
     bool later = walk->difference != NOWHERE && element.at > walk->difference;

@@ -1,5 +1,5 @@
-/* The reading, the writing, the verdict and the duplicate search by document 01, written from that paper alone. The comparisons hold the
- * archive against them. */
+/* The reading, the writing, the verdict and the duplicate search by document 01, written from that paper alone. The comparisons check
+ * the archive against them. */
 #ifndef REFERENCE_H
 #define REFERENCE_H
 
@@ -30,7 +30,7 @@ typedef struct {
 
 reference_duplicate_answer reference_duplicates(size_t edition, const uint8_t *bytes, size_t length);
 
-/* A fault planted in them, so that a comparison can be seen to find it; 0 for none. */
+/* A fault planted in them, to show that a comparison finds it; 0 for none. */
 enum {
     /* in the reading */
     SUBJECT_IS_NAME = 1,  /* the template's A5 taken as the Name itself */

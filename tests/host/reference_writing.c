@@ -1,5 +1,5 @@
 /* The writing of a draft by document 01: the one batch that can have a draft's rows is built by recursion over the rows, each with those
- * that name it as their parent; then it is read, and what its own rows show is held against the draft. */
+ * that name it as their parent; then it is read, and what its own rows show is compared with the draft. */
 #include "reference.h"
 
 #include "paper.h"

@@ -3,7 +3,7 @@
  *     stack COUNT SEED FILE...
  *
  * Takes COUNT of the comparison's inputs, the first of which are the files and the longest, deepest and most numerous. Each call runs in a
- * thread whose stack is marked beforehand: it took what isn't marked any more. The rows of each accepted input are written over it. */
+ * thread whose stack is marked beforehand: it took what is no longer marked. The rows of each accepted input are written over it. */
 #define _DEFAULT_SOURCE
 #include "comparison.h"
 #include "inputs.h"

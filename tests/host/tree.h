@@ -21,7 +21,7 @@ struct Node {
 /* Forgets every tree. */
 void trees_forget(void);
 
-/* Octets that last as long as the trees; a copy, or any where `content` is NULL. */
+/* Octets that last as long as the trees; a copy, or any octets if `content` is NULL. */
 uint8_t *keep(const void *content, size_t size);
 
 /* An element with a content, with no content yet, and around another. */

@@ -1,5 +1,5 @@
--- Demand 1: every public call ends with document 01's answer, for any bytes, tables and numbers, and a refusal changes nothing lent. Each
--- call's statement is its contract, in src, and each theorem here says that the call meets it. Assumes nothing.
+-- Demand 1: every public call ends with document 01's answer, for any bytes, tables and numbers, and a refusal changes nothing that is lent.
+-- A call's statement is its contract in src. Each theorem here says that a call meets its contract. Assumes nothing.
 use Rattle.editions.proofs.reader.accept.Statement as accept
 use Rattle.editions.proofs.reader.accept.Met as accept-met
 use Rattle.editions.proofs.reader.read.Statement as read

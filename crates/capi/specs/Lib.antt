@@ -1,2 +1,2 @@
--- What the C calls answer beside the definitions of the crates beneath.
+-- What the C calls answer beyond the definitions of the crates below.
 pub mod OneNumber

@@ -1,4 +1,4 @@
--- A verdict and a refusal in one number. Assumes nothing.
+-- A verdict or a refusal in one number: SPECIFICATION 7. Assumes nothing.
 use Prim.Native.Nat.{ℕ, _+_}
 use mathlib.Core.Bool.{true, false}
 use lib.Dec.{eqb}
@@ -9,6 +9,6 @@ use Rattle.verdict.specs.declared.verdict.Verdict.{Verdict}
 abbrev pub refusedBy : ℕ
 refusedBy = 256
 
--- "the verdict [is] exported to it on numbers": the verdict, which is below 256, or 256 and the refusal's number
+-- "the verdict [is] exported to it on numbers": the verdict, which is below 256, or 256 plus the refusal's number
 abbrev pub oneNumber : Verdict → ℕ
 oneNumber v = elim (eqb (v .number) accepted) [ true ↦ v .verdict | false ↦ refusedBy + v .number ]

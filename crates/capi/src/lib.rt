@@ -1,4 +1,4 @@
-// The C calls, whose manual is include/phagundro.h. A slice comes as a pointer and a length.
+// The C calls; their manual is include/phagundro.h. A slice comes as a pointer and a length.
 use der::refusal::ACCEPTED;
 use editions::reader::Answer;
 use verdict::duplicates::Duplicates;
@@ -11,10 +11,10 @@ ghost use Rattle.verdict.specs.meaning.Verdict.{verdictAnswer};
 ghost use Rattle.verdict.specs.meaning.Duplicates.{duplicatesAnswer};
 ghost use Rattle.capi.specs.OneNumber.{oneNumber};
 
-// What is added to a refusal's number where verdicts, which are smaller, come back in the same number.
+// What is added to a refusal's number if a verdict may come back in the same number. Verdicts are smaller.
 const REFUSED: usize = 256;
 
-// Answers whether a batch is accepted in an edition: 0, or the refusal's number.
+// Judges a batch in an edition and answers 0, or the refusal's number.
 #[no_mangle]
 pub extern "C" fn phagundro_accept(edition: usize, bytes: &[u8]) -> usize
     ensures { λ r. ⌜ r ≡ answer edition (now (bytes .entry)) .number ⌝ }
@@ -22,7 +22,8 @@ pub extern "C" fn phagundro_accept(edition: usize, bytes: &[u8]) -> usize
     editions::reader::accept(edition, bytes).number
 }
 
-// Reads a batch in an edition: the answer, with the rows in the table where the batch is accepted.
+// Reads a batch in an edition and answers the count of its rows, with the rows in the table; or answers the refusal, and leaves the table as
+// it was.
 #[no_mangle]
 pub extern "C" fn phagundro_read(edition: usize, bytes: &[u8], table: &mut [usize]) -> Answer
     ensures { λ r. ⌜ (r ≡ readAnswer edition (now (bytes .entry)) (now (table .entry)))
@@ -31,8 +32,8 @@ pub extern "C" fn phagundro_read(edition: usize, bytes: &[u8], table: &mut [usiz
     editions::reader::read(edition, bytes, table)
 }
 
-// Writes the batch that a draft describes in an edition: the answer, whose count is the batch's length, with the batch in the output where
-// there is room for it.
+// Writes the batch that a draft over a slice describes in an edition and answers its length as the count; or answers the refusal, and leaves
+// the output as it was.
 #[no_mangle]
 pub extern "C" fn phagundro_write(
     edition: usize,
@@ -46,7 +47,7 @@ pub extern "C" fn phagundro_write(
     writer::writer::write(edition, draft, slice, output)
 }
 
-// Judges the proof of the message at a position: the verdict and where the signed part stands, or the refusal.
+// Judges the proof of the message at a position and answers the verdict and the signed part's place and length; or answers the refusal.
 #[no_mangle]
 pub extern "C" fn phagundro_verdict(edition: usize, bytes: &[u8], position: usize) -> Verdict
     ensures { λ r. ⌜ r ≡ verdictAnswer edition (now (bytes .entry)) position ⌝ }
@@ -54,7 +55,7 @@ pub extern "C" fn phagundro_verdict(edition: usize, bytes: &[u8], position: usiz
     verdict::verdict::judge(edition, bytes, Position(position))
 }
 
-// Judges the same in one number: the verdict, or 256 and the refusal's number.
+// The same in one number: the verdict, or 256 plus the refusal's number.
 #[no_mangle]
 pub extern "C" fn phagundro_verdict_number(edition: usize, bytes: &[u8], position: usize) -> usize
     ensures { λ r. ⌜ r ≡ oneNumber (verdictAnswer edition (now (bytes .entry)) position) ⌝ }
@@ -67,7 +68,7 @@ pub extern "C" fn phagundro_verdict_number(edition: usize, bytes: &[u8], positio
     }
 }
 
-// Searches a batch for two messages with the same certReqId: the first pair, or that there is none, or the refusal.
+// Searches a batch for two messages with the same certReqId and answers the first pair, or that there is none; or answers the refusal.
 #[no_mangle]
 pub extern "C" fn phagundro_duplicates(edition: usize, bytes: &[u8]) -> Duplicates
     ensures { λ r. ⌜ r ≡ duplicatesAnswer edition (now (bytes .entry)) ⌝ }

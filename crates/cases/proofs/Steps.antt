@@ -10,7 +10,7 @@ use borrow.Author.Tests.{eq-eqb, ne-eqb, lt-ltb, le-ltb, le-leb, lt-leb}
 use Rattle.cases.specs.declared.case.Case.{Case}
 use Rattle.cases.specs.Reading.{size, Filled, filled, pushed, pushedAgain, pushedPart, repeated, tokenAt, wholeLine, tokenEnded, digitOf, largest, withDigit, withOctets, withCount, withCountDigit, withOctetDigit, readNext}
 
--- an octet more, where there is room and where there is none
+-- an octet more, if there is room and if there is none
 module _ (room : List ℕ) (n b : ℕ) where
   pub pushed-room : n < size → filled (set room n b) (n + 1) ≡ pushed (filled room n) b
   unfolding pushed
@@ -80,7 +80,7 @@ module _ (c : ℕ) where
   unfolding digitOf
   above high = rw (digitOf, le-leb 0x30 c (omega arith), lt-leb c 0x39 (omega arith), le-leb 0x41 c (omega arith), lt-leb c 0x46 high)
 
--- a digit more, where the number stays one and where it would be larger
+-- a digit more, if the number stays small enough and if it would be too large
 module _ (n d : ℕ) where
   pub digit-fits : n * 10 + d ≤ largest → n * 10 + d ≡ withDigit n d
   unfolding withDigit

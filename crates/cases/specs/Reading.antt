@@ -10,7 +10,7 @@ use Rattle.cases.specs.declared.case.Case.{Case}
 abbrev pub size : ℕ
 size = 70000
 
--- The room, and how many octets of a case stand there.
+-- The room, and how many octets of a case it has.
 pub record Filled : Type 0 where
   pub room : List ℕ
   pub octets : ℕ
@@ -52,7 +52,7 @@ digitOf c =
       | false ↦ elim (leb 0x41 c && leb c 0x46) [ true ↦ c - 0x41 + 10 | false ↦ 0 ]
     ]
 
--- a decimal number with one more digit, or the largest `usize` where that is larger
+-- a decimal number with one more digit, or the largest `usize` if that is larger
 abbrev pub largest : ℕ
 largest = 18446744073709551615
 

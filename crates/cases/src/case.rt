@@ -1,7 +1,7 @@
 // The octets of a case, read from a line one character after the other.
 //
-// Octets are written in hex (upper case), in tokens separated by a space; `0500*3` stands for the token's octets three times. They are
-// put into a room; of a case that is longer than the room the first octets are kept.
+// Octets are written in hex (upper case), in tokens separated by a space; `0500*3` stands for the token's octets three times. They go into a
+// room. If a case is longer than the room, its first octets are kept.
 ghost use mathlib.Core.Path.{_≡_};
 ghost use Prim.Native.Nat.{_-_, _%_};
 ghost use lib.ListN.{take};
@@ -12,13 +12,13 @@ pub const ROOM: usize = 70000;
 
 // A case as far as it has been read.
 pub struct Case {
-    // How many octets stand in the room.
+    // How many octets the room has so far.
     pub octets: usize,
     // Whether the line has ended.
     pub whole: bool,
     // Where the present token's octets begin.
     token: usize,
-    // The first digit of an octet whose second is still to come; 16 where there is none.
+    // The first digit of an octet whose second is still to come; 16 if there is none.
     high: u8,
     // Whether the token's count is being read, and the count.
     counting: bool,
@@ -32,7 +32,7 @@ pub fn start() -> Case
     token_at(0)
 }
 
-// The first `n` octets of a room, or all of them where it has fewer.
+// The first `n` octets of a room, or all of them if it has fewer.
 pub fn octets(room: &[u8], n: usize) -> &[u8]
     ensures { λ r. ⌜ now r ≡ take n (now (room .entry)) ⌝ }
 {
@@ -111,7 +111,7 @@ fn digit(c: u8) -> u8
     }
 }
 
-// A decimal number with one more digit; the largest `usize` where that is larger.
+// A decimal number with one more digit; the largest `usize` if that is larger.
 pub(crate) fn decimal(number: usize, c: u8) -> usize
     ensures { λ r. ⌜ r ≡ withDigit number (digitOf c % 10) ⌝ }
 {

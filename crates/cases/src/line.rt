@@ -7,6 +7,8 @@
 use crate::case::Case;
 use crate::case::ROOM;
 use crate::case::decimal;
+ghost use mathlib.Core.Path.{_≡_};
+ghost use Rattle.cases.specs.Lines.{lineAt};
 
 // The parts of a line.
 pub const EDITION: usize = 0;
@@ -34,7 +36,9 @@ pub struct Line {
 }
 
 // A line of which nothing is read yet, and which begins with a part.
-pub(crate) fn start(part: usize) -> Line {
+pub(crate) fn start(part: usize) -> Line
+    ensures { λ r. ⌜ r ≡ lineAt part ⌝ }
+{
     Line {
         part,
         named: false,

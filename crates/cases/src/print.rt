@@ -18,7 +18,7 @@ pub fn refusal(refused: usize, place: usize) {
     number(place);
 }
 
-// Prints an answer: `0 COUNT` or NUMBER@PLACE, with `and not 0 but N` where the third number, which should be 0, isn't.
+// Prints an answer: `0 COUNT` or NUMBER@PLACE, with `and not 0 but N` if the third number, which should be 0, isn't.
 pub fn answer(found: usize, place: usize, count: usize) {
     let mut other = count;
     if found == 0 {

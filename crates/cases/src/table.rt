@@ -1,23 +1,38 @@
 // The table that a program lends to a reading: what it holds beforehand, whether that has changed, and printing its rows.
 use crate::print::number;
 use crate::print::text;
-ghost use Prim.Native.Nat.{_<_};
+ghost use mathlib.Core.Path.{_≡_};
+ghost use mathlib.Core.Bool.{true};
+ghost use lib.ListN.{length};
+ghost use Rattle.cases.specs.Table.{numbers, Untouched};
 
 // How many numbers the table holds: room for 30,000 rows.
 pub const NUMBERS: usize = 120000;
 
-// What stands in the table beforehand, ascending from its first number on; no row has such a number.
+// What the table holds beforehand: numbers that ascend from this one, such as no row has.
 const UNTOUCHED: usize = 1000000000;
 
 // Fills the table with what it holds beforehand.
-pub fn prepare(table: &mut [usize; NUMBERS]) {
+pub fn prepare(table: &mut [usize; NUMBERS])
+    ensures { λ r. ⌜ Untouched (now (table .exit)) 0 numbers ⌝ }
+{
+    fill(table);
+}
+
+// The same for the table as a slice, whose length a contract can name.
+fn fill(table: &mut [usize])
+    requires { ⌜ length (now table) ≡ numbers ⌝ }
+    ensures { λ r. ⌜ Untouched (now (table .exit)) 0 numbers ⌝ }
+{
     for i in 0..NUMBERS {
         table[i] = UNTOUCHED + i;
     }
 }
 
 // Whether the table's numbers from a place on are as they were beforehand.
-pub fn is_untouched(table: &[usize; NUMBERS], from: usize) -> bool {
+pub fn is_untouched(table: &[usize; NUMBERS], from: usize) -> bool
+    ensures { λ r. ⌜ (r ≡ true → Untouched (now (table .entry)) from numbers) × (Untouched (now (table .entry)) from numbers → r ≡ true) ⌝ }
+{
     for i in from..NUMBERS {
         if table[i] != UNTOUCHED + i {
             return false;
@@ -26,23 +41,19 @@ pub fn is_untouched(table: &[usize; NUMBERS], from: usize) -> bool {
     true
 }
 
-// Prints the table's first numbers, `width` of them to a line.
-pub fn print_rows(table: &[usize; NUMBERS], width: usize, numbers: usize)
-    requires { ⌜ 0 < width ⌝ }
-{
+// Prints the table's first numbers, `width` of them to a line, or one if the width is 0.
+pub fn print_rows(table: &[usize; NUMBERS], width: usize, numbers: usize) {
     for i in 0..numbers {
         print_number(table, width, i);
     }
 }
 
 // Prints the number at place `i`; the last number of a row ends the line.
-fn print_number(table: &[usize; NUMBERS], width: usize, i: usize)
-    requires { ⌜ 0 < width ⌝ }
-{
+fn print_number(table: &[usize; NUMBERS], width: usize, i: usize) {
     if i < NUMBERS {
         number(table[i]);
     }
-    if i % width == width - 1 {
+    if width == 0 || i % width == width - 1 {
         text(b"\n");
     } else {
         text(b" ");

@@ -1,3 +1,3 @@
--- The request grammar: its notation, document 01's lines, what they mean, and the walk over them.
+-- The request grammar: what it means (`meaning`), and what the code's functions answer (`steps`).
 pub mod meaning
 pub mod steps

@@ -33,7 +33,7 @@ pub enum Walked {
     },
 }
 
-// Where the walk stands: the line and the place to go on with, and the tally before them.
+// The line and the place that the walk goes on with, and the tally before them.
 struct Cursor {
     state: usize,
     at: usize,
@@ -50,7 +50,8 @@ enum WalkStep {
     },
 }
 
-// The walk over the first element of the bytes, which is to be a batch, where the forms of both editions are read.
+// Walks over the bytes as one batch, and reads the forms of both editions. Answers the tally, or the first break and the tally before it. Bytes
+// that are too long break at 0.
 pub fn count(bytes: &[u8]) -> Walked
     ensures { λ r. ⌜ r ≡ countOf (now (bytes .entry)) ⌝ }
 {
@@ -71,7 +72,7 @@ pub fn count(bytes: &[u8]) -> Walked
     list(bytes, start, bytes.len(), 0, &table)
 }
 
-// The elements from the cursor to `end`, in a container at the place `around`.
+// Walks over the elements from the cursor to `end`, in a container at the place `around`.
 fn list(bytes: &[u8], start: Cursor, end: usize, around: usize, table: &[usize; LINES]) -> Walked
     requires { ⌜ Lent (now bytes) (start .at) end (start .tally .count) (now table) ⌝ }
     ensures { λ r. ⌜ (r ≡ walkFrom (now (bytes .entry)) start end around) × Passing end r ⌝ }
@@ -106,7 +107,7 @@ fn list(bytes: &[u8], start: Cursor, end: usize, around: usize, table: &[usize; 
     }
 }
 
-// The element at the cursor before `end`: the line is found by the identifier alone, the inside goes first, then the value.
+// Walks over the element at the cursor, before `end`: finds its line by the identifier alone, walks over its inside, then judges its value.
 fn element(bytes: &[u8], cursor: Cursor, end: usize, table: &[usize; LINES]) -> WalkStep
     requires { ⌜ Lent (now bytes) (cursor .at) end (cursor .tally .count) (now table) × (cursor .at < end) ⌝ }
     ensures { λ r. ⌜ Stepped (now (bytes .entry)) cursor end r ⌝ }
@@ -135,7 +136,7 @@ fn element(bytes: &[u8], cursor: Cursor, end: usize, table: &[usize; LINES]) -> 
     }
 }
 
-// The inside of an element, if its line has any.
+// Walks over the inside of an element, if its line has one.
 fn inside(bytes: &[u8], fit: Fit, tally: Tally, table: &[usize; LINES]) -> Walked
     requires { ⌜ Lent (now bytes) (fit .content) (fit .end) (tally .count) (now table) ⌝ }
     ensures { λ r. ⌜ ((k : ℕ) → fit .word ≡ getD packed k 0 → r ≡ insideWalk k tally (fit .first) (tree (fit .content) (slice (fit .content) (fit .end) (now (bytes .entry))))) × Passing (fit .end) r ⌝ }

@@ -1,4 +1,4 @@
-// The kinds of rows: document 01, section "Rows". specs/meaning/Kinds.antt has the same names.
+// The kinds of rows: document 01's section "Rows", SPECIFICATION 5. specs/meaning/Kinds.antt has the same names.
 ghost use Prim.Native.Nat.{_≤_};
 ghost use mathlib.Core.Path.{_≡_};
 ghost use Rattle.crmf.specs.steps.explain.Walk.{rowsOfKind};
@@ -14,7 +14,7 @@ pub const CERT_REQ: usize = 3;
 
 pub const CERT_REQ_ID: usize = 4;
 
-pub const TEMPLATE: usize = 5;
+pub const CERT_TEMPLATE: usize = 5;
 
 // "template tags 0 to 9 are 10 to 19"
 pub const VERSION: usize = 10;
@@ -52,13 +52,13 @@ pub const REG_TOKEN: usize = 41;
 
 pub const AUTHENTICATOR: usize = 42;
 
-pub const PUBLICATION_INFO: usize = 43;
+pub const PKI_PUBLICATION_INFO: usize = 43;
 
-pub const ARCHIVE_OPTIONS: usize = 44;
+pub const PKI_ARCHIVE_OPTIONS: usize = 44;
 
 pub const OLD_CERT_ID: usize = 45;
 
-pub const PROTOCOL_KEY: usize = 46;
+pub const PROTOCOL_ENCR_KEY: usize = 46;
 
 pub const RA_VERIFIED: usize = 50;
 
@@ -70,9 +70,9 @@ pub const KEY_AGREEMENT: usize = 53;
 
 pub const POPOSK_INPUT: usize = 54;
 
-pub const ALG_ID: usize = 55;
+pub const SIGNATURE_ALGORITHM: usize = 55;
 
-pub const BITS: usize = 56;
+pub const SIGNATURE_BITS: usize = 56;
 
 // "choices 60 to 64 by tag"
 pub const THIS_MESSAGE: usize = 60;
@@ -87,17 +87,17 @@ pub const ENCRYPTED_KEY: usize = 64;
 
 pub const REG_INFO: usize = 70;
 
-pub const UNKNOWN_INFO: usize = 71;
+pub const UNKNOWN_REG_INFO: usize = 71;
 
 // "pairs 72 (04) or 73 (0C)"
 pub const OCTET_PAIRS: usize = 72;
 
 pub const UTF8_PAIRS: usize = 73;
 
-// "carried certReq item 74 (its child is a 3)"
-pub const CARRIED: usize = 74;
+// "carried certReq item 74 (its child is a 3; its type is implied)"
+pub const REG_INFO_CERT_REQ: usize = 74;
 
-// The rows that a kind gives: none for 0.
+// How many rows a kind gives: 0 for NONE, 1 for any other.
 pub(crate) fn row_of(kind: usize) -> usize
     ensures { λ r. ⌜ (r ≡ rowsOfKind kind) × (r ≤ 1) ⌝ }
 {

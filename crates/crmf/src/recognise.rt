@@ -1,4 +1,5 @@
-// The recogniser: nest, grammar and rows of a batch in one pass, which stops at the first thing that the edition doesn't accept.
+// The recogniser: one pass that checks nest, grammar and certReqIds of a batch and counts its rows. It stops at the first thing that the
+// edition doesn't accept.
 mod common;
 mod step;
 
@@ -22,11 +23,11 @@ ghost use Rattle.crmf.specs.steps.recognise.Inner.{Countable, decode, Li
 pub enum Recognition {
     // A batch of the edition with this many rows, and no certReqId of more than 8 octets.
     Rows(usize),
-    // Anything else: the exact passes say what is wrong.
+    // Anything else: `der` and `explain` find what is wrong.
     Unrecognised,
 }
 
-// Recognises a batch of an edition and counts its rows.
+// Answers how many rows the bytes have as a batch of the edition, or that they are unrecognised.
 pub fn count(edition: usize, bytes: &[u8]) -> Recognition
     ensures { λ r. ⌜ r ≡ recognised edition (now (bytes .entry)) ⌝ }
 {
@@ -34,7 +35,7 @@ pub fn count(edition: usize, bytes: &[u8]) -> Recognition
     count_by(edition, bytes, &table)
 }
 
-// The same, and writes the rows into the lent table if it has room for them.
+// Answers the same, and writes the rows into `out` if it has room for them. Otherwise, and for unrecognised bytes, `out` stays as it is.
 pub fn read(edition: usize, bytes: &[u8], out: &mut [usize]) -> Recognition
     ensures { λ r. ⌜ (r ≡ recognised edition (now (bytes .entry))) × (now (out .exit) ≡ recognisedTable edition (now (bytes .entry)) (now (out .entry))) ⌝ }
 {
@@ -46,7 +47,7 @@ pub fn read(edition: usize, bytes: &[u8], out: &mut [usize]) -> Recognition
     recognition
 }
 
-// The count by a table of lines that is lent.
+// Answers the same by a table of lines that is lent.
 fn count_by(edition: usize, bytes: &[u8], table: &[usize; LINES]) -> Recognition
     requires { ⌜ now table ≡ packed ⌝ }
     ensures { λ r. ⌜ r ≡ recognised edition (now (bytes .entry)) ⌝ }
@@ -57,7 +58,7 @@ fn count_by(edition: usize, bytes: &[u8], table: &[usize; LINES]) -> Recognition
     decoded(list(bytes, TOP, DEPTH, 0, edition, table))
 }
 
-// What the number means that `list` answers.
+// The meaning of a number that `list` answers.
 fn decoded(number: usize) -> Recognition
     ensures { λ r. ⌜ r ≡ decode number ⌝ }
 {
@@ -79,8 +80,8 @@ enum Advance {
     Stop,
 }
 
-// Recognises the elements that the bytes are, from a line on, after `before` rows. Answers one more than the rows up to their end, or 0 where
-// they aren't recognised: this number stays in a register, where `Recognition` would go through memory at each level.
+// Recognises the elements that the bytes are, from the line `state` on, after `before` rows. Answers one more than the rows up to their end,
+// or 0 if they aren't recognised. This number stays in a register; a `Recognition` would go through memory at each level.
 fn list(
     bytes: &[u8],
     state: usize,
@@ -115,7 +116,7 @@ fn list(
     0
 }
 
-// Recognises the element at a place of the bytes, from a line on, after `before` rows; `left` levels of depth are left.
+// Recognises the element at the place `at` of the bytes, from a line on, after `before` rows. `left` levels of depth are left.
 fn element(
     bytes: &[u8],
     at: usize,

@@ -1,4 +1,4 @@
-// The rows of a batch, written into a lent table of numbers. What was counted before is not judged again.
+// Writes the rows of a batch into a lent table of numbers. The batch was recognised before, so nothing is judged again.
 use crate::grammar::codes;
 use crate::grammar::element::Fit;
 use crate::grammar::element::Fitting;
@@ -20,7 +20,7 @@ ghost use Rattle.crmf.specs.meaning.Rows.{parentIf, width};
 ghost use Rattle.crmf.specs.steps.rows.Fill as spec;
 ghost use Rattle.crmf.specs.steps.rows.Fill.{goes, rowOf, fits, filled, ownRows, rowAbove, Room, Wrote, Shown, Listed, Inner};
 
-// The numbers of a row.
+// How many numbers a row has.
 pub const WIDTH: usize = 4;
 
 // The element around some rows: the row above them, its first byte and its whole length.
@@ -30,14 +30,14 @@ struct Around {
     whole: usize,
 }
 
-// Where the rows go on: the line, the place and the number of the next row.
+// Where to go on: the line, the place and the number of the next row.
 struct Spot {
     state: usize,
     at: usize,
     row: usize,
 }
 
-// The place where the elements end, and the number of rows that may be written.
+// The place at which the elements end, and the number of rows that may be written.
 struct Bounds {
     end: usize,
     limit: usize,
@@ -58,8 +58,8 @@ struct Entry {
     parent: usize,
 }
 
-// Writes the rows of the bytes as far as their numbers are below the count, and answers whether the table has room for that many; where it
-// has not, it stays as it is. For an accepted batch and its own count these are the batch's rows. The table of lines is lent.
+// Writes the rows of the bytes into `out`, as far as their numbers are below `count`, and answers true. If `out` has no room for `count` rows,
+// it stays as it is, and the answer is false. For an accepted batch and its own count these are the batch's rows. The table of lines is lent.
 pub(crate) fn fill(bytes: &[u8], count: usize, table: &[usize; LINES], out: &mut [usize]) -> bool
     requires { ⌜ now table ≡ packed ⌝ }
     ensures { λ r. ⌜ (r ≡ fits count (now (out .entry))) × (now (out .exit) ≡ filled (now (bytes .entry)) count (now (out .entry))) ⌝ }
@@ -88,7 +88,7 @@ pub(crate) fn fill(bytes: &[u8], count: usize, table: &[usize; LINES], out: &mut
     true
 }
 
-// The rows of the elements from a spot to the end; answers the number of the next row.
+// Writes the rows of the elements from a spot to the end. Answers the number of the next row.
 fn list(
     bytes: &[u8],
     start: Spot,
@@ -107,7 +107,7 @@ fn list(
     spot.row
 }
 
-// The rows of the element at a spot and of those inside it; answers where the rows go on.
+// Writes the rows of the element at a spot and of those inside it. Answers the spot after it.
 fn element(
     bytes: &[u8],
     spot: Spot,
@@ -141,8 +141,8 @@ fn element(
     }
 }
 
-// The rows that an element gives by itself, from the number `row` on: the one of the element around it, if the line says its kind, and its
-// own. Answers the number of the next row.
+// Writes the rows that an element gives by itself, from the number `row` on: that of the element around it, if the line has a kind for it, and
+// its own. Answers the number of the next row.
 fn own_rows(fit: Fit, row: usize, around: Around, limit: usize, out: &mut [usize]) -> usize
     requires { ⌜ (fit .first ≤ fit .end) × (row ≤ 131070) × (width * limit ≤ length (now out)) ⌝ }
     ensures { λ r. ⌜ ((k : ℕ) → fit .word ≡ getD packed k 0 → Wrote (ownRows (line k) (fit .first) (fit .end - fit .first) row around) row limit (now (out .entry)) r (now (out .exit))) × (r ≤ row + 2) ⌝ }
@@ -164,7 +164,7 @@ fn own_rows(fit: Fit, row: usize, around: Around, limit: usize, out: &mut [usize
     put(own, next, limit, out)
 }
 
-// The row above what is inside an element in a line's form.
+// The number of the row above what is inside an element in a line's form.
 fn row_above(word: usize, row: usize, up: usize) -> usize
     requires { ⌜ row ≤ 131070 ⌝ }
     ensures { λ r. ⌜ ((k : ℕ) → word ≡ getD packed k 0 → r ≡ rowAbove (line k) row up) ⌝ }
@@ -186,7 +186,7 @@ fn rowless(start: usize) -> bool
         | (start == lines::EXTENSION)
 }
 
-// The rows inside an element, if its line has an inside that has some; answers the number of the next row.
+// Writes the rows inside an element, if its line has an inside with rows. Answers the number of the next row.
 fn inside(
     bytes: &[u8],
     fit: Fit,
@@ -235,7 +235,7 @@ fn onward(bytes: &[u8], fit: Fit, table: &[usize; LINES]) -> usize
     table::next_of(table::word(table, next + value::selected(code, &bytes[from..to])))
 }
 
-// Writes a row where it has a kind and its number is below the limit; answers the number of the next row.
+// Writes a row if it has a kind and its number is below the limit. Answers the number of the next row.
 fn put(new: Entry, row: usize, limit: usize, out: &mut [usize]) -> usize
     requires { ⌜ (row ≤ 131072) × (width * limit ≤ length (now out)) ⌝ }
     ensures { λ r. ⌜ Wrote (rowOf new) row limit (now (out .entry)) r (now (out .exit)) ⌝ }
@@ -254,7 +254,7 @@ fn put(new: Entry, row: usize, limit: usize, out: &mut [usize]) -> usize
     row + 1
 }
 
-// The row above what is inside an element: its own, if it has a kind.
+// The number of the row above what is inside an element: its own, `row`, if it has a kind, else `up`.
 fn parent_if(kind: usize, row: usize, up: usize) -> usize
     ensures { λ r. ⌜ r ≡ parentIf kind row up ⌝ }
 {

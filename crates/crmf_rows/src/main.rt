@@ -1,11 +1,11 @@
-// Reads the rows of each batch, in edition 1 or else in edition 2, and prints them. A line has octets alone, as `cases::case` says: the
-// first two are how many numbers of the table are lent, and the batch follows. The answer is one of
+// Reads the rows of each batch in edition 1, or in edition 2 if edition 1 refuses it, and prints them. A line has octets alone, as `cases::case`
+// says: the first two are how many numbers of the table are lent, and the batch follows. The answer is one of
 //
 //     the rows, one row a line: kind, first byte, whole length, parent's row
 //     too short, the table unchanged
 //     -                                 in neither edition's grammar
 //
-// and an empty line. One more line tells where a number of the table has changed that shouldn't.
+// and an empty line. One more line says so if a number of the table has changed that shouldn't.
 use cases::case::Case;
 use cases::case::ROOM;
 use cases::case::octets;
@@ -65,7 +65,7 @@ fn read(edition: usize, batch: &[u8], table: &mut [usize], numbers: usize) -> Re
     crmf::recognise::read(edition, batch, table)
 }
 
-// Reads a batch in an edition into the first numbers of the table, and prints it; answers whether it is a batch of the edition.
+// Reads a batch in an edition into the first numbers of the table and prints it. Answers whether it is a batch of the edition.
 fn fill(edition: usize, batch: &[u8], table: &mut [usize; NUMBERS], numbers: usize) -> bool {
     prepare(table);
     let recognition = read(edition, batch, table, numbers);
@@ -76,7 +76,7 @@ fn fill(edition: usize, batch: &[u8], table: &mut [usize; NUMBERS], numbers: usi
     true
 }
 
-// Reads a batch in the first edition whose batch it is, with `numbers` numbers of a table lent.
+// Reads a batch in the first edition that accepts it, with `numbers` numbers of a table lent.
 fn answer(batch: &[u8], numbers: usize) {
     let mut table = [0usize; NUMBERS];
     if !fill(1, batch, &mut table, numbers) {

@@ -6,28 +6,28 @@
 --     value-none, value-more, value-last    the number that no octets give, an octet and those after it, and the last octet
 --     value-below         octets are digits to the base 256
 --     value-large         three length octets or more, the first not 00, give 65,536 or more
---     integer-some        an INTEGER has an octet at least
---     head-fits           a header has two octets at least, and it and its content fit
---     head-encoded        the header of an encoding is read back, whatever stands after the element
+--     integer-some        an INTEGER has at least one octet
+--     head-fits           a header has at least two octets, and it and its content fit
+--     head-encoded        the header of an encoding is read back, whatever comes after the element
 --     head-octets         what is read as a header and its content is their encoding
 --     InOrder             an element's places lie in order: its first byte, its content, its end, its parent's end
---     read-in-order       an element is read in order wherever an octet stands
+--     read-in-order       if there is an octet, an element is read in order
 --     read-at             in an input that is not too long, an element is read from the octets up to its parent's end
 --     read-at-in-order    by places: an element is read in order
---     read-at-end         after its parent's end none is read, which has the identifier 0 (`nothing-identifier`)
+--     read-at-end         after its parent's end none is read; its identifier is 0 (`nothing-identifier`)
 --     read-at-within      by places, whether one is read or none: content and end lie in order between them
 --     read-moved          octets further on are read as the same element, further on (`further`)
 --     tree-end            no octets are read as no elements
 --     tree-enough         with at least as many levels and siblings as octets, `treeOf` is the tree
---     tree-step           where an octet stands, the tree is the element that is read there (`elementAt`) and the tree after it
---     tree-parts          the same where the element, its content and the octets after it are known
+--     tree-step           if there is an octet, the tree is the element that is read there (`elementAt`) and the tree after it
+--     tree-parts          the same if the element, its content and the octets after it are known
 --     tree-at             by places: the tree from p to e is the element that is read at p and the tree from its end to e
 --     tree-encoded        the encoding of an element, and octets after it, are read as that element and those octets
 --     tree-encode         the encoding of well-formed elements is read as them
 --     tree-moved          octets further on are read as the same elements, further on (`moved`)
 --     encode-moved        elements further on have the same encoding
 --     well-formed-moved   well-formed elements are well-formed further on
---     header-some         a header has an octet at least, and in fact two (`header-two`): the identifier and the shortest length (`header-octets`,
+--     header-some         a header has at least one octet, and even two (`header-two`): the identifier and the shortest length (`header-octets`,
 --                         `length-some`)
 --     encode-none, encode-element, encode-length    the encoding of no elements, and of an element and those after it, with its length
 --     moved-none, moved-element      no elements further on, and an element and those after it
@@ -35,21 +35,22 @@
 --     well-formed-element    with one left, well-formed elements are a first one and those after it
 --     single-none, single-element    a single element has none after it
 --     sequence-constructed, sequence-allowed    the identifier 30; `integer-primitive` the identifier 02
---     exact               a whole input's first element ends at e exactly where the octets up to e are an encoding (`Encoded`)
+--     exact               a whole input's first element ends at e exactly if the octets up to e are an encoding (`Encoded`)
 --     walk-tree           the same of the tree that is read from those octets (`Checked`)
---     number-zero         the input's number is 0 exactly where it starts with an encoding
+--     number-zero         the input's number is 0 exactly if it starts with an encoding
 --     fault-number        a fault's number is from 2 to 6
 --     number-place        its number, if not 0, and its place are those of the first fault
---     span-fits           a span has two octets at least, and it and its content fit
+--     span-fits           a span has at least two octets, and it and its content fit
 --     span-small          a content of fewer than 128 octets has two octets before it
 --     span-stands, span-broken    after an identifier that is allowed a span is the header; without a span the header is broken
 --     span-tree           the tree of octets that begin with a span, after an identifier that is allowed
 --     is-list-none, is-list-deep, is-list-lost    no octets are a list; others are none without a level of depth left or a span at the start
 --     is-list-short       a list is not too long
---     is-list-step        octets are a list where the first element has no fault and the octets after it are a list
+--     is-list-step        octets are a list if the first element has no fault and the octets after it are a list
 --     is-list-single      the walk over an input that is a list of one element ends where the input does
 --     single-is-list      an input whose first element ends where the input does is a list
---     is-element-refused, is-element-inside, is-element-value    an element has no fault where its identifier is allowed, and the list inside it or its content has none
+--     is-element-refused, is-element-inside, is-element-value    an element has no fault if its identifier is allowed and
+--                         the list inside it, or its content, has none
 --     holds-integer, holds-bit-string, holds-object-identifier, holds-utf8    the rule that an identifier asks of its content
 --     holds-free          an identifier that asks none (`ruled`) leaves the content free
 --     octets-each, octets-at    octets are numbers below 256

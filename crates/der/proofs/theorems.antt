@@ -1,4 +1,4 @@
--- The theorems and laws about the definitions, by what they are about; the proofs of functions stand beside them, in the folders of src.
+-- The theorems and laws about the definitions, by subject. The proofs of the functions are beside them, in the folders of src.
 pub mod content
 pub mod lists
 pub mod explain

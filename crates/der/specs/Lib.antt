@@ -1,4 +1,4 @@
--- DER elements, in the order of document 01's section "The nest of elements".
+-- DER elements (SPECIFICATION 2): what they are, what the code answers of them, and examples.
 pub mod meaning
 pub mod steps
 pub mod examples

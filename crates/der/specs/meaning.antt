@@ -1,4 +1,4 @@
--- What a reader has to believe of DER elements, in the order of document 01's section "The nest of elements".
+-- What a reader has to believe of DER elements (SPECIFICATION 2), in the order of document 01's section "The nest of elements".
 pub mod Refusal
 pub mod Octets
 pub mod Bounds

@@ -1,4 +1,4 @@
-// The bounds of an input (document 01).
+// The bounds of an input (SPECIFICATION 1).
 
 // The most bytes that an input may have; a longer one is refused with 1.
 pub const LONGEST: usize = 65_535;

@@ -1,4 +1,4 @@
-// Why an element is refused, by name; the one place that gives document 01's number and request A9's detail of each cause.
+// Why an element is refused, by name. This is the one place that gives document 01's number and request A9's detail of each cause.
 ghost use mathlib.Core.Path.{_≡_};
 ghost use Rattle.der.specs.steps.Cause.{causeNumber, causeDetail};
 
@@ -6,19 +6,19 @@ ghost use Rattle.der.specs.steps.Cause.{causeNumber, causeDetail};
 pub enum Cause {
     // The input is longer than it may be.
     TooLong,
-    // The element stands deeper than it may.
+    // The element is deeper than it may be.
     TooDeep,
-    // No identifier octet before the end.
+    // There is no identifier octet before the end.
     NoIdentifier,
-    // An identifier that is not allowed.
+    // The identifier is not allowed.
     WrongIdentifier,
-    // Not all length octets before the end.
+    // Not all length octets come before the end.
     NoLength,
-    // A length that is indefinite, reserved or not in the shortest form.
+    // The length is indefinite, reserved or not in the shortest form.
     WrongLength,
-    // A content that runs past the end.
+    // The content runs past the end.
     PastEnd,
-    // A content that breaks the rule of its type, with the type's tag number.
+    // The content breaks the rule of its type, whose tag number is given.
     WrongContent(usize),
 }
 

@@ -10,7 +10,7 @@ ghost use lib.ListN.{length, getD};
 ghost use Rattle.der.specs.meaning.Content as rule;
 ghost use Rattle.der.specs.steps.ContentTest as test;
 
-// Whether the octets are the content of a BOOLEAN (X.690 8.2, 11.1).
+// Answers whether the octets are the content of a BOOLEAN (X.690 8.2, 11.1): one octet, 00 or FF.
 pub fn boolean(content: &[u8]) -> bool
     ensures { λ r. ⌜ r ≡ rule.boolean (now (content .entry)) ⌝ }
 {
@@ -21,7 +21,8 @@ pub fn boolean(content: &[u8]) -> bool
     (octet == 0x00) | (octet == 0xFF)
 }
 
-// Whether the octets are the content of an INTEGER (X.690 8.3) or ENUMERATED (8.4).
+// Answers whether the octets are the content of an INTEGER (X.690 8.3) or ENUMERATED (8.4): at least one octet, and no more than the number
+// needs.
 pub fn integer(content: &[u8]) -> bool
     ensures { λ r. ⌜ r ≡ rule.integer (now (content .entry)) ⌝ }
 {
@@ -33,7 +34,8 @@ pub fn integer(content: &[u8]) -> bool
     !((first == 0x00) & (second < 0x80) | (first == 0xFF) & (0x80 <= second))
 }
 
-// Whether the octets are the content of a BIT STRING (X.690 8.6, 11.2).
+// Answers whether the octets are the content of a BIT STRING (X.690 8.6, 11.2): the count of unused bits, at most 7, and the bits, of
+// which the unused are 0.
 pub fn bit_string(content: &[u8]) -> bool
     ensures { λ r. ⌜ r ≡ rule.bitString (now (content .entry)) ⌝ }
 {
@@ -49,7 +51,7 @@ pub fn bit_string(content: &[u8]) -> bool
     (unused <= 7) & ((unused as u32) <= u8::trailing_zeros(last))
 }
 
-// Whether the octets are the content of an OBJECT IDENTIFIER (X.690 8.19).
+// Answers whether the octets are the content of an OBJECT IDENTIFIER (X.690 8.19): at least one subidentifier, each in the shortest form.
 pub fn object_identifier(content: &[u8]) -> bool
     ensures { λ r. ⌜ r ≡ rule.objectIdentifier (now (content .entry)) ⌝ }
 {
@@ -76,12 +78,12 @@ fn lacks_80(content: &[u8]) -> bool
     true
 }
 
-// Whether octets, of which there is at least one, are subidentifiers in the shortest form, the last of them complete.
+// Whether the octets, at least one, are subidentifiers in the shortest form, the last of them complete.
 fn are_subidentifiers(content: &[u8]) -> bool
     requires { ⌜ 0 < length (now content) ⌝ }
     ensures { λ r. ⌜ r ≡ rule.objectIdentifier (now (content .entry)) ⌝ }
 {
-    // The octet before, and at first one that ends a subidentifier.
+    // The octet before; at first one that ends a subidentifier.
     let mut before: u8 = 0x00;
     let mut i = 0;
     while i < content.len() {
@@ -95,7 +97,8 @@ fn are_subidentifiers(content: &[u8]) -> bool
     before < 0x80
 }
 
-// Whether the content of a primitive element keeps the rule of its type; NULL is empty (X.690 8.8), and types without a rule take any.
+// Answers whether the content of a primitive element keeps the rule of its type. NULL is empty (X.690 8.8), and a type without a rule
+// takes any content.
 pub fn holds(id: u8, content: &[u8]) -> bool
     ensures { λ r. ⌜ r ≡ test.holds id (now (content .entry)) ⌝ }
 {

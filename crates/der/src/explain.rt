@@ -14,7 +14,7 @@ ghost use Rattle.der.specs.steps.Explain.{Lent, faultAt, listOf, primiti
 
 // What the walk over an element answers.
 pub enum Nest {
-    // No fault; the place past the element.
+    // No fault: the place after the element.
     End(usize),
     // The first fault in document 01's order: its number and place, and request A9's detail.
     Fault {
@@ -24,7 +24,8 @@ pub enum Nest {
     },
 }
 
-// The first element from `at` before `end`: its first fault, or the place past it. Refuses input longer than LONGEST.
+// Explains the first element from `at` on, whose parent ends at `end`: its first fault, or the place after it. Refuses an input longer than
+// LONGEST.
 pub fn explain(bytes: &[u8], at: usize, end: usize) -> Nest
     ensures { λ r. ⌜ r ≡ walkAt (now (bytes .entry)) at end ⌝ }
 {

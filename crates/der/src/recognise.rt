@@ -1,4 +1,4 @@
-// The recogniser: whether octets have no fault, without saying which one they have.
+// The recogniser: whether octets have no fault. It doesn't say which fault they have.
 use crate::bounds::LONGEST;
 use crate::content;
 use crate::element::identifier::is_allowed;
@@ -7,7 +7,8 @@ use crate::element::length::measure;
 ghost use mathlib.Core.Path.{_≡_};
 ghost use Rattle.der.specs.steps.Recognise.{isList, isElement};
 
-// Whether the bytes are a list of elements without a fault, with `left` levels of depth left. More bytes than LONGEST are not.
+// Answers whether the bytes are a list of elements without a fault, with `left` levels of depth left. Refuses more bytes than
+// LONGEST.
 pub fn is_list(bytes: &[u8], left: usize) -> bool
     ensures { λ r. ⌜ r ≡ isList left (now (bytes .entry)) ⌝ }
 {
@@ -33,7 +34,7 @@ pub fn is_list(bytes: &[u8], left: usize) -> bool
     true
 }
 
-// Whether an element with the identifier and the content has no fault, with `left` levels of depth left inside it.
+// Answers whether an element with the identifier and the content has no fault, with `left` levels of depth left inside it.
 pub fn is_element(id: u8, content: &[u8], left: usize) -> bool
     ensures { λ r. ⌜ r ≡ isElement id left (now (content .entry)) ⌝ }
 {

@@ -1,4 +1,4 @@
-// The numbers that come back from a call: document 01's table "Numbers that come back".
+// The numbers that come back from a call (SPECIFICATION 4): document 01's table "Numbers that come back".
 
 // Accepted, with the row count.
 pub const ACCEPTED: usize = 0;
@@ -18,7 +18,7 @@ pub const BAD_LENGTH: usize = 4;
 // A content breaks DER.
 pub const BAD_CONTENT: usize = 5;
 
-// An element stands deeper than 20; the batch is at depth 1.
+// An element is deeper than 20; the batch is at depth 1.
 pub const TOO_DEEP: usize = 6;
 
 // Bytes follow the batch.
@@ -42,5 +42,5 @@ pub const NO_SUCH_BATCH: usize = 12;
 // The edition is neither 1 nor 2.
 pub const UNKNOWN_EDITION: usize = 13;
 
-// No message stands at the position.
+// There is no message at the position.
 pub const NO_SUCH_MESSAGE: usize = 14;

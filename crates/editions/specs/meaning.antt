@@ -1,4 +1,4 @@
--- What a reader has to believe: the editions, membership of their grammars, and document 01's answer.
+-- What a reader has to believe: the editions, membership of their grammars (SPECIFICATION 3.8), and document 01's answer (4, 5).
 pub mod Edition
 pub mod Membership
 pub mod Reading

@@ -1,4 +1,4 @@
-// Reading a batch in an edition: document 01's answer, and the rows in a lent table.
+// Reading a batch in an edition (SPECIFICATION 4 and 5): document 01's answer, and the rows in a lent table.
 use crate::edition::BOTH;
 use crate::edition::RFC2511;
 use crate::edition::RFC4211;
@@ -25,7 +25,7 @@ ghost use Rattle.editions.specs.meaning.Edition.{rfc2511, rfc4211};
 ghost use Rattle.editions.specs.meaning.Reading.{refusal, accepted, batchAnswer, answer, readAnswer, tableAfter};
 ghost use Rattle.editions.specs.steps.OneWalk.{formOf, stopNumber, passedAnswer, brokenAnswer, shownAnswer};
 
-// What a call answers: document 01's number (`der::refusal`), its place, and the count of rows. C is handed it as it is.
+// What a call answers: document 01's number (`der::refusal`), the place, and the count of rows. C gets it in this layout.
 #[repr(C)]
 pub struct Answer {
     pub number: usize,
@@ -33,7 +33,8 @@ pub struct Answer {
     pub count: usize,
 }
 
-// Reads a batch in an edition: the answer, with the rows in the table where the batch is accepted.
+// Reads a batch in an edition and answers the count of its rows, with the rows in the table; or answers the refusal, and leaves the table as
+// it was.
 pub fn read(edition: usize, bytes: &[u8], table: &mut [usize]) -> Answer
     ensures { λ r. ⌜ (r ≡ readAnswer edition (now (bytes .entry)) (now (table .entry)))
         × (now (table .exit) ≡ tableAfter edition (now (bytes .entry)) (now (table .entry))) ⌝ }
@@ -47,7 +48,7 @@ pub fn read(edition: usize, bytes: &[u8], table: &mut [usize]) -> Answer
     }
 }
 
-// The answer for a batch with this many rows, in a table of this length, which holds them if it can.
+// The answer for a recognised batch with `count` rows and a table of `room` numbers, which holds the rows if there is room.
 fn shown(count: usize, room: usize) -> Answer
     ensures { λ r. ⌜ r ≡ shownAnswer count room ⌝ }
 {
@@ -57,7 +58,7 @@ fn shown(count: usize, room: usize) -> Answer
     admit(count)
 }
 
-// Judges a batch in an edition: the same answer without a table, so never NO_ROOM.
+// Judges a batch in an edition without a table. The answer is that of `read`, except that it is never NO_ROOM.
 pub fn accept(edition: usize, bytes: &[u8]) -> Answer
     ensures { λ r. ⌜ r ≡ answer edition (now (bytes .entry)) ⌝ }
 {
@@ -70,14 +71,14 @@ pub fn accept(edition: usize, bytes: &[u8]) -> Answer
     }
 }
 
-// Whether a number is neither edition.
+// Whether the number is neither 1 nor 2.
 fn is_unknown(edition: usize) -> bool
     ensures { λ r. ⌜ r ≡ (not (eqb edition rfc2511) && not (eqb edition rfc4211)) ⌝ }
 {
     (edition != RFC2511) & (edition != RFC4211)
 }
 
-// The answer in one of the two editions: the length is judged first, then the nest, then the grammar.
+// The answer with its place: the length is judged first, then the nest, then the grammar.
 fn exact(edition: usize, bytes: &[u8]) -> Answer
     requires { ⌜ (rfc2511 ≤ edition) × (edition ≤ rfc4211) ⌝ }
     ensures { λ r. ⌜ r ≡ answer edition (now (bytes .entry)) ⌝ }
@@ -100,7 +101,7 @@ fn exact(edition: usize, bytes: &[u8]) -> Answer
     }
 }
 
-// The answer where the bytes are one element and nothing after it.
+// The answer for bytes that are one element, with nothing after it.
 fn batch(edition: usize, bytes: &[u8]) -> Answer
     requires { ⌜ (rfc2511 ≤ edition) × (edition ≤ rfc4211) × (length (now bytes) ≤ longest) ⌝ }
     ensures { λ r. ⌜ r ≡ batchAnswer edition (now (bytes .entry)) ⌝ }
@@ -115,7 +116,7 @@ fn batch(edition: usize, bytes: &[u8]) -> Answer
     }
 }
 
-// The answer where the walk that reads every form passes.
+// The answer if the walk that reads every form passes.
 fn passed(edition: usize, tally: Tally) -> Answer
     requires { ⌜ edition ≤ rfc4211 ⌝ }
     ensures { λ r. ⌜ r ≡ passedAnswer edition tally ⌝ }
@@ -131,8 +132,8 @@ fn passed(edition: usize, tally: Tally) -> Answer
     admit(tally.count)
 }
 
-// The number where a form of the opposite edition stands in what is otherwise a batch: it depends on whether a form of this edition alone
-// was met, by the number of its difference (0: none).
+// The number if the walk passes but has met a form of the opposite edition alone. It depends on whether a form of this edition alone was met
+// too: `own` is the number of its difference, or 0.
 fn stop_number(own: usize) -> usize
     ensures { λ r. ⌜ r ≡ stopNumber own ⌝ }
 {
@@ -143,7 +144,7 @@ fn stop_number(own: usize) -> usize
     }
 }
 
-// The answer where the walk that reads every form breaks at a place: a form that the edition doesn't read may stand before it.
+// The answer if the walk that reads every form breaks at a place. A form that the edition doesn't read may come before it.
 fn broken(edition: usize, place: usize, tally: Tally) -> Answer
     requires { ⌜ edition ≤ rfc4211 ⌝ }
     ensures { λ r. ⌜ r ≡ brokenAnswer edition place tally ⌝ }
@@ -155,7 +156,7 @@ fn broken(edition: usize, place: usize, tally: Tally) -> Answer
     refuse(NOT_IN_GRAMMAR, place)
 }
 
-// Of the tally, the first form of an edition alone.
+// The first form of one edition alone that the tally has.
 fn first_form(edition: usize, tally: Tally) -> Difference
     ensures { λ r. ⌜ (r .number ≡ formOf edition tally .0) × (r .place ≡ formOf edition tally .1) ⌝ }
 {
@@ -165,7 +166,7 @@ fn first_form(edition: usize, tally: Tally) -> Difference
     tally.two
 }
 
-// An acceptance's answer.
+// The answer of an acceptance.
 fn admit(count: usize) -> Answer
     ensures { λ r. ⌜ r ≡ accepted count ⌝ }
 {
@@ -176,7 +177,7 @@ fn admit(count: usize) -> Answer
     }
 }
 
-// A refusal's answer.
+// The answer of a refusal.
 fn refuse(number: usize, place: usize) -> Answer
     ensures { λ r. ⌜ r ≡ refusal number place ⌝ }
 {

@@ -2,15 +2,15 @@
 //
 //     EDITION/NUMBERS:OCTETS
 //
-// as `cases::line` says. Where no edition is named, the batch is read in edition 1 and then in edition 2. NUMBERS numbers of the table are
-// lent, and without `/NUMBERS` all of them. The answer is one of
+// as `cases::line` says. If no edition is named, the batch is read in edition 1 and then in edition 2. NUMBERS numbers of the table are lent,
+// and without `/NUMBERS` all of them. The answer is one of
 //
-//     0 COUNT         accepted; below it a line for each row, where there are at most 60: kind, first byte, whole length, parent's row
+//     0 COUNT         accepted; below it a line for each row, if there are at most 60: kind, first byte, whole length, parent's row
 //     NUMBER@PLACE    refused
 //
-// with `and not 0 but N` where the third number, the place of an acceptance or the count of a refusal, isn't 0; followed by `, accept`
-// and the answer of `accept` where that is another, and by `, changed` where a number of the table changed that shouldn't: any at a
-// refusal, and one after the rows at an acceptance.
+// with `and not 0 but N` if the third number, the place of an acceptance or the count of a refusal, isn't 0. `, accept` and the answer of
+// `accept` follow if that is another, and `, changed` if a number of the table has changed that shouldn't: any at a refusal, and one after
+// the rows at an acceptance.
 use cases::case::ROOM;
 use cases::case::octets;
 use cases::input::TEXT;

@@ -1,4 +1,4 @@
-// The search for two messages with the same certReqId.
+// The search for two messages with the same certReqId (SPECIFICATION 8).
 use der::element::reading;
 use der::refusal::ACCEPTED;
 ghost use Prim.Native.Nat.{_≤_};
@@ -11,7 +11,8 @@ ghost use Rattle.verdict.specs.steps.Collecting.{Accepted, mostMessages,
 // A message's certReqId, a signed whole number. It is never a position.
 pub struct ReqId(pub i64);
 
-// What the search answers: document 01's number (`der::refusal`; ACCEPTED where it searched), its place, whether a pair was found (1), and the pair's positions.
+// What the search answers: document 01's number (`der::refusal`; ACCEPTED if it searched), the place, 1 if a pair was found and 0 if not, and
+// the pair's positions.
 #[repr(C)]
 pub struct Duplicates {
     pub number: usize,
@@ -24,7 +25,8 @@ pub struct Duplicates {
 // The most messages that a batch can have: each has at least 9 of its 65,535 octets.
 const MOST_MESSAGES: usize = 7281;
 
-// Searches the messages of a batch for the first two with the same certReqId, in an edition: the refusal, or the pair if there is one.
+// Searches the messages of a batch, read in an edition, for two with the same certReqId, and answers the first pair or that there is none.
+// Refuses what `editions::reader::accept` refuses.
 pub fn search(edition: usize, bytes: &[u8]) -> Duplicates
     ensures { λ r. ⌜ r ≡ duplicatesAnswer edition (now (bytes .entry)) ⌝ }
 {
@@ -43,7 +45,7 @@ pub fn search(edition: usize, bytes: &[u8]) -> Duplicates
     first_pair(&numbers[..count])
 }
 
-// Collects the certReqIds of an accepted batch's messages, by position: how many they are.
+// Collects the certReqIds of an accepted batch's messages by position, and answers how many there are.
 fn collect(bytes: &[u8], numbers: &mut [i64]) -> usize
     requires { ⌜ Accepted (now bytes) × (length (now numbers) ≡ mostMessages) ⌝ }
     ensures { λ r. ⌜ Collected (now (bytes .entry)) (now (numbers .exit)) r ⌝ }
@@ -61,7 +63,7 @@ fn collect(bytes: &[u8], numbers: &mut [i64]) -> usize
     count
 }
 
-// The certReqId of the message whose inside stands from `at` to `end`.
+// The certReqId of the message whose inside is from `at` to `end`.
 fn own_id(bytes: &[u8], at: usize, end: usize) -> ReqId
     requires { ⌜ Short (now bytes) (idIn (now bytes) at end) ⌝ }
     ensures { λ r. ⌜ (let x = idIn (now (bytes .entry)) at end in r .0 ≡ signed (slice (x .content) (x .end) (now (bytes .entry)))) ⌝ }
@@ -88,7 +90,7 @@ fn signed(content: &[u8]) -> i64
     if negative { -1 - m as i64 } else { m as i64 }
 }
 
-// An octet's part in the magnitude of a number: itself, or its complement where the number is negative.
+// An octet's part in the magnitude of a number: itself, or its complement if the number is negative.
 fn magnitude(octet: u8, negative: bool) -> u64
     ensures { λ r. ⌜ r ≡ magnitudeOctet negative octet ⌝ }
 {
@@ -99,7 +101,7 @@ fn magnitude(octet: u8, negative: bool) -> u64
     }
 }
 
-// The first pair of positions with the same number, the least later position first and then the least earlier.
+// The first pair of positions with the same number: the one with the least later position, and then the least earlier one.
 fn first_pair(numbers: &[i64]) -> Duplicates
     ensures { λ r. ⌜ r ≡ searched (pairOf (now (numbers .entry))) ⌝ }
 {

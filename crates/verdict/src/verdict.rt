@@ -1,4 +1,4 @@
-// The verdict on a message's proof, and the part that its signature covers.
+// The verdict on a message's proof, and the part that its signature covers (SPECIFICATION 7).
 use der::element::reading::Element;
 use der::element::reading::read_at;
 use der::refusal::ACCEPTED;
@@ -23,13 +23,13 @@ pub const NO_PROOF: usize = 0;
 pub const RA_VERIFIED: usize = 1;
 
 // A signature over the certReq: no poposkInput, and subject and publicKey both in the template.
-pub const SIGNED_REQUEST: usize = 2;
+pub const SIGNED_CERT_REQ: usize = 2;
 
 // A signature over poposkInput: it is present, and subject or publicKey is missing.
-pub const SIGNED_INPUT: usize = 3;
+pub const SIGNED_POPOSK_INPUT: usize = 3;
 
 // Any other signature.
-pub const SIGNATURE_NEITHER: usize = 4;
+pub const OTHER_SIGNATURE: usize = 4;
 
 // Any other keyEncipherment.
 pub const KEY_ENCIPHERMENT: usize = 5;
@@ -38,12 +38,13 @@ pub const KEY_ENCIPHERMENT: usize = 5;
 pub const KEY_AGREEMENT: usize = 6;
 
 // Choice 82 under keyEncipherment, or without both subject and publicKey.
-pub const MAC_MISPLACED: usize = 7;
+pub const MISPLACED_DH_MAC: usize = 7;
 
 // A message's position in its batch, from 0. It is never a certReqId.
 pub struct Position(pub usize);
 
-// What the verdict answers: document 01's number (`der::refusal`; ACCEPTED with a verdict), its place, the verdict, and where the signed part stands.
+// What `judge` answers: document 01's number (`der::refusal`; ACCEPTED with a verdict), the place, the verdict, and the signed part's place and
+// length.
 #[repr(C)]
 pub struct Verdict {
     pub number: usize,
@@ -59,8 +60,8 @@ struct Extent {
     length: usize,
 }
 
-// Judges the proof of the message at a position: the verdict, and where its signed part stands, if it has one. The refusals are those of
-// reading without NO_ROOM, then NO_SUCH_MESSAGE.
+// Judges the proof of the message at a position and answers the verdict and the signed part's place and length, 0 and 0 if there is none.
+// Refuses what `accept` refuses, and then a position without a message (NO_SUCH_MESSAGE).
 pub fn judge(edition: usize, bytes: &[u8], position: Position) -> Verdict
     ensures { λ r. ⌜ r ≡ verdictAnswer edition (now (bytes .entry)) (position .0) ⌝ }
 {
@@ -77,8 +78,8 @@ pub fn judge(edition: usize, bytes: &[u8], position: Position) -> Verdict
     message(bytes, at, end)
 }
 
-// The part of the bytes that the signature of the message at a position covers: the certReq with
-// SIGNED_REQUEST, the poposkInput with SIGNED_INPUT, and an empty part with any other verdict or a refusal.
+// Hands back the part of the bytes that the signature of the message at a position covers: the certReq with SIGNED_CERT_REQ, the poposkInput
+// with SIGNED_POPOSK_INPUT, and an empty part with any other verdict or a refusal.
 pub fn signed_part(edition: usize, bytes: &[u8], position: Position) -> &[u8]
     ensures { λ r. ⌜ HandedBack (bytes .entry) r (verdictAnswer edition (now (bytes .entry)) (position .0)) ⌝ }
 {
@@ -88,7 +89,7 @@ pub fn signed_part(edition: usize, bytes: &[u8], position: Position) -> &[u8]
     &bytes[from..end]
 }
 
-// The place of the element with the number `count`, from 0, of those from `at` to `end`; the end where there are no more.
+// The place of the element after the first `count` of those from `at` to `end`; the end if there is none.
 fn skip(bytes: &[u8], at: usize, end: usize, count: usize) -> usize
     requires { ⌜ Places (now bytes) at end ⌝ }
     ensures { λ r. ⌜ Places (now (bytes .entry)) r end × (fieldsBetween (now (bytes .entry)) r end ≡ drop count (fieldsBetween (now (bytes .entry)) at end)) ⌝ }
@@ -106,7 +107,7 @@ fn skip(bytes: &[u8], at: usize, end: usize, count: usize) -> usize
     place
 }
 
-// The part of the first element with an identifier, of those from `at` to `end`; 0 and 0 where there is none.
+// The first element with the identifier `id`, of those from `at` to `end`, as a part of the bytes; 0 and 0 if there is none.
 fn find(bytes: &[u8], at: usize, end: usize, id: u8) -> Extent
     requires { ⌜ Places (now bytes) at end ⌝ }
     ensures { λ r. ⌜ FieldFound (firstWith (id ∷ []) (fieldsBetween (now (bytes .entry)) at end)) r ⌝ }
@@ -125,7 +126,7 @@ fn find(bytes: &[u8], at: usize, end: usize, id: u8) -> Extent
     Extent { from: 0, length: 0 }
 }
 
-// Whether an element with an identifier stands among those from `at` to `end`.
+// Whether one of the elements from `at` to `end` has the identifier `id`.
 fn has(bytes: &[u8], at: usize, end: usize, id: u8) -> bool
     requires { ⌜ Places (now bytes) at end ⌝ }
     ensures { λ r. ⌜ r ≡ holds id (fieldsBetween (now (bytes .entry)) at end) ⌝ }
@@ -133,7 +134,7 @@ fn has(bytes: &[u8], at: usize, end: usize, id: u8) -> bool
     find(bytes, at, end, id).length != 0
 }
 
-// Whether subject and publicKey both stand in the template of the certReq whose inside is from `at` to `end`.
+// Whether subject and publicKey are both in the template of the certReq whose inside is from `at` to `end`.
 fn is_named(bytes: &[u8], at: usize, end: usize) -> bool
     requires { ⌜ Places (now bytes) at end ⌝ }
     ensures { λ r. ⌜ ((m : Message) (more : List Field) → fieldsBetween (now (bytes .entry)) at end ≡ m .certReqId ∷ m .template ∷ more → m .template .identifier ≡ 0x30 → r ≡ hasSubjectAndKey m) ⌝ }
@@ -144,7 +145,7 @@ fn is_named(bytes: &[u8], at: usize, end: usize) -> bool
         & has(bytes, template.content, template.end, 0xA6)
 }
 
-// The verdict on the message from `at` before `end`.
+// The verdict on the message at `at`, in a batch that ends at `end`.
 fn message(bytes: &[u8], at: usize, end: usize) -> Verdict
     requires { ⌜ Places (now bytes) at end ⌝ }
     ensures { λ r. ⌜ ((m : Message) (more : List Field) → fieldsBetween (now (bytes .entry)) at end ≡ m .own ∷ more → MessageParts m → r ≡ verdictOn m) ⌝ }
@@ -162,7 +163,7 @@ fn message(bytes: &[u8], at: usize, end: usize) -> Verdict
     proof_verdict(bytes, read_at(bytes, after, last), both, part)
 }
 
-// The verdict by what stands after the certReq.
+// The verdict by the element after the certReq, which is the proof if the message has one.
 fn proof_verdict(bytes: &[u8], proof: Element, both: bool, request: Extent) -> Verdict
     requires { ⌜ Places (now bytes) (proof .content) (proof .end) ⌝ }
     ensures { λ r. ⌜ r ≡ proofAnswer (proof .identifier) (fieldsBetween (now (bytes .entry)) (proof .content) (proof .end)) both request ⌝ }
@@ -185,21 +186,25 @@ fn signature(input: Extent, both: bool, request: Extent) -> Verdict
 {
     if input.length == 0 {
         if both {
-            return tell(SIGNED_REQUEST, request);
+            return tell(SIGNED_CERT_REQ, request);
         }
-        return plain(SIGNATURE_NEITHER);
+        return plain(OTHER_SIGNATURE);
     }
     if both {
-        return plain(SIGNATURE_NEITHER);
+        return plain(OTHER_SIGNATURE);
     }
-    tell(SIGNED_INPUT, input)
+    tell(SIGNED_POPOSK_INPUT, input)
 }
 
 // The verdict on keyEncipherment, by whether its choice is 82.
 fn encipherment(mac: bool) -> usize
     ensures { λ r. ⌜ r ≡ enciphermentVerdict mac ⌝ }
 {
-    if mac { MAC_MISPLACED } else { KEY_ENCIPHERMENT }
+    if mac {
+        MISPLACED_DH_MAC
+    } else {
+        KEY_ENCIPHERMENT
+    }
 }
 
 // The verdict on keyAgreement.
@@ -207,13 +212,13 @@ fn agreement(mac: bool, both: bool) -> usize
     ensures { λ r. ⌜ r ≡ agreementVerdict mac both ⌝ }
 {
     if mac & !both {
-        MAC_MISPLACED
+        MISPLACED_DH_MAC
     } else {
         KEY_AGREEMENT
     }
 }
 
-// A verdict with the part that is signed.
+// A verdict with a signed part.
 fn tell(verdict: usize, part: Extent) -> Verdict
     ensures { λ r. ⌜ r ≡ told verdict part ⌝ }
 {
@@ -226,7 +231,7 @@ fn tell(verdict: usize, part: Extent) -> Verdict
     }
 }
 
-// A verdict without one.
+// A verdict without a signed part.
 fn plain(verdict: usize) -> Verdict
     ensures { λ r. ⌜ r ≡ bare verdict ⌝ }
 {
@@ -239,7 +244,7 @@ fn plain(verdict: usize) -> Verdict
     }
 }
 
-// A refusal.
+// The answer of a refusal.
 fn refuse(number: usize, place: usize) -> Verdict
     ensures { λ r. ⌜ r ≡ refused number place ⌝ }
 {

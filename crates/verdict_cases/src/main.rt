@@ -3,12 +3,12 @@
 //
 //     EDITION/POSITION:OCTETS
 //
-// as `cases::line` says. Where no edition is named, the batch is judged in edition 1 and then in edition 2; without
-// `/POSITION` at position 0. The answer is
+// as `cases::line` says. If no edition is named, the batch is judged in edition 1 and then in edition 2. Without `/POSITION` the message at
+// position 0 is judged. The answer is
 //
 //     NUMBER PLACE VERDICT FROM LENGTH / NUMBER PLACE FOUND EARLIER LATER
 //
-// followed by `, part of N` where the signed part that is handed back has another length.
+// followed by `, part of N` if the signed part that is handed back has another length.
 use cases::case::ROOM;
 use cases::case::octets;
 use cases::input::TEXT;
@@ -37,7 +37,7 @@ fn print_five(a: usize, b: usize, c: usize, d: usize, e: usize) {
     print_next(e);
 }
 
-// Prints the answers, and the length of the part that was handed back where it is another.
+// Prints the answers, and the length of the part that was handed back if it is another.
 fn report(found: Verdict, part: usize, pair: Duplicates) {
     print_five(
         found.number,

@@ -6,7 +6,7 @@ use der::bounds::LONGEST;
 ghost use Rattle.writer.specs.meaning.Writing.{candidate};
 ghost use Rattle.writer.specs.steps.Inner.{Lent, Begins};
 
-// Writes the candidate into a scratch; answers its length, or some number above LONGEST where it is too long.
+// Writes the candidate into a scratch and answers its length, or a number above LONGEST if it is too long.
 pub(crate) fn assemble(draft: &[usize], bytes: &[u8], sums: &[usize], scratch: &mut [u8]) -> usize
     requires { ⌜ Lent (now draft) (now bytes) (now sums) (now scratch) ⌝ }
     ensures { λ r. ⌜ Begins (candidate (now (draft .entry)) (now (bytes .entry))) r (now (scratch .exit)) ⌝ }

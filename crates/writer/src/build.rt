@@ -25,10 +25,11 @@ pub(crate) enum Outcome {
 // The most rows that a batch can have.
 pub(crate) const MOST_ROWS: usize = 32767;
 
-// The most rows for which a small table is made. Clearing the largest table takes longer than the rest of a small draft.
+// The most rows for which a small table is made: clearing the largest one takes longer than everything else that a small draft
+// needs.
 const FEW: usize = 256;
 
-// Finds what a draft describes; the scratch then begins with the batch.
+// Finds what a draft describes. If it is a batch, the scratch then begins with it.
 pub(crate) fn build(edition: usize, draft: &[usize], bytes: &[u8], scratch: &mut [u8]) -> Outcome
     requires { ⌜ (shaped (now draft) ≡ true) × (longest ≤ length (now scratch)) ⌝ }
     ensures { λ r. ⌜ Built edition (now (draft .entry)) (now (bytes .entry)) (now (scratch .exit)) r ⌝ }
@@ -48,7 +49,7 @@ fn build_few(edition: usize, draft: &[usize], bytes: &[u8], scratch: &mut [u8]) 
     build_in(edition, draft, bytes, scratch, &mut table)
 }
 
-// The same for a draft of as many rows as a batch can have.
+// The same for a draft of up to MOST_ROWS rows.
 fn build_many(edition: usize, draft: &[usize], bytes: &[u8], scratch: &mut [u8]) -> Outcome
     requires { ⌜ (shaped (now draft) ≡ true) × (longest ≤ length (now scratch)) ⌝ }
     ensures { λ r. ⌜ Built edition (now (draft .entry)) (now (bytes .entry)) (now (scratch .exit)) r ⌝ }
@@ -57,7 +58,7 @@ fn build_many(edition: usize, draft: &[usize], bytes: &[u8], scratch: &mut [u8])
     build_in(edition, draft, bytes, scratch, &mut table)
 }
 
-// The same with a table that is lent: it takes the sums, and then the rows that reading the candidate shows.
+// The same with a table that is lent: it holds the sums first, and then the rows that reading the candidate shows.
 fn build_in(
     edition: usize,
     draft: &[usize],
@@ -74,7 +75,7 @@ fn build_in(
     build_summed(edition, draft, bytes, scratch, table)
 }
 
-// The same for a draft whose sums stand in the table.
+// The same for a draft whose sums are in the table.
 fn build_summed(
     edition: usize,
     draft: &[usize],

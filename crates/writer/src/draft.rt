@@ -1,4 +1,5 @@
 // A draft's rows: the numbers of each, the octets of a leaf, and the kinds of containers.
+use crmf::kinds;
 use crmf::rows::WIDTH;
 ghost use Prim.Native.Nat.{suc, _+_, _<_};
 ghost use mathlib.Core.Path.{_≡_};
@@ -56,16 +57,16 @@ pub(crate) fn leaf(bytes: &[u8], first: usize, whole: usize) -> &[u8]
 pub(crate) fn container(kind: usize) -> bool
     ensures { λ r. ⌜ r ≡ isContainer kind ⌝ }
 {
-    (kind == 1)
-        | (kind == 2)
-        | (kind == 3)
-        | (kind == 5)
-        | (kind == 14)
-        | (kind == 19)
-        | (kind == 30)
-        | (kind == 51)
-        | (kind == 52)
-        | (kind == 53)
-        | (kind == 70)
-        | (kind == 74)
+    (kind == kinds::BATCH)
+        | (kind == kinds::MESSAGE)
+        | (kind == kinds::CERT_REQ)
+        | (kind == kinds::CERT_TEMPLATE)
+        | (kind == kinds::VALIDITY)
+        | (kind == kinds::EXTENSIONS)
+        | (kind == kinds::CONTROLS)
+        | (kind == kinds::SIGNATURE)
+        | (kind == kinds::KEY_ENCIPHERMENT)
+        | (kind == kinds::KEY_AGREEMENT)
+        | (kind == kinds::REG_INFO)
+        | (kind == kinds::REG_INFO_CERT_REQ)
 }

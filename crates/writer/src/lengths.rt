@@ -1,6 +1,7 @@
 // The whole lengths of rows.
 use crate::draft::Row;
 use crate::draft::container;
+use crmf::kinds;
 use der::bounds::LONGEST;
 ghost use Prim.Native.Nat.{suc, _+_, _*_, _≤_};
 ghost use mathlib.Core.Path.{_≡_};
@@ -11,8 +12,8 @@ ghost use Rattle.crmf.specs.steps.rows.Assembly.{implied};
 ghost use Rattle.writer.specs.meaning.Writing.{mostRows};
 ghost use Rattle.writer.specs.steps.Inner.{rowOf, Stands, Whole};
 
-// The whole length of a row whose children have `inner` octets together; more than LONGEST where it is too long, or is a leaf that leaves
-// the slice.
+// The whole length of a row whose children have `inner` octets together; more than LONGEST if it is too long, or if the row is a leaf that
+// leaves the slice.
 pub(crate) fn whole_of(row: Row, bytes: &[u8], inner: usize) -> usize
     requires { ⌜ inner ≤ longest * mostRows ⌝ }
     ensures { λ r. ⌜ Whole (now (bytes .entry)) (rowOf row) inner r ⌝ }
@@ -31,7 +32,7 @@ pub(crate) fn whole_of(row: Row, bytes: &[u8], inner: usize) -> usize
     whole
 }
 
-// The whole length of a container whose children have `inner` octets together; more than LONGEST where it is too long.
+// The whole length of a container whose children have `inner` octets together; more than LONGEST if it is too long.
 fn whole_around(kind: usize, inner: usize) -> usize
     requires { ⌜ inner ≤ longest * mostRows ⌝ }
     ensures { λ r. ⌜ Stands r (suc (length (lengthOctets (length (implied kind) + inner)) + (length (implied kind) + inner))) ⌝ }
@@ -43,14 +44,18 @@ fn whole_around(kind: usize, inner: usize) -> usize
     1 + length_octets(content) + content
 }
 
-// How many octets the type has that a container implies.
+// How many octets the implied type of a container has: 0, except for an item with a carried certReq, whose type has no row.
 pub(crate) fn implied_length(kind: usize) -> usize
     ensures { λ r. ⌜ r ≡ length (implied kind) ⌝ }
 {
-    if kind == 74 { 11 } else { 0 }
+    if kind == kinds::REG_INFO_CERT_REQ {
+        11
+    } else {
+        0
+    }
 }
 
-// How many length octets stand before `content` content octets.
+// How many length octets `content` content octets need.
 fn length_octets(content: usize) -> usize
     requires { ⌜ content ≤ longest ⌝ }
     ensures { λ r. ⌜ (r ≡ length (lengthOctets content)) × (r ≤ 3) ⌝ }

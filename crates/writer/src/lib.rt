@@ -1,4 +1,4 @@
-// Drafts, and writing the batch that one describes.
+// Drafts, and writing the batch that a draft describes.
 mod assemble;
 mod build;
 mod compare;

@@ -3,6 +3,7 @@ use crate::draft::Row;
 use crate::draft::container;
 use crate::draft::leaf;
 use crate::lengths::implied_length;
+use crmf::kinds;
 ghost use Prim.Native.Nat.{suc, _+_, _*_, _≤_};
 ghost use mathlib.Core.Path.{_≡_};
 ghost use mathlib.Core.List.{[], _∷_, _++_};
@@ -14,7 +15,7 @@ ghost use Rattle.crmf.specs.meaning.Pieces.{pieceOf};
 ghost use Rattle.crmf.specs.steps.rows.Assembly.{identifierOf, implied, own, wholeOf};
 ghost use Rattle.writer.specs.steps.Inner.{rowOf, Appended};
 
-// Writes a row's own octets from the place `at` on, where its children have `inner` octets together; answers the place after them.
+// Writes a row's own octets from the place `at` on and answers the place after them. The row's children have `inner` octets together.
 pub(crate) fn put(row: Row, inner: usize, bytes: &[u8], at: usize, scratch: &mut [u8]) -> usize
     requires { ⌜ (wholeOf (pieceOf (now bytes) (rowOf row)) inner ≤ longest) × (at ≤ longest) ⌝ }
     ensures { λ r. ⌜ Appended (now (scratch .entry)) at (own (pieceOf (now (bytes .entry)) (rowOf row)) inner) r (now (scratch .exit)) ⌝ }
@@ -41,11 +42,11 @@ fn identifier(kind: usize) -> u8
     ensures { λ r. ⌜ r ≡ identifierOf kind ⌝ }
 {
     match kind {
-        14 => 0xA4,
-        19 => 0xA9,
-        51 => 0xA1,
-        52 => 0xA2,
-        53 => 0xA3,
+        kinds::VALIDITY => 0xA4,
+        kinds::EXTENSIONS => 0xA9,
+        kinds::SIGNATURE => 0xA1,
+        kinds::KEY_ENCIPHERMENT => 0xA2,
+        kinds::KEY_AGREEMENT => 0xA3,
         _ => 0x30,
     }
 }
@@ -72,7 +73,7 @@ fn put_type(kind: usize, at: usize, scratch: &mut [u8]) -> usize
     requires { ⌜ at ≤ 2 * longest ⌝ }
     ensures { λ r. ⌜ Appended (now (scratch .entry)) at (implied kind) r (now (scratch .exit)) ⌝ }
 {
-    if kind != 74 {
+    if kind != kinds::REG_INFO_CERT_REQ {
         return at;
     }
     let octets = [

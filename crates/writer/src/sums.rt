@@ -11,7 +11,7 @@ ghost use Rattle.der.specs.meaning.Bounds.{longest};
 ghost use Rattle.writer.specs.meaning.Writing.{rowsIn, mostRows};
 ghost use Rattle.writer.specs.steps.Inner.{sound, Summed, Blank, Added};
 
-// Adds up the sums in a table; answers whether every leaf lies in the slice and no row is too long.
+// Adds up the sums in a table and answers whether every leaf lies in the slice and no row is too long.
 pub(crate) fn add_up(draft: &[usize], bytes: &[u8], table: &mut [usize]) -> bool
     requires { ⌜ Blank (rowsIn (now draft)) (now table) ⌝ }
     ensures { λ r. ⌜ (r ≡ sound (now (bytes .entry)) 0 (rowsIn (now (draft .entry))))

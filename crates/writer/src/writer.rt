@@ -1,4 +1,4 @@
-// Writing the batch that a draft describes.
+// Writing the batch that a draft describes (SPECIFICATION 6).
 use crate::build::MOST_ROWS;
 use crate::build::Outcome;
 use crate::build::build;
@@ -17,8 +17,9 @@ ghost use mathlib.Core.Path.{_≡_};
 ghost use Rattle.editions.specs.meaning.Reading.{refusal};
 ghost use Rattle.writer.specs.meaning.Writing as spec;
 
-// Writes the batch that a draft describes in an edition: the answer, with the batch in the output where the draft describes one and there is
-// room for it. The count is the batch's length.
+// Writes the batch that a draft over `bytes` describes in an edition, and answers its length as the count. Refuses a number that is neither 1
+// nor 2, a draft that describes no batch, and an output that is too short. A refusal leaves the output as it was; otherwise the output
+// begins with the batch, and its other bytes stay.
 pub fn write(edition: usize, draft: &[usize], bytes: &[u8], output: &mut [u8]) -> Answer
     ensures { λ r. ⌜ (r ≡ spec.writeAnswer edition (now (draft .entry)) (now (bytes .entry)) (now (output .entry)))
         × (now (output .exit) ≡ spec.outputAfter edition (now (draft .entry)) (now (bytes .entry)) (now (output .entry))) ⌝ }
@@ -52,7 +53,7 @@ fn shaped(draft: &[usize]) -> bool
     (WIDTH * rows(draft) == draft.len()) & (rows(draft) <= MOST_ROWS)
 }
 
-// A refusal's answer.
+// The answer of a refusal.
 fn refuse(number: usize) -> Answer
     ensures { λ r. ⌜ r ≡ refusal number 0 ⌝ }
 {

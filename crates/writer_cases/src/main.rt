@@ -2,15 +2,15 @@
 //
 //     EDITION/ROOM=DRAFT:OCTETS
 //
-// as `cases::line` says; the octets are the slice. Where no edition is named, the draft is written in edition 1 and then in edition 2.
+// as `cases::line` says; the octets are the slice. If no edition is named, the draft is written in edition 1 and then in edition 2.
 // ROOM octets of the output are lent, and without `/ROOM` all of them. Without `=DRAFT` the octets are read in the edition, and the rows
 // shown are the draft. The answer is one of
 //
 //     0 LENGTH SUM    written; the sum is the batch's Adler-32 (RFC 1950)
-//     NUMBER@PLACE    refused, by the writing, or by the reading where that is asked for
+//     NUMBER@PLACE    refused: by writing, or by the reading of a line without a draft
 //
-// with `and not 0 but N` where the third number, the place of an acceptance or the count of a refusal, isn't 0; followed by `, changed`
-// where an octet of the output changed that shouldn't: any at a refusal, and one after the batch at an acceptance.
+// with `and not 0 but N` if the third number, the place of an acceptance or the count of a refusal, isn't 0. `, changed` follows if an octet
+// of the output has changed that shouldn't: any at a refusal, and one after the batch at an acceptance.
 use cases::case::ROOM;
 use cases::case::octets;
 use cases::input::TEXT;
@@ -34,7 +34,7 @@ const OUTPUT: usize = 70000;
 // The modulus of Adler-32 (RFC 1950).
 const MODULUS: usize = 65521;
 
-// What stands at a place of the output beforehand.
+// What the output holds at a place beforehand.
 fn before(place: usize) -> u8 {
     (place % 251) as u8
 }

@@ -1,4 +1,4 @@
--- `capi::phagundro_verdict_number` meets its contract: the verdict, or 256 and the refusal's number, which is at most 14. Assumes nothing.
+-- `capi::phagundro_verdict_number` meets its contract: the verdict, or 256 plus the refusal's number, which is at most 14. Assumes nothing.
 use Prim.Native.Nat.{_+_}
 use borrow.Author.Needs.{needs}
 use borrow.Author.Tests.{eq-eqb, ne-eqb}
@@ -7,12 +7,12 @@ use mathlib.Core.Path.{_≡_, ap, _∙_}
 use Rattle.der.specs.meaning.Refusal.{accepted}
 use Rattle.der.proofs.Laws.{octets-each}
 use Rattle.verdict.specs.declared.verdict.Verdict.{Verdict}
-use Rattle.verdict.proofs.theorems.verdict.RefusalNumbers.{verdict-number}
+use Rattle.verdict.proofs.Laws.{verdict-number}
 use Rattle.capi.specs.OneNumber.{refusedBy, oneNumber}
 use Rattle.capi.proofs.phagundro_verdict_number.Statement.{statement}
 use Rattle.capi.proofs.phagundro_verdict_number.Tie as tie
 
--- one number, by the ways of the code
+-- one number, by the cases of the code
 module _ (v : Verdict) where
   told : v .number ≡ accepted → v .verdict ≡ oneNumber v
   told zero = rw (oneNumber, eq-eqb (v .number) 0 zero)

@@ -1,5 +1,5 @@
--- A list of elements as a list of fields, to be found by position or identifier: their octets, and what it is to stand one behind the
--- other. Assumes nothing.
+-- A list of elements as a list of fields, each with its octets, found by position or identifier. SPECIFICATION 7 and 8 speak of a message's
+-- fields. Assumes nothing.
 use Prim.Native.Nat.{ℕ, _+_}
 use mathlib.Core.Path.{_≡_}
 use mathlib.Core.Bool.{true, false}
@@ -29,7 +29,7 @@ fields (element id first whole content inside rest) =
 unfoldable pub fieldsBetween : List ℕ → ℕ → ℕ → List Field
 fieldsBetween s from to = fields (tree from (slice from to s))
 
--- the list of elements that some fields make
+-- the list of elements that some fields make: `fields` the other way
 unfoldable pub chain : List Field → Tree
 chain [] = none
 chain (f ∷ fs) = element (f .identifier) (f .place) (f .whole) (f .content) (f .inside) (chain fs)
@@ -42,26 +42,26 @@ octets f = header (f .identifier) (f .content) ++ f .content
 abbrev pub contentStart : Field → ℕ
 contentStart f = f .place + length (header (f .identifier) (f .content))
 
--- the place behind a field
+-- the place after a field
 abbrev pub fieldEnd : Field → ℕ
 fieldEnd f = f .place + f .whole
 
--- Some fields stand one behind the other, from a place to another, each as long as its octets.
+-- Some fields come one after the other, from a place to another, each as long as its octets.
 abbrev pub Runs : ℕ → ℕ → List Field → Type 0
 Runs from to [] = from ≡ to
 Runs from to (f ∷ fs) = (f .place ≡ from) × (f .whole ≡ length (octets f)) × Runs (from + f .whole) to fs
 
--- A field consists of some fields: they stand inside it, and its content is their octets, one behind the other.
+-- A field consists of some fields: they are inside it, and its content is their octets, one after the other.
 pub record Consists (f : Field) (fs : List Field) : Type 0 where
   pub held : fields (f .inside) ≡ fs
   pub written : f .content ≡ flatMap octets fs
   pub placed : Runs (contentStart f) (fieldEnd f) fs
 
--- Some octets stand in a list from a place on.
+-- A list has some octets from a place on.
 abbrev pub StandsAt : List ℕ → ℕ → List ℕ → Type 0
 StandsAt s p part = take (length part) (drop p s) ≡ part
 
--- no field: of no length, at the place of the field that lacks it
+-- the answer for a field that is missing: of length 0, at the place of the field that lacks it
 unfoldable pub missing : Field → Field
 missing f = record { identifier = 0; place = f .place; whole = 0; content = []; inside = none }
 
@@ -69,12 +69,12 @@ missing f = record { identifier = 0; place = f .place; whole = 0; content = []; 
 unfoldable pub nth : ℕ → Field → Field
 nth n f = getD (fields (f .inside)) n (missing f)
 
--- the first of some fields that has one of the identifiers, if any has
+-- the first of some fields with one of the identifiers, if there is one
 unfoldable pub firstWith : List ℕ → List Field → Option Field
 firstWith ids [] = absent
 firstWith ids (f ∷ fs) = elim (among ids (f .identifier)) [ true ↦ some f | false ↦ firstWith ids fs ]
 
--- the first field inside a field that has the identifier, if any has
+-- the first field inside a field with the identifier, if there is one
 unfoldable pub child : ℕ → Field → Option Field
 child id f = firstWith (id ∷ []) (fields (f .inside))
 
@@ -83,7 +83,7 @@ unfoldable pub listed : Option Field → List Field
 listed absent = []
 listed (some f) = f ∷ []
 
--- the same field so many bytes further on
+-- the same field, d bytes further on
 unfoldable pub movedField : ℕ → Field → Field
 movedField d f =
     record { identifier = f .identifier; place = d + f .place; whole = f .whole; content = f .content; inside = moved d (f .inside) }

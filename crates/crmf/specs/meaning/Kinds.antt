@@ -1,4 +1,4 @@
--- The kinds of rows, by name: document 01's section "Rows". src/kinds.rt has the same names. Assumes nothing.
+-- The kinds of rows, by name: document 01's section "Rows", SPECIFICATION 5. src/kinds.rt has the same names. Assumes nothing.
 use Prim.Native.Nat.{ℕ}
 use mathlib.Core.List.{List, [], _∷_}
 
@@ -19,8 +19,8 @@ certReq = 3
 abbrev pub certReqId : ℕ
 certReqId = 4
 
-abbrev pub template : ℕ
-template = 5
+abbrev pub certTemplate : ℕ
+certTemplate = 5
 
 -- "template tags 0 to 9 are 10 to 19": "version 80", "serialNumber 81", "signingAlg A2", "issuer A3", "validity A4"
 abbrev pub version : ℕ
@@ -77,17 +77,17 @@ regToken = 41
 abbrev pub authenticator : ℕ
 authenticator = 42
 
-abbrev pub publicationInfo : ℕ
-publicationInfo = 43
+abbrev pub pkiPublicationInfo : ℕ
+pkiPublicationInfo = 43
 
-abbrev pub archiveOptions : ℕ
-archiveOptions = 44
+abbrev pub pkiArchiveOptions : ℕ
+pkiArchiveOptions = 44
 
 abbrev pub oldCertId : ℕ
 oldCertId = 45
 
-abbrev pub protocolKey : ℕ
-protocolKey = 46
+abbrev pub protocolEncrKey : ℕ
+protocolEncrKey = 46
 
 -- "raVerified 50", "signature 51, keyEncipherment 52, keyAgreement 53", "poposkInput 54, AlgId 55, bits 56"
 abbrev pub raVerified : ℕ
@@ -105,11 +105,11 @@ keyAgreement = 53
 abbrev pub poposkInput : ℕ
 poposkInput = 54
 
-abbrev pub algId : ℕ
-algId = 55
+abbrev pub signatureAlgorithm : ℕ
+signatureAlgorithm = 55
 
-abbrev pub bits : ℕ
-bits = 56
+abbrev pub signatureBits : ℕ
+signatureBits = 56
 
 -- "choices 60 to 64 by tag"
 abbrev pub thisMessage : ℕ
@@ -127,12 +127,12 @@ agreeMac = 63
 abbrev pub encryptedKey : ℕ
 encryptedKey = 64
 
--- "regInfo 70", "regInfo unknown 71, pairs 72 (04) or 73 (0C)", "carried certReq item 74 (its child is a 3)"
+-- "regInfo 70", "regInfo unknown 71, pairs 72 (04) or 73 (0C)", "carried certReq item 74 (its child is a 3; its type is implied)"
 abbrev pub regInfo : ℕ
 regInfo = 70
 
-abbrev pub unknownInfo : ℕ
-unknownInfo = 71
+abbrev pub unknownRegInfo : ℕ
+unknownRegInfo = 71
 
 abbrev pub octetPairs : ℕ
 octetPairs = 72
@@ -140,10 +140,10 @@ octetPairs = 72
 abbrev pub utf8Pairs : ℕ
 utf8Pairs = 73
 
-abbrev pub carried : ℕ
-carried = 74
+abbrev pub regInfoCertReq : ℕ
+regInfoCertReq = 74
 
 -- all of them
 abbrev pub rowKinds : List ℕ
 rowKinds =
-    batch ∷ message ∷ certReq ∷ certReqId ∷ template ∷ version ∷ serialNumber ∷ signingAlg ∷ issuer ∷ validity ∷ subject ∷ publicKey ∷ issuerUID ∷ subjectUID ∷ extensions ∷ notBefore ∷ notAfter ∷ extension ∷ controls ∷ unknownControl ∷ regToken ∷ authenticator ∷ publicationInfo ∷ archiveOptions ∷ oldCertId ∷ protocolKey ∷ raVerified ∷ signature ∷ keyEncipherment ∷ keyAgreement ∷ poposkInput ∷ algId ∷ bits ∷ thisMessage ∷ subsequentMessage ∷ dhMac ∷ agreeMac ∷ encryptedKey ∷ regInfo ∷ unknownInfo ∷ octetPairs ∷ utf8Pairs ∷ carried ∷ []
+    batch ∷ message ∷ certReq ∷ certReqId ∷ certTemplate ∷ version ∷ serialNumber ∷ signingAlg ∷ issuer ∷ validity ∷ subject ∷ publicKey ∷ issuerUID ∷ subjectUID ∷ extensions ∷ notBefore ∷ notAfter ∷ extension ∷ controls ∷ unknownControl ∷ regToken ∷ authenticator ∷ pkiPublicationInfo ∷ pkiArchiveOptions ∷ oldCertId ∷ protocolEncrKey ∷ raVerified ∷ signature ∷ keyEncipherment ∷ keyAgreement ∷ poposkInput ∷ signatureAlgorithm ∷ signatureBits ∷ thisMessage ∷ subsequentMessage ∷ dhMac ∷ agreeMac ∷ encryptedKey ∷ regInfo ∷ unknownRegInfo ∷ octetPairs ∷ utf8Pairs ∷ regInfoCertReq ∷ []

@@ -1,5 +1,5 @@
--- What the grammar means: which element trees a container's parts describe, and where forms of one edition alone occur in them. It names
--- no line, no search and no order of judging. Assumes nothing.
+-- What the grammar means (SPECIFICATION 3.1 and 3.7): which element trees a container's parts describe, and where forms of one edition alone
+-- occur in them. It names no line, no search and no order of judging. Assumes nothing.
 use Prim.Native.Nat.{ℕ}
 use mathlib.Core.Path.{_≡_}
 use mathlib.Core.Bool.{Bool, true, false}
@@ -12,57 +12,57 @@ use Rattle.crmf.specs.meaning.Value.{keeps, Selector, selected}
 use Rattle.crmf.specs.meaning.Notation.{named, Mark, both, alone, Name, Inside, free, holds, Form, Occurs, once, optional, repeated, Part, part, select}
 use Rattle.crmf.specs.meaning.Grammar.{content}
 
--- A form is readable where both editions allow it, or where R says that the forms of its edition alone may be read.
+-- A form is readable if both editions allow it, or if R says that the forms of its edition alone may be read.
 abbrev pub readable : (ℕ → Bool) → Mark → Bool
 readable R both = true
 readable R (alone e d) = R e
 
--- a part that may stand no time
+-- whether a part may be left out
 abbrev pub passable : Occurs → Bool
 passable once = false
 passable optional = true
 passable repeated = true
 
--- the parts that may stand behind an element of a part
-abbrev pub behind : Occurs → List Form → List Part → List Part
-behind once fs ps = ps
-behind optional fs ps = ps
-behind repeated fs ps = part repeated fs ∷ ps
+-- the parts that may come after an element of a part
+abbrev pub partsAfter : Occurs → List Form → List Part → List Part
+partsAfter once fs ps = ps
+partsAfter optional fs ps = ps
+partsAfter repeated fs ps = part repeated fs ∷ ps
 
--- the form is one of the list's
+-- A form is in a list.
 pub data OneOf (f : Form) : List Form → Type 0 where
   first : {fs : List Form} → OneOf f (f ∷ fs)
   later : {g : Form} {fs : List Form} → OneOf f fs → OneOf f (g ∷ fs)
 
 mutual
-  -- The elements are what the parts describe, in the parts' order.
+  -- The elements are what the parts describe, in the parts' order (SPECIFICATION 3.1).
   pub data Matches (R : ℕ → Bool) : List Part → Tree → Type 0 where
     end : Matches R [] none
     pass : {o : Occurs} {fs : List Form} {ps : List Part} {t : Tree} → T (passable o) → Matches R ps t → Matches R (part o fs ∷ ps) t
     take : {o : Occurs} {fs : List Form} {ps : List Part} {id first whole : ℕ} {c : List ℕ} {inside rest : Tree} (f : Form)
         → OneOf f fs → T (named (f .identifiers) id) → T (readable R (f .mark)) → T (keeps (f .rule) c) → Within R (f .inside) inside
-        → Matches R (behind o fs ps) rest → Matches R (part o fs ∷ ps) (element id first whole c inside rest)
+        → Matches R (partsAfter o fs ps) rest → Matches R (part o fs ∷ ps) (element id first whole c inside rest)
     choose : {s : Selector} {names : List Name} {ps : List Part} {id first whole : ℕ} {c : List ℕ} {inside rest : Tree} (n : Name)
         → getElem? names (selected s c) ≡ some n → Matches R (content n) rest
         → Matches R (select id s names ∷ ps) (element id first whole c inside rest)
 
-  -- The elements inside an element are what its form asks, if it asks for any.
+  -- The elements inside an element are what its form says: any elements if the inside is free, else what a container's parts describe.
   pub data Within (R : ℕ → Bool) : Inside → Tree → Type 0 where
     unseen : {t : Tree} → Within R free t
     parts : {n : Name} {t : Tree} → Matches R (content n) t → Within R (holds n) t
 
--- An element in a form of one edition alone: its place, the edition and the difference's number.
+-- An element in a form of one edition alone (SPECIFICATION 3.7): its place, the edition and the difference's number.
 pub record Occurrence : Type 0 where
   pub place : ℕ
   pub edition : ℕ
   pub difference : ℕ
 
--- what a form's mark says of an element at a place
+-- the occurrence at an element's place, if its form's mark names one edition alone
 abbrev pub occurs : Mark → ℕ → List Occurrence
 occurs both p = []
 occurs (alone e d) p = record { place = p; edition = e; difference = d } ∷ []
 
--- The occurrences in the elements, and in the elements inside an element: nothing occurs where a form leaves the inside free.
+-- The occurrences in the elements, and in the elements inside an element. None occurs in a free inside.
 unfoldable mutual
   pub occurrences : {R : ℕ → Bool} {ps : List Part} {t : Tree} → Matches R ps t → List Occurrence
   occurrences end = []

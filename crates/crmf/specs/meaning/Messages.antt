@@ -1,4 +1,5 @@
--- The messages of a batch, on its element tree alone: what a message is, and which ones a batch holds. Assumes nothing.
+-- The messages of a batch, on its element tree alone: what a message is, and which ones a batch holds (SPECIFICATION 3.2 and 7). Assumes
+-- nothing.
 use Prim.Native.Nat.{ℕ}
 use mathlib.Core.List.{List, [], _∷_, _++_, map, flatMap}
 use mathlib.Core.Option.{Option, Option·map}
@@ -24,18 +25,18 @@ pub record Message : Type 0 where
 unfoldable pub messageOf : Field → Message
 messageOf f =
     let certReq = nth 0 f in
-    let behind = drop 1 (fields (f .inside)) in
+    let after = drop 1 (fields (f .inside)) in
     record {
       own = f;
       certReq = certReq;
       certReqId = nth 0 certReq;
       template = nth 1 certReq;
       controls = firstWith (0x30 ∷ []) (drop 2 (fields (certReq .inside)));
-      proof = firstWith proofs behind;
-      regInfo = firstWith (0x30 ∷ []) behind;
+      proof = firstWith proofs after;
+      regInfo = firstWith (0x30 ∷ []) after;
     }
 
--- the input's one element
+-- the input's one element; a field of no length if there is none
 unfoldable pub batch : Tree → Field
 batch t = getD (fields t) 0 (record { identifier = 0; place = 0; whole = 0; content = []; inside = none })
 
@@ -49,7 +50,7 @@ batchOf fs =
     let content = flatMap octets fs in
     element 0x30 0 (length (header 0x30 content ++ content)) content (chain fs) none
 
--- the same message so many bytes further on
+-- the same message, d bytes further on
 unfoldable pub movedMessage : ℕ → Message → Message
 movedMessage d m =
     record {

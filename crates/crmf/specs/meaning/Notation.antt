@@ -1,4 +1,4 @@
--- The notation of the grammar: forms of elements, parts of a container, and what stands inside. Assumes nothing.
+-- The notation of the grammar: forms of elements, parts of a container, and the inside of an element (SPECIFICATION 3.1). Assumes nothing.
 use Prim.Native.Nat.{ℕ}
 use mathlib.Core.Bool.{Bool, true, false, _||_}
 use mathlib.Core.List.{List, [], _∷_}
@@ -16,26 +16,28 @@ pub data Identifiers : Type 0 where
   -- none: at a container's end
   nothing : Identifiers
 
--- one of the octets
+-- whether an octet is in a list
 unfoldable pub among : List ℕ → ℕ → Bool
 among [] id = false
 among (a ∷ more) id = eqb id a || among more id
 
+-- the identifiers of a GeneralName (SPECIFICATION 3.2)
 abbrev pub generalNames : List ℕ
 generalNames = 0xA0 ∷ 0x81 ∷ 0x82 ∷ 0xA3 ∷ 0xA4 ∷ 0xA5 ∷ 0x86 ∷ 0x87 ∷ 0x88 ∷ []
 
+-- whether an octet is one of the identifiers
 unfoldable pub named : Identifiers → ℕ → Bool
 named (octet a) id = eqb id a
 named generalName id = among generalNames id
 named anything id = true
 named nothing id = false
 
--- Which edition alone allows a form, and the number of the difference; or both do.
+-- Which editions allow a form: both, or one alone, with the number of the difference (SPECIFICATION 3.7).
 pub data Mark : Type 0 where
   both : Mark
   alone : (edition difference : ℕ) → Mark
 
--- The containers of the grammar, by the names of what they hold.
+-- The containers of the grammar, by the names of what they hold. Grammar.antt has their ASN.1 types.
 pub data Name : Type 0 where
   Top Batch Message CertReq Template Validity Time AlgId Spki OneName RdnSequence Rdn Attribute Extensions Extension : Name
   Signature PoposkInput Sender PkMac KeyProof : Name
@@ -43,7 +45,7 @@ pub data Name : Type 0 where
   PubInfo NotPublished Published Locations Location DontCare Where Archived CertId : Name
   RegInfo Info UnknownInfo Pairs Carried : Name
 
--- all of them, in the order in which their lines stand
+-- all of them, in the order of their lines
 abbrev pub names : List Name
 names =
     Top ∷ Batch ∷ Message ∷ CertReq ∷ Template ∷ Validity ∷ Time ∷ AlgId ∷ Spki ∷ OneName ∷ RdnSequence ∷ Rdn ∷ Attribute ∷ Extensions ∷ Extension ∷ Signature ∷ PoposkInput ∷ Sender ∷ PkMac ∷ KeyProof ∷ Controls ∷ Control ∷ UnknownControl ∷ RegToken ∷ Authenticator ∷ PublicationInfo ∷ ArchiveOptions ∷ OldCertId ∷ ProtocolKey ∷ PubInfo ∷ NotPublished ∷ Published ∷ Locations ∷ Location ∷ DontCare ∷ Where ∷ Archived ∷ CertId ∷ RegInfo ∷ Info ∷ UnknownInfo ∷ Pairs ∷ Carried ∷ []
@@ -94,13 +96,13 @@ order UnknownInfo = 40
 order Pairs = 41
 order Carried = 42
 
--- What stands inside an element: what "isn't looked at", or the parts of a container.
+-- The inside of an element: free, which "isn't looked at", or the parts of a container.
 pub data Inside : Type 0 where
   free : Inside
   holds : Name → Inside
 
--- A form of an element: its identifiers, its inside, the rule of its value, the kind of its row and of the row that it gives the element
--- around it, and the edition that alone allows it.
+-- A form of an element: its identifiers, its inside, the rule of its value, the kind of its row, the kind of the row that it gives the element
+-- around it, and the editions that allow it.
 pub record Form : Type 0 where
   pub identifiers : Identifiers
   pub inside : Inside
@@ -109,16 +111,17 @@ pub record Form : Type 0 where
   pub item : ℕ
   pub mark : Mark
 
--- How often a part stands: once, `?` or `*`; `+` is a part once and then any number of times.
+-- How often a part occurs: once, `?` or `*`. A `+` is two parts: one that occurs once, and one that occurs any number of times.
 pub data Occurs : Type 0 where
   once optional repeated : Occurs
 
--- A part of a container: one of some forms, so often; or an element whose value selects how the container goes on, behind which nothing stands here.
+-- A part of a container: one of some forms, and how often it occurs; or an element whose value selects the container whose parts come after it.
+-- Such an element is the last part of its own container.
 pub data Part : Type 0 where
   part : Occurs → List Form → Part
   select : ℕ → Selector → List Name → Part
 
--- forms: an element with the identifier alone, with an inside, with a rule
+-- forms: an element with one identifier and a free inside; with a container's parts inside; with a rule for its value
 abbrev pub plain : ℕ → Form
 plain id = record { identifiers = octet id; inside = free; rule = always; kind = kinds.none; item = kinds.none; mark = both }
 
@@ -129,13 +132,14 @@ abbrev pub ruled : Rule → Form → Form
 ruled r f =
     record { identifiers = f .identifiers; inside = f .inside; rule = r; kind = f .kind; item = f .item; mark = f .mark }
 
+-- forms: a GeneralName, and "any"
 abbrev pub aGeneralName : Form
 aGeneralName = record { identifiers = generalName; inside = free; rule = always; kind = kinds.none; item = kinds.none; mark = both }
 
 abbrev pub aValue : Form
 aValue = record { identifiers = anything; inside = free; rule = always; kind = kinds.none; item = kinds.none; mark = both }
 
--- the form with a row of a kind; with a row of a kind for the element around it; allowed by one edition alone
+-- a form with a row of a kind; with a row of a kind for the element around it; allowed by one edition alone
 abbrev pub row : ℕ → Form → Form
 row k f = record { identifiers = f .identifiers; inside = f .inside; rule = f .rule; kind = k; item = f .item; mark = f .mark }
 
@@ -145,7 +149,7 @@ itemRow k f = record { identifiers = f .identifiers; inside = f .inside; rule = 
 abbrev pub only : ℕ → ℕ → Form → Form
 only e d f = record { identifiers = f .identifiers; inside = f .inside; rule = f .rule; kind = f .kind; item = f .item; mark = alone e d }
 
--- parts: a form, a form `?`, a form `*`, one of some forms
+-- parts: a form, a form `?`, a form `*`, one of some forms, one of some forms `?`
 abbrev pub one : Form → Part
 one f = part once (f ∷ [])
 
@@ -161,6 +165,6 @@ oneOf fs = part once fs
 abbrev pub maybeOneOf : List Form → Part
 maybeOneOf fs = part optional fs
 
--- a form `+`
+-- the parts of a form `+`
 abbrev pub plus : Form → List Part
 plus f = one f ∷ any f ∷ []

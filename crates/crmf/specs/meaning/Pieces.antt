@@ -1,4 +1,4 @@
--- What a row shows of a batch beside its place. Assumes nothing.
+-- What a row shows of a batch apart from its place: what a draft and its batch share (SPECIFICATION 6). Assumes nothing.
 use Prim.Native.Nat.{ℕ, _+_}
 use mathlib.Core.Bool.{true, false}
 use mathlib.Core.List.{List, [], _∷_}
@@ -6,7 +6,7 @@ use lib.ListN.{length}
 use lib.Seq.{slice}
 use Rattle.crmf.specs.meaning.Rows.{Row, container}
 
--- A piece of a batch: "kinds and parents" and, "in each leaf, the same length and the bytes"; of a container no octets.
+-- A piece of a batch: "kinds and parents" and, "in each leaf, the same length and the bytes". A container's piece has no octets.
 pub record Piece : Type 0 where
   pub kind : ℕ
   pub parent : ℕ
@@ -20,6 +20,7 @@ pieceOf s r = record {
   octets = elim (container (r .kind)) [ true ↦ [] | false ↦ slice (r .first) (r .first + r .whole) s ];
 }
 
+-- the pieces that some rows show
 unfoldable pub piecesOf : List ℕ → List Row → List Piece
 piecesOf s [] = []
 piecesOf s (r ∷ rs) = pieceOf s r ∷ piecesOf s rs

@@ -1,4 +1,5 @@
--- Rows: document 01's table of an accepted element tree's fields, on the meaning of the grammar alone. Assumes nothing.
+-- Rows: the fields of an accepted element tree, by document 01's section "Rows", SPECIFICATION 5. They are defined on the meaning of the
+-- grammar alone. Assumes nothing.
 use Prim.Native.Nat.{ℕ, _+_}
 use mathlib.Core.Bool.{Bool, true, false, _&&_, not}
 use mathlib.Core.List.{List, [], _∷_, _++_}
@@ -17,7 +18,7 @@ pub record Row : Type 0 where
   pub whole : ℕ
   pub parent : ℕ
 
--- the numbers of a row
+-- how many numbers a row has
 abbrev pub width : ℕ
 width = 4
 
@@ -25,19 +26,19 @@ width = 4
 -- keyAgreement 53, regInfo 70, carried certReq item 74"
 unfoldable pub container : ℕ → Bool
 container =
-    among (kinds.batch ∷ kinds.message ∷ kinds.certReq ∷ kinds.template ∷ kinds.validity ∷ kinds.extensions ∷ kinds.controls ∷ kinds.signature ∷ kinds.keyEncipherment ∷ kinds.keyAgreement ∷ kinds.regInfo ∷ kinds.carried ∷ [])
+    among (kinds.batch ∷ kinds.message ∷ kinds.certReq ∷ kinds.certTemplate ∷ kinds.validity ∷ kinds.extensions ∷ kinds.controls ∷ kinds.signature ∷ kinds.keyEncipherment ∷ kinds.keyAgreement ∷ kinds.regInfo ∷ kinds.regInfoCertReq ∷ [])
 
--- the row of an element that has a kind
+-- the row of an element, if it has a kind
 abbrev pub rowIf : ℕ → ℕ → ℕ → ℕ → List Row
 rowIf kind first whole parent =
     elim (eqb kind kinds.none) [ true ↦ [] | false ↦ record { kind = kind; first = first; whole = whole; parent = parent } ∷ [] ]
 
--- the row that the rows behind it have for their parent: the element's own, with the number n, if it has one
+-- the number of the parent's row for the rows inside an element: n, that of its own row, if it has one, else up
 abbrev pub parentIf : ℕ → ℕ → ℕ → ℕ
 parentIf kind n up = elim (eqb kind kinds.none) [ true ↦ up | false ↦ n ]
 
--- The rows of the elements of a container, in order of first byte, where n is the number of the next row, up the number of the row
--- around them, and place and whole are the container's own: a value that settles its item's kind gives the item its row.
+-- The rows of a container's elements, in order of first byte (SPECIFICATION 5): n is the number of the next row, up is the number of the row
+-- around them, and place and whole are the container's own. A value that decides its item's kind gives the item its row.
 unfoldable mutual
   pub rows : {R : ℕ → Bool} {ps : List Part} {t : Tree} → Matches R ps t → (n up place whole : ℕ) → List Row
   rows end n up place whole = []
@@ -55,7 +56,7 @@ unfoldable mutual
   rowsIn unseen n up place whole = []
   rowsIn (parts m) n up place whole = rows m n up place whole
 
--- "the batch is row 0, its own parent"
+-- the rows of a batch: "the batch is row 0, its own parent"
 unfoldable pub batchRows : {R : ℕ → Bool} {t : Tree} → Matches R (content Top) t → List Row
 batchRows m = rows m 0 0 0 0
 
@@ -64,20 +65,21 @@ unfoldable pub numbers : List Row → List ℕ
 numbers [] = []
 numbers (r ∷ rs) = r .kind ∷ r .first ∷ r .whole ∷ r .parent ∷ numbers rs
 
--- a row of a kind and a whole length is a certReqId "of more than 8 content octets", which stand behind two others
+-- whether a row of a kind and a whole length is a certReqId "of more than 8 content octets" (SPECIFICATION 4): 8 content octets have two before
+-- them
 abbrev pub longId : ℕ → ℕ → Bool
 longId kind whole = eqb kind kinds.certReqId && ltb 10 whole
 
--- what is known of long certReqIds (whole length, 0: none, and place), with a row more: the first stays
+-- the first long certReqId so far, by its whole length (0: none) and its place, after one more row
 abbrev pub longer : ℕ × ℕ → ℕ → ℕ → ℕ → ℕ × ℕ
 longer h kind first whole = elim (longId kind whole && eqb (h .0) 0) [ true ↦ (whole, first) | false ↦ h ]
 
--- the first row of some that is a certReqId "of more than 8 content octets", unless one was known
+-- the first certReqId "of more than 8 content octets" among some rows, unless one was met before them
 unfoldable pub firstLong : ℕ × ℕ → List Row → ℕ × ℕ
 firstLong h [] = h
 firstLong h (r ∷ rs) = firstLong (longer h (r .kind) (r .first) (r .whole)) rs
 
--- whether no row of some is such a certReqId
+-- whether none of some rows is such a certReqId
 unfoldable pub allShort : List Row → Bool
 allShort [] = true
 allShort (r ∷ rs) = not (longId (r .kind) (r .whole)) && allShort rs

@@ -1,4 +1,4 @@
--- The value rules of document 01's section "The grammar", each on an element's content octets. Assumes nothing.
+-- The value rules, each on an element's content octets: document 01's section "The grammar", SPECIFICATION 3.5 and 3.6. Assumes nothing.
 use Prim.Native.Nat.{ℕ, _+_, _-_, _*_, _%_}
 use mathlib.Core.Bool.{Bool, true, false, not, _&&_, _||_}
 use mathlib.Core.List.{List, [], _∷_}
@@ -11,11 +11,11 @@ use Rattle.crmf.specs.meaning.Lists.{same}
 unfoldable pub isEmpty : List ℕ → Bool
 isEmpty c = eqb (length c) 0
 
--- a single octet of at most the number n
+-- whether there is a single octet, and it is at most n
 unfoldable pub isUpTo : ℕ → List ℕ → Bool
 isUpTo n c = eqb (length c) 1 && leb (getD c 0 0) n
 
--- the number of such an octet, and n + 1 where there is none
+-- the value of such an octet; n + 1 if there is none
 unfoldable pub number : ℕ → List ℕ → ℕ
 number n c = elim (isUpTo n c) [ true ↦ getD c 0 0 | false ↦ n + 1 ]
 
@@ -23,11 +23,11 @@ number n c = elim (isUpTo n c) [ true ↦ getD c 0 0 | false ↦ n + 1 ]
 unfoldable pub isTrue : List ℕ → Bool
 isTrue c = same c (0xFF ∷ [])
 
--- an octet that is a decimal digit
+-- whether an octet is a decimal digit
 abbrev pub digit : ℕ → Bool
 digit b = leb 0x30 b && leb b 0x39
 
--- the number of the two decimal digits at i, and 100 where they are none
+-- the number that the two decimal digits at i make; 100 if they are not both digits
 unfoldable pub pairAt : List ℕ → ℕ → ℕ
 pairAt c i =
     elim (digit (getD c i 0) && digit (getD c (i + 1) 0)) [ true ↦ (getD c i 0 - 0x30) * 10 + (getD c (i + 1) 0 - 0x30) | false ↦ 100 ]
@@ -36,15 +36,15 @@ pairAt c i =
 unfoldable pub leap : ℕ → Bool
 leap year = eqb (year % 4) 0 && (not (eqb (year % 100) 0) || eqb (year % 400) 0)
 
--- the days of the months of a common year, January first; at 0, which is no month, none
+-- the days of each month of a common year, January at 1; 0 at 0, which is no month
 abbrev pub monthDays : List ℕ
 monthDays = 0 ∷ 31 ∷ 28 ∷ 31 ∷ 30 ∷ 31 ∷ 30 ∷ 31 ∷ 31 ∷ 30 ∷ 31 ∷ 30 ∷ 31 ∷ []
 
--- the days of a month of a year; none where the number is no month's
+-- the days of a month of a year; 0 if the number is no month's
 unfoldable pub daysIn : ℕ → ℕ → ℕ
 daysIn year month = getD monthDays month 0 + (elim (leap year && eqb month 2) [ true ↦ 1 | false ↦ 0 ])
 
--- "MMDDHHMMSSZ; a real Gregorian day, hour to 23, minute and second to 59", behind the year, from i on
+-- "MMDDHHMMSSZ; a real Gregorian day, hour to 23, minute and second to 59", after the year, from i on
 unfoldable pub isMoment : ℕ → List ℕ → ℕ → Bool
 isMoment year c i =
     let day = pairAt c (i + 2) in
@@ -64,11 +64,11 @@ unfoldable pub isGeneralizedTime : List ℕ → Bool
 isGeneralizedTime c =
     eqb (length c) 15 && leb (pairAt c 0) 99 && leb (pairAt c 2) 99 && isMoment (pairAt c 0 * 100 + pairAt c 2) c 4
 
--- A rule that an element's value keeps, judged behind the element's inside.
+-- A rule that an element's value keeps, judged after the element's inside (SPECIFICATION 3.6).
 pub data Rule : Type 0 where
   -- none
   always : Rule
-  -- "an implicitly tagged INTEGER, BOOLEAN or BIT STRING keeps that type's content rule"
+  -- "An implicitly tagged INTEGER, BOOLEAN or BIT STRING keeps that type's content rule"
   integer boolean bitString : Rule
   empty : Rule
   -- "INTEGER 0 or 1"
@@ -78,9 +78,10 @@ pub data Rule : Type 0 where
   utcTime generalizedTime : Rule
   -- "at least one" part inside
   some : Rule
-  -- "the list only with 1": beside another action never
+  -- "the list only with 1": beside any other action it is never allowed
   never : Rule
 
+-- whether content octets keep a rule
 unfoldable pub keeps : Rule → List ℕ → Bool
 keeps always c = true
 keeps integer c = der.integer c
@@ -94,20 +95,20 @@ keeps generalizedTime c = isGeneralizedTime c
 keeps some c = not (isEmpty c)
 keeps never c = false
 
--- A value that settles how its container goes on.
+-- A value that selects how its container goes on (SPECIFICATION 3.5).
 pub data Selector : Type 0 where
   -- "02 (0 or 1)" and "02 (0 to 3)"
   action method : Selector
-  -- "type octets 2B 06 01 05 05 07 05 01 n in controls", "in regInfo 2B 06 01 05 05 07 05 02 n"
+  -- "Type octets 2B 06 01 05 05 07 05 01 n in controls", "In regInfo 2B 06 01 05 05 07 05 02 n"
   controlType infoType : Selector
 
--- the number n of a known type with the arc a and at most so many numbers; 0 where the type is unknown
+-- the last octet of a known type with the arc a, if it is at most `most`; 0 if the type is unknown (SPECIFICATION 3.5)
 unfoldable pub typeNumber : ℕ → ℕ → List ℕ → ℕ
 typeNumber a most c =
     let n = getD c 8 0 in
     elim (same c (0x2B ∷ 0x06 ∷ 0x01 ∷ 0x05 ∷ 0x05 ∷ 0x07 ∷ 0x05 ∷ a ∷ n ∷ []) && leb n most) [ true ↦ n | false ↦ 0 ]
 
--- the way that a value selects; as many as there are ways, or more, where it breaks its rule
+-- the number of the way that a value selects, from 0; if the value breaks its rule, a number that no way has
 unfoldable pub selected : Selector → List ℕ → ℕ
 selected action c = number 1 c
 selected method c = number 3 c

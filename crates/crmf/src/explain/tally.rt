@@ -46,7 +46,7 @@ pub(crate) fn empty() -> Tally
     }
 }
 
-// The tally with one more element, which fits a line.
+// The tally after one more element, which fits a line.
 pub(crate) fn with_element(fit: Fit, tally: Tally) -> Tally
     requires { ⌜ (fit .first ≤ fit .end) × (tally .count ≤ 131070) ⌝ }
     ensures { λ r. ⌜ ((k : ℕ) → fit .word ≡ getD packed k 0 → r ≡ withElement (line k) (fit .first) (fit .end - fit .first) tally) × (r .count ≤ tally .count + 2) ⌝ }
@@ -63,7 +63,7 @@ pub(crate) fn with_element(fit: Fit, tally: Tally) -> Tally
     after
 }
 
-// The tally with an element of a kind at a place, of a whole length: a certReqId of more than 8 content octets, if it is the first.
+// The tally after an element with a kind, a place and a whole length. A certReqId of more than 8 content octets is noted if it is the first.
 fn with_long_id(kind: usize, place: usize, whole: usize, tally: Tally) -> Tally
     ensures { λ r. ⌜ (r ≡ withLongId kind place whole tally) × (r .count ≡ tally .count) ⌝ }
 {
@@ -80,7 +80,7 @@ fn with_long_id(kind: usize, place: usize, whole: usize, tally: Tally) -> Tally
     tally
 }
 
-// The tally with an element at a place by the code of its form's mark: a form of one edition alone, if it is the edition's first.
+// The tally after an element at a place, by the code of its form's mark. A form of one edition alone is noted if it is that edition's first.
 fn with_form(mark: usize, place: usize, tally: Tally) -> Tally
     ensures { λ r. ⌜ ((k : ℕ) → markCode (line k .mark) ≡ mark → r ≡ withForm (line k .mark) place tally) × (r .count ≡ tally .count) ⌝ }
 {
@@ -110,7 +110,7 @@ fn with_form(mark: usize, place: usize, tally: Tally) -> Tally
     tally
 }
 
-// The rows so far, with those of an element: its item's and its own.
+// How many rows there are after an element: those before it, its item's and its own.
 fn add_rows(before: usize, item: usize, own: usize) -> usize
     requires { ⌜ (before ≤ 131070) × (item ≤ 1) × (own ≤ 1) ⌝ }
     ensures { λ r. ⌜ r ≡ before + item + own ⌝ }

@@ -1,4 +1,4 @@
-// The codes of a packed line: how many each field has room for, its weight, and what they mean. specs/steps/grammar/Codes.antt has the same names.
+// The codes of a packed line: the room of each field, its weight, and what its codes mean. specs/steps/grammar/Codes.antt has the same names.
 
 // The room of each field: its codes are below this. Two fields are line numbers, and two are kinds.
 pub const PASSES: usize = 4;
@@ -46,7 +46,7 @@ pub const ANOTHER: usize = 2;
 
 pub const OVER: usize = 3;
 
-// Identifiers: none, all, the GeneralNames', or one octet, whose code is this and the octet.
+// Identifiers: none, all, the GeneralNames', or one octet, whose code is OCTET plus the octet.
 pub const NOTHING: usize = 0;
 
 pub const ANYTHING: usize = 1;
@@ -55,7 +55,7 @@ pub const GENERAL_NAME: usize = 2;
 
 pub const OCTET: usize = 3;
 
-// Inside: the line where its lines start, or this where it isn't looked at.
+// Inside: the line at which its lines start, or FREE if it isn't looked at.
 pub const FREE: usize = 0;
 
 // Judges: the rules of specs/meaning/Value.antt, and from SELECTORS on the selectors.
@@ -91,16 +91,16 @@ pub const BY_CONTROL_TYPE: usize = 18;
 
 pub const BY_INFO_TYPE: usize = 19;
 
-// Marks: the edition that alone allows the form, by this weight, and the number of the difference below it.
+// Marks: EDITION times the edition that alone allows the form, plus the number of the difference; 0 if both editions allow it.
 pub const EDITION: usize = 8;
 
-// The actions of the quick count. Nothing has the line's identifiers.
+// The recogniser's actions. No element has the line's identifiers.
 pub const TAKE_NOTHING: usize = 0;
 
 // The content isn't looked at.
 pub const TAKE_UNSEEN: usize = 1;
 
-// Primitive values by their type; a certReqId is short, too.
+// Primitive values by their type; a certReqId has at most 8 content octets, too.
 pub const TAKE_OBJECT_IDENTIFIER: usize = 2;
 
 pub const TAKE_INTEGER: usize = 3;
@@ -114,7 +114,7 @@ pub const TAKE_UTF8_STRING: usize = 6;
 // An element of any identifier, with the whole nest inside it.
 pub const TAKE_NEST: usize = 7;
 
-// Lines are inside; the commonest containers have an action of their own.
+// A container. The commonest have an action of their own.
 pub const TAKE_INSIDE: usize = 8;
 
 pub const TAKE_ALG_ID: usize = 9;

@@ -23,7 +23,7 @@ pub enum Fitting {
     Fits(Fit),
 }
 
-// The element, whose first byte is at `first`, by the first line from `state` on that has its identifier.
+// Fits an element, whose first byte is at `first`, to the first line from `state` on that has its identifier; Misfit if the search finds none.
 pub(crate) fn line_for(
     element: Element,
     first: usize,

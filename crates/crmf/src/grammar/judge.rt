@@ -1,4 +1,4 @@
-// What an element's value says behind its inside.
+// Judges an element's value, after its inside.
 use crate::grammar::codes;
 use crate::grammar::lines::LINES;
 use crate::grammar::table;
@@ -15,7 +15,7 @@ pub enum Onward {
     Breaks(usize),
 }
 
-// What a line, given as its packed word, says of an element with the content.
+// Judges a content by the line that the word packs. Answers the line to go on with, or the detail of the rule that is broken.
 pub(crate) fn judge_value(table: &[usize; LINES], word: usize, content: &[u8]) -> Onward
     requires { ⌜ now table ≡ packed ⌝ }
     ensures { λ r. ⌜ ((k : ℕ) → word ≡ getD packed k 0 → r ≡ judged (line k .judge) (line k .next) (now (content .entry))) ⌝ }

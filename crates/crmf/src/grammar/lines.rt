@@ -2,9 +2,9 @@
 use crate::grammar::codes::*;
 use crate::kinds;
 
-// Where each container's lines start, in the order of the names in specs/meaning/Notation.antt: after those of the container before it, which are
-// this many with their END. A constant is written out wherever it is named, and the compiler takes no table of more than 10,000 terms, so three
-// starts count from further back.
+// Where each container's lines start, in the order of the names in specs/meaning/Notation.antt. A start is the one before it plus the number
+// of that container's lines, END included. A constant is written out wherever it is named, and the compiler takes no table of more than
+// 10,000 terms, so three starts count from further back.
 pub const TOP: usize = 1;
 
 pub const BATCH: usize = TOP + 2;
@@ -100,8 +100,8 @@ pub const LINES: usize = CARRIED + 2;
 // A container's end.
 const END: usize = ENDS;
 
-// A form with one identifier, as in specs/meaning/Grammar.antt: of a part that stands once; the same with a further form after it; of one that may be
-// missing; and of one that may be missing or stand again.
+// A form with one identifier, as in specs/meaning/Grammar.antt: of a part that occurs once; the same with another form after it; of a part that
+// may be missing; and of one that may be missing or occur again.
 const ONE: usize = NEEDED + ID * OCTET;
 
 const ONE_OF: usize = ANOTHER + ID * OCTET;
@@ -123,7 +123,7 @@ const MAYBE_GENERAL_NAME: usize = OVER + ID * GENERAL_NAME + BY_LINE;
 // One of the ways that a value selects: it only says where to go on.
 const WAY: usize = NEEDED + ID * NOTHING;
 
-// What the quick count does with the element.
+// What the recogniser does with the element.
 const UNSEEN: usize = ACTION * TAKE_UNSEEN;
 
 const AN_OBJECT_IDENTIFIER: usize = ACTION * TAKE_OBJECT_IDENTIFIER;
@@ -176,17 +176,17 @@ pub(crate) const TABLE: [usize; LINES] = [
     // Top: batch 30
     ONE + ID * 0x30 + INSIDE * BATCH + INTO + KIND * kinds::BATCH + ROW + NEXT * (TOP + 1),
     END,
-    // Batch: message 30
+    // Batch (CertReqMessages): message 30
     ONE + ID * 0x30 + INSIDE * MESSAGE + INTO + KIND * kinds::MESSAGE + ROW + NEXT * (BATCH + 1),
     // message 30, any number
     ANY + ID * 0x30 + INSIDE * MESSAGE + INTO + KIND * kinds::MESSAGE + ROW + NEXT * (BATCH + 1),
     END,
-    // Message: certReq 30
+    // Message (CertReqMsg): certReq 30
     (ONE + ID * 0x30)
         + (INSIDE * CERT_REQ + INTO)
         + (KIND * kinds::CERT_REQ + ROW)
         + NEXT * (MESSAGE + 1),
-    // proof: raVerified 80 empty
+    // proof (ProofOfPossession): raVerified 80 empty
     (MAYBE + ID * 0x80)
         + (JUDGE * EMPTY + BY_LINE)
         + (KIND * kinds::RA_VERIFIED + ROW)
@@ -212,12 +212,12 @@ pub(crate) const TABLE: [usize; LINES] = [
         + (KIND * kinds::REG_INFO + ROW)
         + NEXT * (MESSAGE + 6),
     END,
-    // CertReq: certReqId 02
+    // CertReq (CertRequest): certReqId 02
     ONE + ID * 0x02 + A_CERT_REQ_ID + KIND * kinds::CERT_REQ_ID + ROW + NEXT * (CERT_REQ + 1),
     // template 30
     (ONE + ID * 0x30)
         + (INSIDE * TEMPLATE + INTO)
-        + (KIND * kinds::TEMPLATE + ROW)
+        + (KIND * kinds::CERT_TEMPLATE + ROW)
         + NEXT * (CERT_REQ + 2),
     // controls 30?
     (MAYBE + ID * 0x30)
@@ -225,7 +225,7 @@ pub(crate) const TABLE: [usize; LINES] = [
         + (KIND * kinds::CONTROLS + ROW)
         + NEXT * (CERT_REQ + 3),
     END,
-    // Template: version 80 INTEGER?
+    // Template (CertTemplate): version 80 INTEGER?
     MAYBE + ID * 0x80 + IMPLICIT_INTEGER + KIND * kinds::VERSION + ROW + NEXT * (TEMPLATE + 1),
     // serialNumber 81 INTEGER?
     (MAYBE + ID * 0x81)
@@ -261,7 +261,7 @@ pub(crate) const TABLE: [usize; LINES] = [
         + (KIND * kinds::EXTENSIONS + ROW)
         + NEXT * (TEMPLATE + 10),
     END,
-    // Validity: notBefore A0 (Time)?
+    // Validity (OptionalValidity): notBefore A0 (Time)?
     (MAYBE + ID * 0xA0)
         + (INSIDE * TIME + INTO)
         + (KIND * kinds::NOT_BEFORE + ROW)
@@ -277,28 +277,28 @@ pub(crate) const TABLE: [usize; LINES] = [
     // or 18, YYYYMMDDHHMMSSZ
     ONE + ID * 0x18 + JUDGE * GENERALIZED_TIME + BY_LINE + NEXT * (TIME + 2),
     END,
-    // AlgId: 06
+    // AlgId (AlgorithmIdentifier): 06
     ONE + ID * 0x06 + AN_OBJECT_IDENTIFIER + NEXT * (ALG_ID + 1),
     // any?
     MAYBE_VALUE + NEXT * (ALG_ID + 2),
     END,
-    // Spki: AlgId 30
+    // Spki (SubjectPublicKeyInfo): AlgId 30
     ONE + ID * 0x30 + INTO_ALG_ID + NEXT * (SPKI + 1),
     // 03
     ONE + ID * 0x03 + A_BIT_STRING + NEXT * (SPKI + 2),
     END,
-    // OneName: Name 30
+    // OneName (Name): RdnSequence 30
     ONE + ID * 0x30 + INSIDE * RDN_SEQUENCE + INTO + NEXT * (ONE_NAME + 1),
     END,
-    // RdnSequence: 31, any number
+    // RdnSequence (RDNSequence): 31, any number
     ANY + ID * 0x31 + INTO_RDN + NEXT * RDN_SEQUENCE,
     END,
-    // Rdn: 30
+    // Rdn (RelativeDistinguishedName): 30
     ONE + ID * 0x30 + INTO_ATTRIBUTE + NEXT * (RDN + 1),
     // 30, any number
     ANY + ID * 0x30 + INTO_ATTRIBUTE + NEXT * (RDN + 1),
     END,
-    // Attribute: 06
+    // Attribute (AttributeTypeAndValue): 06
     ONE + ID * 0x06 + AN_OBJECT_IDENTIFIER + NEXT * (ATTRIBUTE + 1),
     // any
     ONE_VALUE + NEXT * (ATTRIBUTE + 2),
@@ -321,32 +321,37 @@ pub(crate) const TABLE: [usize; LINES] = [
     // 04
     ONE + ID * 0x04 + UNSEEN + NEXT * (EXTENSION + 3),
     END,
-    // Signature: poposkInput A0?
+    // Signature (POPOSigningKey): poposkInput A0?
     (MAYBE + ID * 0xA0)
         + (INSIDE * POPOSK_INPUT + INTO)
         + (KIND * kinds::POPOSK_INPUT + ROW)
         + NEXT * (SIGNATURE + 1),
     // AlgId 30
-    ONE + ID * 0x30 + INTO_ALG_ID + KIND * kinds::ALG_ID + ROW + NEXT * (SIGNATURE + 2),
+    ONE
+        + ID * 0x30
+        + INTO_ALG_ID
+        + KIND * kinds::SIGNATURE_ALGORITHM
+        + ROW
+        + NEXT * (SIGNATURE + 2),
     // 03
-    ONE + ID * 0x03 + A_BIT_STRING + KIND * kinds::BITS + ROW + NEXT * (SIGNATURE + 3),
+    ONE + ID * 0x03 + A_BIT_STRING + KIND * kinds::SIGNATURE_BITS + ROW + NEXT * (SIGNATURE + 3),
     END,
-    // PoposkInput: sender A0 (GeneralName)
+    // PoposkInput (POPOSigningKeyInput): sender A0 (GeneralName)
     ONE_OF + ID * 0xA0 + INSIDE * SENDER + INTO + NEXT * (POPOSK_INPUT + 2),
     // or PkMac 30
     ONE + ID * 0x30 + INSIDE * PK_MAC + INTO + NEXT * (POPOSK_INPUT + 2),
     // Spki 30
     ONE + ID * 0x30 + INTO_SPKI + NEXT * (POPOSK_INPUT + 3),
     END,
-    // Sender: GeneralName
+    // Sender: a GeneralName
     ONE_GENERAL_NAME + NEXT * (SENDER + 1),
     END,
-    // PkMac: AlgId 30
+    // PkMac (PKMACValue): AlgId 30
     ONE + ID * 0x30 + INTO_ALG_ID + NEXT * (PK_MAC + 1),
     // 03
     ONE + ID * 0x03 + A_BIT_STRING + NEXT * (PK_MAC + 2),
     END,
-    // KeyProof: 80 BIT STRING
+    // KeyProof (POPOPrivKey): 80 BIT STRING
     (ONE_OF + ID * 0x80)
         + IMPLICIT_BIT_STRING
         + (KIND * kinds::THIS_MESSAGE + ROW)
@@ -374,7 +379,7 @@ pub(crate) const TABLE: [usize; LINES] = [
     // item 30, any number
     ANY + ID * 0x30 + INSIDE * CONTROL + INTO + NEXT * (CONTROLS + 1),
     END,
-    // Control: type 06
+    // Control (AttributeTypeAndValue): type 06
     ONE + ID * 0x06 + JUDGE * BY_CONTROL_TYPE + BY_LINE + NEXT * (CONTROL + 1),
     // n = 0: the type is unknown
     WAY + NEXT * UNKNOWN_CONTROL,
@@ -394,65 +399,65 @@ pub(crate) const TABLE: [usize; LINES] = [
     // UnknownControl: any value
     ONE_VALUE + ITEM * kinds::UNKNOWN_CONTROL + ROW + NEXT * (UNKNOWN_CONTROL + 1),
     END,
-    // RegToken: 0C
+    // RegToken: 0C, a UTF8String
     ONE + ID * 0x0C + A_UTF8_STRING + ITEM * kinds::REG_TOKEN + ROW + NEXT * (REG_TOKEN + 1),
     END,
-    // Authenticator: 0C
+    // Authenticator: 0C, a UTF8String
     (ONE + ID * 0x0C)
         + A_UTF8_STRING
         + (ITEM * kinds::AUTHENTICATOR + ROW)
         + NEXT * (AUTHENTICATOR + 1),
     END,
-    // PublicationInfo: 30
+    // PublicationInfo (PKIPublicationInfo): 30
     (ONE + ID * 0x30)
         + (INSIDE * PUB_INFO + INTO)
-        + (ITEM * kinds::PUBLICATION_INFO + ROW)
+        + (ITEM * kinds::PKI_PUBLICATION_INFO + ROW)
         + NEXT * (PUBLICATION_INFO + 1),
     END,
-    // ArchiveOptions: A0
+    // ArchiveOptions (PKIArchiveOptions): A0
     (ONE_OF + ID * 0xA0)
         + (INSIDE * ARCHIVED + INTO)
-        + (ITEM * kinds::ARCHIVE_OPTIONS + ROW)
+        + (ITEM * kinds::PKI_ARCHIVE_OPTIONS + ROW)
         + NEXT * (ARCHIVE_OPTIONS + 3),
     // or 81
     (ONE_OF + ID * 0x81)
         + UNSEEN
-        + (ITEM * kinds::ARCHIVE_OPTIONS + ROW)
+        + (ITEM * kinds::PKI_ARCHIVE_OPTIONS + ROW)
         + NEXT * (ARCHIVE_OPTIONS + 3),
     // or 82 BOOLEAN
     (ONE + ID * 0x82)
         + (JUDGE * BOOLEAN + BY_LINE)
-        + (ITEM * kinds::ARCHIVE_OPTIONS + ROW)
+        + (ITEM * kinds::PKI_ARCHIVE_OPTIONS + ROW)
         + NEXT * (ARCHIVE_OPTIONS + 3),
     END,
-    // OldCertId: 30
+    // OldCertId (CertId): 30
     (ONE + ID * 0x30)
         + (INSIDE * CERT_ID + INTO)
         + (ITEM * kinds::OLD_CERT_ID + ROW)
         + NEXT * (OLD_CERT_ID + 1),
     END,
-    // ProtocolKey: Spki 30
-    ONE + ID * 0x30 + INTO_SPKI + ITEM * kinds::PROTOCOL_KEY + ROW + NEXT * (PROTOCOL_KEY + 1),
+    // ProtocolKey (SubjectPublicKeyInfo): Spki 30
+    ONE + ID * 0x30 + INTO_SPKI + ITEM * kinds::PROTOCOL_ENCR_KEY + ROW + NEXT * (PROTOCOL_KEY + 1),
     END,
-    // PubInfo: 02 (0 or 1)
+    // PubInfo (PKIPublicationInfo): action 02 (0 or 1)
     ONE + ID * 0x02 + JUDGE * BY_ACTION + BY_LINE + NEXT * (PUB_INFO + 1),
     // action 0
     WAY + NEXT * NOT_PUBLISHED,
     // action 1
     WAY + NEXT * PUBLISHED,
     END,
-    // NotPublished: the list 30?, only with 1
+    // NotPublished: the list (pubInfos) 30?, only with 1
     MAYBE + ID * 0x30 + INSIDE * LOCATIONS + JUDGE * NEVER + BY_LINE + NEXT * (NOT_PUBLISHED + 1),
     END,
-    // Published: the list 30?
+    // Published: the list (pubInfos) 30?
     MAYBE + ID * 0x30 + INSIDE * LOCATIONS + INTO + NEXT * (PUBLISHED + 1),
     END,
-    // Locations: 30
+    // Locations (pubInfos): 30
     ONE + ID * 0x30 + INSIDE * LOCATION + INTO + NEXT * (LOCATIONS + 1),
     // 30, any number
     ANY + ID * 0x30 + INSIDE * LOCATION + INTO + NEXT * (LOCATIONS + 1),
     END,
-    // Location: 02 (0 to 3)
+    // Location (SinglePubInfo): method 02 (0 to 3)
     ONE + ID * 0x02 + JUDGE * BY_METHOD + BY_LINE + NEXT * (LOCATION + 1),
     // method 0
     WAY + NEXT * DONT_CARE,
@@ -463,18 +468,18 @@ pub(crate) const TABLE: [usize; LINES] = [
     // method 3
     WAY + NEXT * WHERE,
     END,
-    // DontCare: GeneralName? (D3)
+    // DontCare (pubLocation): GeneralName? (D3)
     MAYBE_GENERAL_NAME + MARK * ONLY_1_D3 + NEXT * (DONT_CARE + 1),
     END,
-    // Where: GeneralName?
+    // Where (pubLocation): GeneralName?
     MAYBE_GENERAL_NAME + NEXT * (WHERE + 1),
     END,
-    // Archived: 30
+    // Archived (EncryptedKey): 30
     ONE_OF + ID * 0x30 + BY_LINE + NEXT * (ARCHIVED + 2),
     // or A0
     ONE + ID * 0xA0 + BY_LINE + NEXT * (ARCHIVED + 2),
     END,
-    // CertId: GeneralName
+    // CertId: issuer, a GeneralName
     ONE_GENERAL_NAME + NEXT * (CERT_ID + 1),
     // 02
     ONE + ID * 0x02 + AN_INTEGER + NEXT * (CERT_ID + 2),
@@ -484,7 +489,7 @@ pub(crate) const TABLE: [usize; LINES] = [
     // item 30, any number
     ANY + ID * 0x30 + INSIDE * INFO + INTO + NEXT * (REG_INFO + 1),
     END,
-    // Info: type 06
+    // Info (AttributeTypeAndValue): type 06
     ONE + ID * 0x06 + JUDGE * BY_INFO_TYPE + BY_LINE + NEXT * (INFO + 1),
     // n = 0: the type is unknown
     WAY + NEXT * UNKNOWN_INFO,
@@ -494,23 +499,23 @@ pub(crate) const TABLE: [usize; LINES] = [
     WAY + NEXT * CARRIED,
     END,
     // UnknownInfo: any value
-    ONE_VALUE + ITEM * kinds::UNKNOWN_INFO + ROW + NEXT * (UNKNOWN_INFO + 1),
+    ONE_VALUE + ITEM * kinds::UNKNOWN_REG_INFO + ROW + NEXT * (UNKNOWN_INFO + 1),
     END,
-    // Pairs: 04 (D2)
+    // Pairs: 04, an OCTET STRING (D2)
     (ONE_OF + ID * 0x04)
         + (MARK * ONLY_1_D2 + BY_LINE)
         + (ITEM * kinds::OCTET_PAIRS + ROW)
         + NEXT * (PAIRS + 2),
-    // or 0C (D2)
+    // or 0C, UTF8Pairs (D2)
     (ONE + ID * 0x0C)
         + (MARK * ONLY_2_D2 + BY_LINE)
         + (ITEM * kinds::UTF8_PAIRS + ROW)
         + NEXT * (PAIRS + 2),
     END,
-    // Carried: certReq 30
+    // Carried (CertRequest): certReq 30
     (ONE + ID * 0x30)
         + (INSIDE * CERT_REQ + INTO)
-        + (ITEM * kinds::CARRIED + KIND * kinds::CERT_REQ + ROW * 2)
+        + (ITEM * kinds::REG_INFO_CERT_REQ + KIND * kinds::CERT_REQ + ROW * 2)
         + NEXT * (CARRIED + 1),
     END,
 ];

@@ -20,14 +20,15 @@ pub enum FoundLine {
     Nowhere,
 }
 
-// The table, to be lent to all that read it. `TABLE` in src/grammar/lines.rt has it line by line, specs/steps/grammar/Packed.antt says what it is computed from.
+// The table of lines, which is lent to all that read it. `TABLE` in src/grammar/lines.rt has it line by line, and
+// specs/steps/grammar/Packed.antt says what it is computed from.
 pub(crate) fn words() -> [usize; LINES]
     ensures { λ r. ⌜ r ≡ packed ⌝ }
 {
     TABLE
 }
 
-// The word of line k; past the end the end line's.
+// The word of line k; past the table's end 0, which is the word of an end line.
 pub(crate) fn word(table: &[usize; LINES], k: usize) -> usize
     requires { ⌜ now table ≡ packed ⌝ }
     ensures { λ r. ⌜ r ≡ getD packed k 0 ⌝ }
@@ -35,7 +36,7 @@ pub(crate) fn word(table: &[usize; LINES], k: usize) -> usize
     if k < LINES { table[k] } else { 0 }
 }
 
-// Where the lines of the element's inside start; FREE where there are none.
+// Where the lines of the element's inside start; FREE if there are none.
 pub(crate) fn inside_of(word: usize) -> usize
     ensures { λ r. ⌜ r ≡ insideField word ⌝ }
 {
@@ -63,14 +64,14 @@ pub(crate) fn item_of(word: usize) -> usize
     word / codes::ITEM % codes::KINDS
 }
 
-// The code of the edition that alone allows the form and of the difference; 0 where both allow it.
+// The code of the edition that alone allows the form and of the difference; 0 if both editions allow it.
 pub(crate) fn mark_of(word: usize) -> usize
     ensures { λ r. ⌜ r ≡ markField word ⌝ }
 {
     word / codes::MARK % codes::MARKS
 }
 
-// The line to go on with.
+// The line to go on with after the element.
 pub(crate) fn next_of(word: usize) -> usize
     ensures { λ r. ⌜ r ≡ nextField word ⌝ }
 {
@@ -84,14 +85,14 @@ pub(crate) fn action_of(word: usize) -> usize
     word / codes::ACTION % codes::ACTIONS
 }
 
-// How many rows an element of the line gives by itself: no more than two.
+// How many rows an element of the line gives by itself: at most two.
 pub(crate) fn rows_of(word: usize) -> usize
     ensures { λ r. ⌜ ((k : ℕ) → word ≡ getD packed k 0 → (r ≡ rowsBy (line k)) × (r ≤ 2)) ⌝ }
 {
     word / codes::ROWS % codes::ROW_COUNTS
 }
 
-// Whether the GeneralNames have an identifier.
+// Whether an identifier is a GeneralName's.
 fn general(id: u8) -> bool
     ensures { λ r. ⌜ r ≡ among generalNames id ⌝ }
 {
@@ -106,7 +107,7 @@ fn general(id: u8) -> bool
         | (id == 0x88)
 }
 
-// Whether the identifiers of a code other than an octet's have an identifier.
+// Whether an identifier is one of those that the code means. The code is not an octet's.
 fn names(code: usize, id: u8) -> bool
     requires { ⌜ code < codes.octet ⌝ }
     ensures { λ r. ⌜ ((i : Identifiers) → identifiersCode i ≡ code → r ≡ named i id) ⌝ }
@@ -117,7 +118,7 @@ fn names(code: usize, id: u8) -> bool
     code == codes::ANYTHING
 }
 
-// The first line from a line on that has the identifier, where no needed part is passed over.
+// The first line from the line `from` on that has the identifier. Answers Nowhere if there is none up to the first needed part or the end.
 pub(crate) fn find_line(table: &[usize; LINES], from: usize, id: u8) -> FoundLine
     requires { ⌜ now table ≡ packed ⌝ }
     ensures { λ r. ⌜ r ≡ walk.findLine from id ⌝ }
@@ -140,7 +141,7 @@ pub(crate) fn find_line(table: &[usize; LINES], from: usize, id: u8) -> FoundLin
     FoundLine::Nowhere
 }
 
-// The line itself, if its identifiers, of a code other than an octet's, have the identifier: after it none is found.
+// Ends the search at a line whose identifiers' code is not an octet's: answers the line if it has the identifier, else Nowhere.
 fn here(k: usize, code: usize, id: u8) -> FoundLine
     requires { ⌜ code < codes.octet ⌝ }
     ensures { λ r. ⌜ ((i : Identifiers) → identifiersCode i ≡ code → r ≡ (elim (named i id) [ true ↦ At k | false ↦ Nowhere ])) ⌝ }
@@ -151,7 +152,7 @@ fn here(k: usize, code: usize, id: u8) -> FoundLine
     FoundLine::Nowhere
 }
 
-// Whether a container may end at a line: no needed part stands between it and the end line.
+// Whether a container may end at the line `from`: no part from there to its end line is needed.
 pub(crate) fn closed(table: &[usize; LINES], from: usize) -> bool
     requires { ⌜ now table ≡ packed ⌝ }
     ensures { λ r. ⌜ r ≡ walk.closed from ⌝ }

@@ -17,7 +17,7 @@ fn is_empty(content: &[u8]) -> bool
     content.len() == 0
 }
 
-// Whether there is a single octet of at most the number `most`.
+// Whether there is a single octet, and it is at most `most`.
 fn is_up_to(most: u8, content: &[u8]) -> bool
     ensures { λ r. ⌜ r ≡ value.isUpTo most (now (content .entry)) ⌝ }
 {
@@ -44,7 +44,7 @@ fn is_digit(octet: u8) -> bool
     (0x30 <= octet) & (octet <= 0x39)
 }
 
-// The number of the two decimal digits at i, and 100 where they are none.
+// The number that the two decimal digits at i make; 100 if they are not both digits.
 fn pair_at(content: &[u8], i: usize) -> usize
     requires { ⌜ i + 1 < length (now content) ⌝ }
     ensures { λ r. ⌜ r ≡ value.pairAt (now (content .entry)) i ⌝ }
@@ -64,10 +64,10 @@ fn leap(year: usize) -> bool
     (year % 4 == 0) & ((year % 100 != 0) | (year % 400 == 0))
 }
 
-// The days of the months of a common year, January at 1.
+// The days of each month of a common year, January at 1.
 const MONTH_DAYS: [usize; 13] = [0, 31, 28, 31, 30, 31, 30, 31, 31, 30, 31, 30, 31];
 
-// The days of a month of a year, and none where the number is no month's.
+// The days of a month of a year; 0 if the number is no month's.
 fn days_in(year: usize, month: usize) -> usize
     ensures { λ r. ⌜ r ≡ value.daysIn year month ⌝ }
 {
@@ -81,7 +81,7 @@ fn days_in(year: usize, month: usize) -> usize
     days
 }
 
-// Whether month, day, hour, minute, second and Z stand from i on, a moment of the year.
+// Whether month, day, hour, minute and second from i on are a moment of the year, with Z after them.
 fn is_moment(year: usize, content: &[u8], i: usize) -> bool
     requires { ⌜ i + 10 < length (now content) ⌝ }
     ensures { λ r. ⌜ r ≡ value.isMoment year (now (content .entry)) i ⌝ }
@@ -99,7 +99,7 @@ fn is_moment(year: usize, content: &[u8], i: usize) -> bool
         & (content[i + 10] == 0x5A)
 }
 
-// The year of a two-digit year.
+// The full year that a two-digit year means: 50 to 99 are 19xx, others 20xx.
 fn century(year: usize) -> usize
     requires { ⌜ year ≤ 100 ⌝ }
     ensures { λ r. ⌜ r ≡ value.century year ⌝ }
@@ -133,7 +133,7 @@ fn is_generalized_time(content: &[u8]) -> bool
     (hundreds <= 99) & (rest <= 99) & is_moment(hundreds * 100 + rest, content, 4)
 }
 
-// The number of a single octet of at most `most`, and one more than that where the octets break the rule.
+// The value of a single octet, if it is at most `most`; `most` + 1 for any other content.
 fn number(most: u8, content: &[u8]) -> usize
     ensures { λ r. ⌜ r ≡ value.number most (now (content .entry)) ⌝ }
 {
@@ -143,7 +143,7 @@ fn number(most: u8, content: &[u8]) -> usize
     (most as usize) + 1
 }
 
-// The number of a known type with the arc and at most the number `most`, and 0 where the type is unknown.
+// The last octet of a known type with the arc, if it is at most `most`; 0 if the type is unknown.
 fn type_number(arc: u8, most: u8, content: &[u8]) -> usize
     ensures { λ r. ⌜ r ≡ value.typeNumber arc most (now (content .entry)) ⌝ }
 {
@@ -165,7 +165,7 @@ fn type_number(arc: u8, most: u8, content: &[u8]) -> usize
     0
 }
 
-// Whether the content keeps the rule of a code of specs/steps/grammar/Packed.antt.
+// Whether the content keeps the rule that has the code (`judgeCode` in specs/steps/grammar/Packed.antt).
 pub(crate) fn keeps(code: usize, content: &[u8]) -> bool
     ensures { λ r. ⌜ ((x : Rule) → judgeCode (keep x) ≡ code → r ≡ value.keeps x (now (content .entry))) ⌝ }
 {
@@ -184,7 +184,7 @@ pub(crate) fn keeps(code: usize, content: &[u8]) -> bool
     }
 }
 
-// The way that the content selects for the selector of a code of specs/steps/grammar/Packed.antt, and 0 where the code is none's.
+// The way that the content selects, by the selector that has the code; 0 if none has it.
 pub(crate) fn selected(code: usize, content: &[u8]) -> usize
     ensures { λ r. ⌜ ((s : Selector) → judgeCode (choose s) ≡ code → r ≡ value.selected s (now (content .entry))) × (r ≤ 6) ⌝ }
 {
@@ -197,7 +197,7 @@ pub(crate) fn selected(code: usize, content: &[u8]) -> usize
     }
 }
 
-// How many ways there are for the selector of a code, and 0 where the code is none's.
+// How many ways the selector that has the code can select; 0 if none has it.
 pub(crate) fn ways(code: usize) -> usize
     ensures { λ r. ⌜ ((s : Selector) → judgeCode (choose s) ≡ code → r ≡ walk.ways s) × (r ≤ 7) ⌝ }
 {
@@ -210,7 +210,7 @@ pub(crate) fn ways(code: usize) -> usize
     }
 }
 
-// Request A9's detail of a content that breaks the rule of a code.
+// Request A9's detail for a content that breaks the rule that has the code.
 pub(crate) fn rule_detail(code: usize) -> usize
     ensures { λ r. ⌜ ((x : Rule) → judgeCode (keep x) ≡ code → r ≡ walk.ruleDetail x) ⌝ }
 {

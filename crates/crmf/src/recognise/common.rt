@@ -16,7 +16,7 @@ ghost use Rattle.crmf.specs.meaning.Notation.{AlgId, Spki, OneName, RdnS
 ghost use Rattle.crmf.specs.steps.grammar.Lines.{start};
 ghost use Rattle.crmf.specs.steps.recognise.Inner.{Leading, Sole, RowlessFrom};
 
-// The identifier octets of X.690 that stand in these.
+// The identifier octets of X.690 that these insides have.
 const BIT_STRING: u8 = 0x03;
 
 const OBJECT_IDENTIFIER: u8 = 0x06;
@@ -56,8 +56,8 @@ fn sole(bytes: &[u8], id: u8) -> usize
     x.octets
 }
 
-// Whether the content is an OBJECT IDENTIFIER and one primitive value, or no value where none is needed: that of an AlgorithmIdentifier, or
-// with a needed value of an AttributeTypeAndValue.
+// Whether the content is an OBJECT IDENTIFIER and one primitive value, which may be missing if it isn't `needed`. An AttributeTypeAndValue
+// needs its value, an AlgorithmIdentifier doesn't.
 pub(crate) fn type_and_value(bytes: &[u8], needed: bool) -> bool
     requires { ⌜ length (now bytes) ≤ longest ⌝ }
     ensures { λ r. ⌜ (r ≡ true → (needed ≡ false → RowlessFrom (start AlgId) 1 (now (bytes .entry))) × (needed ≡ true → RowlessFrom (start Attribute) 1 (now (bytes .entry)))) ⌝ }

@@ -51,7 +51,7 @@ fn skip_or_descend(checked: bool, next: usize) -> Visit
     Visit::Descend(next)
 }
 
-// How to go on at an element with the identifier and the content, in the form of the line that the word packs; `left` levels of depth are left
+// How to go on at an element with the identifier and the content, in the form of the line that the word packs. `left` levels of depth are left
 // inside it. `actionOf` in specs/steps/grammar/Packed.antt says which lines have which action.
 pub(crate) fn take(
     word: usize,
@@ -96,8 +96,8 @@ pub(crate) fn take(
     }
 }
 
-// The same by the fields of the line, whatever its action is: by its mark, its rule and its inside. It leaves out the length, so the line may
-// not be a certReqId's.
+// Answers the same by the fields of the line, whatever its action is: by its mark, its rule and its inside. The length isn't checked, so the
+// line must not be a certReqId's.
 fn take_by_fields(
     word: usize,
     id: u8,

@@ -1,4 +1,4 @@
--- The bounds of an input. Assumes nothing.
+-- The bounds of an input: SPECIFICATION 1. Assumes nothing.
 use Prim.Native.Nat.{ℕ}
 
 -- "input longer than 65,535 bytes"

@@ -1,4 +1,4 @@
--- The content rules (5), each on the list of content octets, with X.690's sections. Assumes nothing.
+-- The content rules, each on the list of content octets, with X.690's sections: SPECIFICATION 2.3. Breaking one is refusal 5. Assumes nothing.
 use Prim.Native.Nat.{ℕ, _%_, _^_}
 use mathlib.Core.Path.{_≡_}
 use mathlib.Core.Bool.{Bool, true, false, not, _&&_, _||_}
@@ -23,7 +23,7 @@ unfoldable pub null : List ℕ → Bool
 null [] = true
 null (b ∷ bs) = false
 
--- the last octet of b and the octets after it
+-- the last of the octet b and the octets after it
 unfoldable pub lastOf : ℕ → List ℕ → ℕ
 lastOf b [] = b
 lastOf b (c ∷ bs) = lastOf c bs
@@ -45,7 +45,7 @@ bitString [] = false
 bitString (u ∷ []) = eqb u 0
 bitString (u ∷ b ∷ bs) = leb u 7 && eqb (lastOf b bs % 2 ^ u) 0
 
--- Which rule a primitive element's identifier asks of its content. Any other "content isn't looked at here".
+-- The rule that a primitive element's identifier asks of its content: the table of SPECIFICATION 2.3. Any other "content isn't looked at here".
 pub record Content (id : ℕ) (content : List ℕ) : Type 0 where
   pub ofBoolean : id ≡ 0x01 → T (boolean content)
   pub ofInteger : id ≡ 0x02 → T (integer content)

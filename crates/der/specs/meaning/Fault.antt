@@ -1,6 +1,7 @@
--- What it means that a fault is true and the first in the order of judging, named by no walk: the element at the place breaks the rule of
--- the number, and every element and rule judged before it holds. Said once more by first bytes: it is the least of all the faults. A rule
--- that is judged after an element's inside joins `FaultOf` as a case that asks for a well-formed inside. Assumes nothing.
+-- Which fault is answered: SPECIFICATION 2.4. A fault is true and the first in the order of judging if the element at its place breaks the
+-- rule of its number, and every element and rule judged before it holds. No walk is named. `Least` says it once more by first bytes: no
+-- fault has a smaller place. A rule that is judged after an element's inside would join `FaultOf` as a case that asks for a well-formed
+-- inside. Assumes nothing.
 use Prim.Native.Nat.{ℕ, zero, suc, _+_, _≤_, _<_}
 use mathlib.Core.Path.{_≡_}
 use mathlib.Core.Bool.{true, false}
@@ -12,8 +13,8 @@ use Rattle.der.specs.meaning.Length.{missing, wrong, octets, lengthOf}
 use Rattle.der.specs.meaning.Content.{Content}
 use Rattle.der.specs.meaning.Tree.{Tree, WellFormed, encode}
 
--- The octets from an element's first byte to its parent's end begin with a header of h octets before n octets of content: an identifier that
--- is allowed, the length octets that give n, and all of it before the end.
+-- The octets from an element's first byte to its parent's end begin with a header of h octets and n octets of content: an identifier that is
+-- allowed, and the length octets that give n. All of it ends no later than the parent.
 pub record Headed (bs : List ℕ) (id h n : ℕ) : Type 0 where
   pub count : ℕ
   pub after : List ℕ
@@ -23,8 +24,8 @@ pub record Headed (bs : List ℕ) (id h n : ℕ) : Type 0 where
   pub sized : h ≡ suc count
   pub fits : count + n ≤ ListN.length after
 
--- An element, over the octets from its first byte to its parent's end, breaks a rule itself: the number and the detail. Each rule asks
--- that those before it hold.
+-- An element, over the octets from its first byte to its parent's end, breaks a rule itself: the number and the detail. Each rule asks that
+-- those before it hold (the table of SPECIFICATION 2.4).
 pub data Breaks : List ℕ → ℕ → ℕ → Type 0 where
   noIdentifier : Breaks [] 2 1
   identifier : {id : ℕ} {bs : List ℕ} → allowed id ≡ false → Breaks (id ∷ bs) 3 0
@@ -44,7 +45,7 @@ pub data FaultOf (Inside : Faults) (p : ℕ) (bs : List ℕ) : ℕ → ℕ → �
   inside : {number at detail : ℕ} (id h n : ℕ) → Headed bs id h n → constructed id ≡ true
       → Inside (p + h) (take n (drop h bs)) number at detail → FaultOf Inside p bs number at detail
 
--- Without any level of depth left: 6 before anything else.
+-- Without a level of depth left, the fault is 6, before anything else.
 abbrev pub TooDeep : Faults
 TooDeep p bs number at detail = (number ≡ 6) × (at ≡ p) × (detail ≡ 0)
 

@@ -1,4 +1,4 @@
--- Identifier octets (X.690 8.1.2). Assumes nothing.
+-- Identifier octets (X.690 8.1.2): SPECIFICATION 2.1. Assumes nothing.
 use Prim.Native.Nat.{ℕ, _/_, _%_}
 use mathlib.Core.Bool.{Bool, not, _&&_, _||_}
 use lib.Dec.{leb, ltb, eqb}
@@ -27,6 +27,6 @@ constructedType t = eqb t 16 || eqb t 17
 abbrev pub universalType : ℕ → Bool
 universalType id = constructed id && constructedType (tagNumber id) || not (constructed id) && primitiveType (tagNumber id)
 
--- "one octet, tag number below 31"; "other classes: any"
+-- the table of SPECIFICATION 2.1: "one octet, tag number below 31"; "other classes: any"
 unfoldable pub allowed : ℕ → Bool
 allowed id = ltb (tagNumber id) 31 && (not (universal id) || universalType id)

@@ -1,4 +1,4 @@
--- Length octets (X.690 8.1.3): what they give, and the shortest that give a number. Assumes nothing.
+-- Length octets (X.690 8.1.3), what they give, and the shortest that give a number: SPECIFICATION 2.2. Assumes nothing.
 use Prim.Native.Nat.{ℕ, zero, suc, _+_, _-_, _*_, _/_, _%_}
 use mathlib.Core.Bool.{Bool, true, false, _&&_}
 use mathlib.Core.List.{List, [], _∷_, _++_}
@@ -7,7 +7,7 @@ use lib.ListN.{length, take}
 
 -- What the octets from the first length octet to the parent's end say of the content's length.
 pub data Length : Type 0 where
-  -- not all length octets stand before the end
+  -- not all length octets come before the end
   missing : Length
   -- indefinite, reserved or not the shortest form
   wrong : Length
@@ -36,7 +36,7 @@ longForm k bs =
       ]
     ]
 
--- "00 to 7F; or" the long form
+-- the table of SPECIFICATION 2.2: "00 to 7F; or" the long form
 unfoldable pub lengthOf : List ℕ → Length
 lengthOf [] = missing
 lengthOf (b ∷ bs) = elim (ltb b 0x80) [ true ↦ octets 1 b | false ↦ longForm (b - 0x80) bs ]

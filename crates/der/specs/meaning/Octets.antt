@@ -1,4 +1,4 @@
--- Octets. Assumes nothing.
+-- Octets, of which all inputs consist: SPECIFICATION 2. Assumes nothing.
 use Prim.Native.Nat.{ℕ, _<_}
 use mathlib.Core.List.{List}
 use lib.ListN.{getD}

@@ -1,4 +1,4 @@
--- The numbers that come back from a call, as document 01's table "Numbers that come back" has them. Assumes nothing.
+-- The numbers that come back from a call: SPECIFICATION 4, document 01's table "Numbers that come back". Assumes nothing.
 use Prim.Native.Nat.{ℕ}
 
 -- "accepted, with the row count"

@@ -1,4 +1,4 @@
--- The tree of elements as a value, what makes it well-formed, and its DER encoding: all on the value alone. Assumes nothing.
+-- The tree of elements as a value, what makes it well-formed, and its DER encoding: SPECIFICATION 2. No octets are read here. Assumes nothing.
 use Prim.Native.Nat.{ℕ, zero, suc, _+_}
 use mathlib.Core.Path.{_≡_}
 use mathlib.Core.Bool.{true, false}
@@ -23,7 +23,7 @@ unfoldable pub encode : Tree → List ℕ
 encode none = []
 encode (element id first whole content inside rest) = (header id content ++ content) ++ encode rest
 
--- What makes an element well-formed at a place, where Inside says so of the elements inside it.
+-- What makes an element well-formed at a place (SPECIFICATION 2.1 to 2.3); Inside says that the elements inside it are.
 pub record Formed (place id first whole : ℕ) (content : List ℕ) (inside : Tree) (Inside : Type 0) : Type 0 where
   pub placed : first ≡ place
   pub sized : whole ≡ length (header id content ++ content)

@@ -1,4 +1,4 @@
--- UTF-8: the productions of RFC 3629. Assumes nothing.
+-- UTF-8, by the productions of RFC 3629: SPECIFICATION 2.3. Assumes nothing.
 use Prim.Native.Nat.{ℕ, _≤_}
 use mathlib.Core.List.{List, [], _∷_, _++_}
 

@@ -6,7 +6,7 @@ use lib.Dec.{eqb}
 use Rattle.der.specs.steps.Utf8Classes.{utf8}
 use Rattle.der.specs.meaning.Content.{boolean, integer, null, objectIdentifier, bitString}
 
--- the same as a test
+-- whether a content keeps the rule of its identifier
 unfoldable pub holds : ℕ → List ℕ → Bool
 holds id content =
     elim (eqb id 0x01) [

@@ -17,12 +17,12 @@ use Rattle.der.specs.meaning.Identifier.{tagNumber, constructed}
 use Rattle.der.specs.steps.Header.{headOf}
 use Rattle.der.specs.steps.ContentTest.{holds}
 
--- document 01's number for an answer: 0 where there is no fault
+-- document 01's number for an answer: 0 if there is no fault
 unfoldable pub numberOf : Nest → ℕ
 numberOf (End q) = 0
 numberOf (Fault n q k) = n
 
--- document 01's place for an answer: 0 where there is no fault
+-- document 01's place for an answer: 0 if there is no fault
 unfoldable pub placeOf : Nest → ℕ
 placeOf (End q) = 0
 placeOf (Fault n q k) = q
@@ -43,7 +43,7 @@ unfoldable pub primitiveOf : ℕ → ℕ → ℕ → List ℕ → Nest
 primitiveOf p q id content = elim (holds id content) [ true ↦ End q | false ↦ faultAt (WrongContent (tagNumber id)) p ]
 
 -- "An element's inside, if constructed, is a list of elements, and each is an element again": the element at a place, over the octets
--- from there to its parent's end, with the levels of depth that are left; without any left it is too deep (6).
+-- from there to its parent's end, with the levels of depth that are left; with none left it is too deep (6).
 unfoldable pub elementOf : ℕ → ℕ → List ℕ → Nest
 elementOf zero p bs = faultAt TooDeep p
 elementOf (suc left) p bs =
@@ -55,7 +55,7 @@ elementOf (suc left) p bs =
       ]
     ]
 
--- The first element from the place at, before the place end, of a whole input; a longer input is 1.
+-- The first element from the place at, before the place end, of a whole input; one that is too long is 1.
 unfoldable pub walkAt : List ℕ → ℕ → ℕ → Nest
 walkAt s at end = elim (leb (length s) longest) [ true ↦ elementOf depth at (slice at end s) | false ↦ faultAt TooLong 0 ]
 

@@ -11,7 +11,7 @@ use Rattle.der.specs.declared.element.header.Head.the-variants.{Stands, 
 use Rattle.der.specs.meaning.Identifier.{allowed}
 use Rattle.der.specs.meaning.Length.{Length, missing, wrong, octets, lengthOf}
 
--- "content past the end (2)": k length octets and n octets of content, where `room` octets stand after the identifier
+-- "content past the end (2)": k length octets and n octets of content, with `room` octets after the identifier
 abbrev pub fitting : ℕ → ℕ → ℕ → ℕ → Head
 fitting id room k n = elim (leb (k + n) room) [ true ↦ Stands id (suc k) n | false ↦ Broken PastEnd ]
 
@@ -26,13 +26,13 @@ unfoldable pub headOf : List ℕ → Head
 headOf [] = Broken NoIdentifier
 headOf (id ∷ bs) = elim (allowed id) [ true ↦ sizedBy id bs (lengthOf bs) | false ↦ Broken WrongIdentifier ]
 
--- the cause that the length octets give where no element stands
+-- the cause that the length octets give if there is no element
 unfoldable pub causeBy : Length → Cause
 causeBy missing = NoLength
 causeBy wrong = WrongLength
 causeBy (octets k n) = PastEnd
 
--- why no element stands at the start of octets that begin with none
+-- the cause for octets that begin with no element
 unfoldable pub causeOf : List ℕ → Cause
 causeOf [] = NoIdentifier
 causeOf (id ∷ bs) = elim (allowed id) [ true ↦ causeBy (lengthOf bs) | false ↦ WrongIdentifier ]

@@ -1,4 +1,4 @@
--- The tree that any octets are read as, well-formed or not, for the layers above: total, with a harmless element where none stands. Assumes nothing.
+-- The tree that any octets are read as, well-formed or not, for the layers above. If there is no element, an empty one is read. Assumes nothing.
 use Prim.Native.Nat.{ℕ, zero, suc, _+_, _-_}
 use mathlib.Core.Bool.{true, false}
 use mathlib.Core.List.{List, [], _∷_}
@@ -13,11 +13,11 @@ use Rattle.der.specs.steps.Header.{headOf}
 use Rattle.der.specs.meaning.Tree.{Tree, none, element}
 use Rattle.der.specs.meaning.Bounds.{longest}
 
--- where no element stands: identifier 0 and an empty content
+-- no element: identifier 0 and an empty content
 unfoldable pub nothingAt : ℕ → Element
 nothingAt p = record { identifier = 0; content = p; end = p }
 
--- the element that a header gives at a place; where the header is broken, none up to the end
+-- the element that a header gives at a place; if the header is broken, none, at the end
 unfoldable pub given : ℕ → List ℕ → Head → Element
 given p bs (Stands id h n) = record { identifier = id; content = p + h; end = p + h + n }
 given p bs (Broken c) = nothingAt (p + length bs)
@@ -26,7 +26,7 @@ given p bs (Broken c) = nothingAt (p + length bs)
 unfoldable pub read : ℕ → List ℕ → Element
 read p bs = given p bs (headOf bs)
 
--- the element from the place at, before the place end, of a whole input; in a longer input none stands
+-- the element from the place at, before the place end, of a whole input; one that is too long has none
 unfoldable pub readAt : List ℕ → ℕ → ℕ → Element
 readAt s at end = elim (leb (length s) longest) [ true ↦ read at (slice at end s) | false ↦ nothingAt at ]
 

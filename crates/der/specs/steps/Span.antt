@@ -1,4 +1,4 @@
--- An element's length octets (X.690 8.1.3, 10.1) by themselves, whatever its identifier: how many octets stand before its content, and how
+-- An element's length octets (X.690 8.1.3, 10.1) by themselves, whatever its identifier is: how many octets come before its content, and how
 -- many are its content. Assumes nothing.
 use Prim.Native.Nat.{ℕ, suc, _+_}
 use mathlib.Core.Bool.{true, false, _&&_}
@@ -12,11 +12,11 @@ use Rattle.der.specs.meaning.Length.{Length, missing, wrong, octets, len
 abbrev pub noSpan : Span
 noSpan = record { octets = 0; length = 0 }
 
--- h octets before the content and n of content, where they stand in the room
+-- h octets before the content and n of content, if the room has them
 abbrev pub fitted : ℕ → ℕ → ℕ → Span
 fitted room h n = elim (leb (h + n) room) [ true ↦ record { octets = h; length = n } | false ↦ noSpan ]
 
--- the identifier octet and the length octets, up to three, and the content's octets, where all of them stand in the room after the identifier
+-- the identifier octet and the length octets, up to three, and the content's octets, if the room after the identifier has all of them
 unfoldable pub spanBy : ℕ → Length → Span
 spanBy room missing = noSpan
 spanBy room wrong = noSpan

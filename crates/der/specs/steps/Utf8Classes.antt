@@ -86,11 +86,11 @@ utf8From (suc left) low high (b ∷ bs) =
 unfoldable pub utf8 : List ℕ → Bool
 utf8 bs = utf8From 0 1 3 bs
 
--- a table of the classes: at every octet stands the octet's class
+-- a table of the classes: it has each octet's class at the octet's place
 pub record Classes (table : List ℕ) : Type 0 where
   pub entry : (b : ℕ) → b < 256 → getD table b 0 ≡ classOf b
 
--- the check over the octets after one that it made a step by
+-- the check of the octets after the step that one octet makes
 abbrev pub afterStep : OctetStep → List ℕ → Bool
 afterStep (Next left low high) bs = utf8From left low high bs
 afterStep Stop bs = false

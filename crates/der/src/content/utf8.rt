@@ -1,4 +1,4 @@
-// UTF-8 as in RFC 3629: octets below 80 eight at once, and others by a table of classes of octets.
+// UTF-8 (RFC 3629): octets below 80 are checked eight at once, and others by a table of classes of octets.
 use crate::content::octet_class;
 ghost use Prim.Native.Nat.{ℕ, _+_, _≤_, _<_};
 ghost use mathlib.Core.Bool.{true};
@@ -15,7 +15,7 @@ enum OctetStep {
     Stop,
 }
 
-// An octet of the class where a character begins.
+// The step for an octet of the class at the start of a character.
 fn lead(class: u8) -> OctetStep
     ensures { λ r. ⌜ ((b : ℕ) (bs : List ℕ) → classOf b ≡ class → afterStep r bs ≡ utf8From 0 1 3 (b ∷ bs)) ⌝ }
 {
@@ -32,7 +32,7 @@ fn lead(class: u8) -> OctetStep
     }
 }
 
-// An octet of the class where the character still wants `left` tails, the next of a class from `low` to `high`.
+// The step for an octet of the class if the character still wants `left` tails, the next of a class from `low` to `high`.
 fn advance(left: u8, low: u8, high: u8, class: u8) -> OctetStep
     ensures { λ r. ⌜ ((b : ℕ) (bs : List ℕ) → classOf b ≡ class → afterStep r bs ≡ utf8From left low high (b ∷ bs)) ⌝ }
 {
@@ -75,7 +75,7 @@ fn ascii(content: &[u8]) -> bool
     true
 }
 
-// Whether the content is UTF-8.
+// Answers whether the content is UTF-8; an empty content is.
 pub fn is_text(content: &[u8]) -> bool
     ensures { λ r. ⌜ r ≡ utf8 (now (content .entry)) ⌝ }
 {
@@ -86,7 +86,7 @@ pub fn is_text(content: &[u8]) -> bool
     text(content, &classes)
 }
 
-// Whether the content is UTF-8, by a table of the classes.
+// The same, by a table of the classes.
 fn text(content: &[u8], classes: &[u8; 256]) -> bool
     requires { ⌜ Classes (now classes) ⌝ }
     ensures { λ r. ⌜ r ≡ utf8 (now (content .entry)) ⌝ }

@@ -3,7 +3,7 @@ ghost use mathlib.Core.Path.{_≡_};
 ghost use Prim.Native.Nat.{min};
 ghost use lib.Seq.{slice};
 
-// The bytes from `at` up to `end`, as far as the input has them.
+// The bytes from `at` to `end`, as far as the input has them.
 pub(crate) fn between(bytes: &[u8], at: usize, end: usize) -> &[u8]
     ensures { λ r. ⌜ now r ≡ slice at end (now (bytes .entry)) ⌝ }
 {

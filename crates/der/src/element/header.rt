@@ -9,9 +9,9 @@ ghost use lib.ListN.{length};
 ghost use Rattle.der.specs.meaning.Bounds.{longest};
 ghost use Rattle.der.specs.steps.Header.{causeOf, headOf};
 
-// What the octets from an element's first byte to its parent's end begin with.
+// What is read at the start of the octets from an element's first byte to its parent's end.
 pub enum Head {
-    // A header of `octets` bytes, and after it a content of `length` bytes that ends in time.
+    // A header of `octets` bytes, and after it a content of `length` bytes, which ends no later than the parent.
     Stands {
         identifier: u8,
         octets: usize,
@@ -21,7 +21,7 @@ pub enum Head {
     Broken(Cause),
 }
 
-// The header at the start of bytes that end where the element's parent does, or why there is none.
+// Reads the header at the start of bytes that end with the element's parent, or answers why there is none.
 pub(crate) fn read(bytes: &[u8]) -> Head
     requires { ⌜ length (now bytes) ≤ longest ⌝ }
     ensures { λ r. ⌜ r ≡ headOf (now (bytes .entry)) ⌝ }
@@ -40,8 +40,8 @@ pub(crate) fn read(bytes: &[u8]) -> Head
     Head::Broken(cause_of(bytes))
 }
 
-// Why no element stands at the start of bytes that begin with none: what is missing or wrong, in document 01's order. It decodes no
-// length: one in the right form that gives no element runs past the end.
+// The cause for bytes that begin with no element: what is missing or wrong first, in document 01's order. It decodes no length: a length in
+// the right form that gives no element runs past the end.
 fn cause_of(bytes: &[u8]) -> Cause
     ensures { λ r. ⌜ r ≡ causeOf (now (bytes .entry)) ⌝ }
 {

@@ -2,7 +2,7 @@
 ghost use mathlib.Core.Path.{_≡_};
 ghost use Rattle.der.specs.meaning.Identifier.{constructed, allowed};
 
-// The identifiers of the primitive types whose content has a rule.
+// The identifiers of the primitive types with a content rule.
 pub const BOOLEAN: u8 = 0x01;
 
 pub const INTEGER: u8 = 0x02;
@@ -17,14 +17,14 @@ pub const ENUMERATED: u8 = 0x0A;
 
 pub const UTF8_STRING: u8 = 0x0C;
 
-// Whether the identifier says that the content is a list of elements (bit 6).
+// Answers whether the identifier is constructed (bit 6): the content is a list of elements.
 pub fn is_constructed(id: u8) -> bool
     ensures { λ r. ⌜ r ≡ constructed id ⌝ }
 {
     id / 32 % 2 == 1
 }
 
-// Whether an element may have the identifier.
+// Answers whether an element may have the identifier (SPECIFICATION 2.1).
 pub fn is_allowed(id: u8) -> bool
     ensures { λ r. ⌜ r ≡ allowed id ⌝ }
 {

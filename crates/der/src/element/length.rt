@@ -1,16 +1,16 @@
-// The decoder of length octets (X.690 8.1.3, 10.1), whatever the identifier before them. It reads forms of one, two and three octets: a
-// longer one that is the shortest gives 65,536 or more, which no input holds.
+// The decoder of length octets (X.690 8.1.3, 10.1), whatever the identifier before them is. It reads forms of one, two and three octets: a
+// longer form that is the shortest gives 65,536 or more, and no input is that long.
 ghost use mathlib.Core.Path.{_≡_};
 ghost use Prim.Native.Nat.{_≤_};
 ghost use Rattle.der.specs.steps.Span.{noSpan, fitted, spanOf};
 
-// How many identifier and length octets an element has, 0 where none stands, and how many octets of content.
+// How many identifier and length octets an element has, and how many octets of content. Without an element both are 0.
 pub struct Span {
     pub octets: usize,
     pub length: usize,
 }
 
-// The element at the start of bytes that end where its parent does, by its length octets alone.
+// Measures the element at the start of bytes that end with its parent, by its length octets alone: the identifier is not judged.
 pub fn measure(bytes: &[u8]) -> Span
     ensures { λ r. ⌜ r ≡ spanOf (now (bytes .entry)) ⌝ }
 {
@@ -36,7 +36,7 @@ pub fn measure(bytes: &[u8]) -> Span
     nothing()
 }
 
-// The span, if the content ends in the room.
+// The span, if the content ends within the room.
 fn fit(room: usize, octets: usize, length: usize) -> Span
     requires { ⌜ octets ≤ room ⌝ }
     ensures { λ r. ⌜ r ≡ fitted room octets length ⌝ }

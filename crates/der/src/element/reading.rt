@@ -6,14 +6,15 @@ use crate::element::length::measure;
 ghost use mathlib.Core.Path.{_≡_};
 ghost use Rattle.der.specs.steps.Reading.{nothingAt, readAt};
 
-// An element: its identifier, the first byte of its content and the place past its end.
+// An element: its identifier, the first byte of its content and the place after its last byte.
 pub struct Element {
     pub identifier: u8,
     pub content: usize,
     pub end: usize,
 }
 
-// The element from `at` before `end`; where none stands, identifier 0 and an empty content at the end. Input longer than LONGEST has none.
+// Reads the element at `at` in a parent that ends at `end`. If there is none, the answer has the identifier 0 and an empty content at the
+// end. An input longer than LONGEST has none: the empty content is at `at`.
 pub fn read_at(bytes: &[u8], at: usize, end: usize) -> Element
     ensures { λ r. ⌜ r ≡ readAt (now (bytes .entry)) at end ⌝ }
 {

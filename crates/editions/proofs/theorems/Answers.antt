@@ -1,4 +1,4 @@
--- The answer by the ways of the code: each test that the code makes is the definition's. Assumes nothing.
+-- The answer by the cases of the code: each test that the code makes is the definition's. Assumes nothing.
 use Prim.Native.Nat.{ℕ, _≤_, _<_}
 use mathlib.Core.Path.{_≡_, refl, sym, ap, _∙_}
 use mathlib.Core.Bool.{Bool, true, false, not, _&&_, _||_}
@@ -17,7 +17,7 @@ use Rattle.editions.specs.meaning.Edition.{opposite}
 use Rattle.editions.specs.meaning.Reading.{refusal, accepted, batchAnswer, answer}
 use Rattle.editions.specs.steps.OneWalk.{formOf, stopNumber, passedAnswer, brokenAnswer}
 
--- of what was met, the first form of edition 1, or of edition 2
+-- the first form of edition 1 alone that was met, or of edition 2 alone
 module _ (e : ℕ) (s : Tally) where
   pub form-one : e ≡ 1 → formOf e s ≡ (s .one .number, s .one .place)
   form-one is = rw is
@@ -68,7 +68,7 @@ either false false t = sym t
 either false true t = refl
 either true b t = refl
 
--- a number from 1 to 2 is one
+-- a number from 1 to 2 is an edition
 pub an-edition : (e : ℕ) → (1 ≤ e) × (e ≤ 2) → (not (eqb e 1) && not (eqb e 2)) ≡ false
 an-edition e range = go (eqb e 1) refl (eqb e 2) refl
   where

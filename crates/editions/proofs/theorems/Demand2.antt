@@ -1,5 +1,5 @@
--- Demand 2, reading: a batch is accepted exactly where it is in the edition's grammar with every certReqId of at most 8 octets, and its rows
--- are those of its tree, which is unique. Assumes nothing.
+-- Demand 2, reading: a batch is accepted exactly if it is in the edition's grammar with every certReqId of at most 8 octets. Its rows are
+-- those of its tree, and it has only one. Assumes nothing.
 use Prim.Native.Nat.{ℕ, _*_, _≤_}
 use native.Mathlib.Omega.{arith}
 use mathlib.Core.Logic.{_↔_}
@@ -102,7 +102,7 @@ module _ {e : ℕ} (s : List ℕ) (g : InGrammar e s) where
       let (r, passed) = accepts (λ x. eqb x e) emptyTally Top 0 (tree 0 s) .1 m in
       in-element ed octets ∙ goes-through e r s passed
 
-  -- It is accepted, where every certReqId fits, with the count of its rows.
+  -- If every certReqId fits, it is accepted with the count of its rows.
   pub in-accepted : Edition e → Octets s → allShort (batchRows (g .batch)) ≡ true → answer e s ≡ accepted (length (batchRows (g .batch)))
   in-accepted ed octets fit =
       let clear : eqb (firstLong (0, 0) (rowsOfInput s) .0) 0 ≡ true = long-none (rowsOfInput s) ∙ ap allShort nest-rows ∙ fit in

@@ -1,5 +1,5 @@
--- Demand 3: what one edition accepts, the opposite edition accepts with the same rows where no difference occurs, and refuses with 9 where
--- one does; and 9 is answered exactly there, at the first difference. Assumes nothing.
+-- Demand 3: what one edition accepts, the opposite edition accepts with the same rows if no difference occurs in it, and refuses with 9 if one
+-- does. For any bytes, 9 is answered exactly if a difference occurs in them, at the first. Assumes nothing.
 use Prim.Native.Nat.{ℕ, _+_, _*_, _≤_}
 use native.Mathlib.Omega.{arith}
 use mathlib.Core.Logic.{_↔_, _⊎_, inl, inr}
@@ -58,13 +58,13 @@ module _ {e : ℕ} (s : List ℕ) (g : InGrammar e s) where
 
       least : (q : ℕ) (d : Difference e s q) → (d .form ≡ o) ⊎ List·Memᴰ (d .form) os → o .place ≤ q
       least q d (inl same) = omega (arith, d .stands, ap (λ (x : Occurrence). x .place) same)
-      least q d (inr behind) = omega (arith, d .stands, ascends-least 0 (0 + length (encode (g .nest))) o (d .form) os order behind)
+      least q d (inr later) = omega (arith, d .stands, ascends-least 0 (0 + length (encode (g .nest))) o (d .form) os order later)
 
   -- the opposite edition's walk over it, by the differences
   opposite-walk : Edition e → (r : Tally) × ((ownWalk e (tree 0 s) ≡ Passed r) × StopsAt (ownWalk (opposite e) (tree 0 s)) (Passed r) (occurrences (g .batch)))
   opposite-walk ed = rw (nest-read s g) (other-walk Top (g .batch) emptyTally 0 ed)
 
-  -- Where none occurs, the bytes are in the opposite edition's grammar too.
+  -- If none occurs, the bytes are in the opposite edition's grammar too.
   undiffering-in : Edition e → occurrences (g .batch) ≡ [] → InGrammar (opposite e) s
   undiffering-in ed none =
       let (r, (passed, alike)) = other-walk Top (g .batch) emptyTally 0 ed in
@@ -82,7 +82,7 @@ module _ {e : ℕ} (s : List ℕ) (g : InGrammar e s) where
   undiffering-answer ed octets none =
       in-counted s (undiffering-in ed none) (other-edition ed) octets ∙ sym (in-counted s g ed octets)
 
-  -- Where one occurs, the opposite edition refuses with 9 at the first.
+  -- If one occurs, the opposite edition refuses with 9 at the first.
   differing-answer : Edition e → Octets s → (o : Occurrence) (os : List Occurrence) → occurrences (g .batch) ≡ o ∷ os
       → answer (opposite e) s ≡ refusal otherEdition (o .place)
   differing-answer ed octets o os is =
@@ -123,7 +123,7 @@ nine-first {e} ed s octets nine = go (occurrences (g .batch)) refl
         absurd (never-nine (firstLong (0, 0) (rowsOfInput s)) (length (rowsOfInput s)) (sym is ∙ nine))
     go (o ∷ os) is = (o .place, (rw (back ed) at (differing-answer s g (other-edition ed) octets o os is), first-difference s g o os is))
 
--- where a difference of the opposite edition occurs, the answer is 9, whatever the table
+-- if a difference of the opposite edition occurs, the answer is 9, whatever the table
 nine-where : {e : ℕ} → Edition e → (s old : List ℕ) → Octets s → (p : ℕ) → Difference (opposite e) s p → readAnswer e s old .number ≡ otherEdition
 nine-where {e} ed s old octets p d = go (occurrences (d .within .batch)) refl
   where

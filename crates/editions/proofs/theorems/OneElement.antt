@@ -1,4 +1,4 @@
--- An answer that is none of 13 and 1 to 7 comes from bytes that are one element with nothing behind it. Assumes nothing.
+-- An answer that is neither 13 nor one of 1 to 7 comes from bytes that are one element, with nothing after it. Assumes nothing.
 use Prim.Native.Nat.{ℕ, _≤_}
 use native.Mathlib.Omega.{arith}
 use mathlib.Core.Path.{_≡_, refl, sym, ap}
@@ -28,7 +28,7 @@ pub record OneElement (e : ℕ) (s : List ℕ) : Type 0 where
   pub last : length s ≤ end
   pub same : answer e s ≡ batchAnswer e s
 
--- a number that isn't of a refusal before the grammar's
+-- a number that belongs to no refusal before those of the grammar
 abbrev pub Late : ℕ → Type 0
 Late n = (n ≡ 13 → ⊥) × (1 ≤ n → 8 ≤ n)
 

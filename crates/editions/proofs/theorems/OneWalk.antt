@@ -1,5 +1,5 @@
--- One walk over every form decides the answer of each edition: where it has met a form of the opposite edition, this edition's own walk
--- stops there, and otherwise it answers alike. Assumes nothing.
+-- One walk that reads every form decides the answer of each edition: if it has met a form of the opposite edition alone, this edition's own
+-- walk stops there; otherwise both answer alike. Assumes nothing.
 use Prim.Native.Nat.{ℕ, _≤_}
 use mathlib.Core.Path.{_≡_, refl, sym, ap, ap₂, subst, _∙_}
 use mathlib.Core.Bool.{Bool, true, false, _&&_}
@@ -51,13 +51,13 @@ passes-alike : (w : Walked) → walkPasses w ≡ isPassed w
 passes-alike (Passed r) = refl
 passes-alike (Broken p d r) = refl
 
--- 9 or 8 where this edition's own walk stops, by whether the opposite edition's passes
+-- this edition's own walk stops: 9 or 8, by whether the opposite edition's passes
 pub stops-at : (e q d : ℕ) (r : Tally) (s : List ℕ) (n : ℕ) → ownWalk e (tree 0 s) ≡ Broken q d r
     → eightOrNine (walkPasses (ownWalk (opposite e) (tree 0 s))) ≡ n → refusal n q ≡ batchAnswer e s
 unfolding batchAnswer
 stops-at e q d r s n own number = rw (batchAnswer, own, number)
 
--- 10 or acceptance where it passes
+-- it passes: 10 or acceptance
 pub goes-through : (e : ℕ) (r : Tally) (s : List ℕ) → ownWalk e (tree 0 s) ≡ Passed r
     → batchAnswer e s ≡ longIdOrAccepted (firstLong (0, 0) (rowsOfInput s)) (length (rowsOfInput s))
 unfolding batchAnswer
@@ -83,14 +83,14 @@ module _ {e : ℕ} (ed : Edition e) (s : List ℕ) (short : length s ≤ longest
       own-stops ed emptyTally (start Top) 0 t (none-met ed) (λ z. eqb-false _ _ some (sym (ap (λ (v : Walked). foreign e v .0) walked) ∙ z)) in
       subst (λ (v : Walked). (d : ℕ) × ((r : Tally) × (ownWalk e t ≡ Broken (foreign e v .1) d r))) walked (_, (r, stops))
 
-  -- the opposite edition's walk passes where the whole walk does and has met none of this edition's own forms
+  -- the opposite edition's walk passes if the walk that reads every form does and has met no form of this edition alone
   opposite-passes : walkPasses (ownWalk (opposite e) t) ≡ (isPassed w && eqb (formOf e (seenOf w) .0) 0)
   opposite-passes =
       passes-alike (ownWalk (opposite e) t) ∙ own-passes (other-edition ed) emptyTally (start Top) 0 t (none-met (other-edition ed))
       ∙ ap₂ (λ (a b : Bool). a && b) (sym (walk-passes emptyTally (start Top) 0 t) ∙ ap isPassed walked)
       (ap₂ (λ (x : ℕ) (v : Walked). eqb (formOf x (seenOf v) .0) 0) (back ed) walked)
 
-  -- so the number where it stops
+  -- this decides the number if this edition's walk stops
   stop-number : eightOrNine (walkPasses (ownWalk (opposite e) t)) ≡ eightOrNine (isPassed w && eqb (formOf e (seenOf w) .0) 0)
   stop-number = ap eightOrNine opposite-passes
 

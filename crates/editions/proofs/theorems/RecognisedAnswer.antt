@@ -46,7 +46,7 @@ unrecognised-refused e s octets none zero =
     let (n, is) = walk-recognised e s (one .ends ∙ ap End whole) r passed (eqb-true _ 0 fit) in
     not-recognised (sym none ∙ is)
 
--- An input is recognised with n rows exactly where it is accepted with n rows.
+-- An input is recognised with n rows exactly if it is accepted with n rows.
 pub recognised-exactly : (e : ℕ) (s : List ℕ) → (not (eqb e 1) && not (eqb e 2)) ≡ false → Octets s → (n : ℕ)
     → (recognised e s ≡ Rows n) ↔ (answer e s ≡ accepted n)
 recognised-exactly e s known octets n = (λ is. sym (recognised-accepted e s known n is), back (recognised e s) refl)

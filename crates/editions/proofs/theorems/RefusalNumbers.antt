@@ -56,7 +56,7 @@ module _ (e : ℕ) (s : List ℕ) where
     length-number false is = omega arith
     length-number true is = nest-number (leb-true (length s) longest is) (walkAt s 0 (length s)) refl
 
-    -- reading answers a number up to 13, which is the largest of its refusals
+    -- without a table, reading answers a number of at most 13, the largest of its refusals
     pub answer-number : answer e s .number ≤ unknownEdition
     unfolding answer
     answer-number = edition-number (eqb e 1 || eqb e 2)

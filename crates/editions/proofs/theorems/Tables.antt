@@ -21,7 +21,7 @@ use Rattle.editions.specs.meaning.Edition.{opposite}
 use Rattle.editions.specs.meaning.Reading.{refusal, accepted, ownWalk, walkPasses, eightOrNine, longIdOrAccepted, batchAnswer, answer, readAnswer, tableAfter}
 use Rattle.editions.proofs.theorems.OneElement.{late-accepted, one-whole}
 
--- where an answer's number is 0, its count is the number of rows
+-- if an answer's number is 0, its count is the number of rows
 abbrev pub Counts : ℕ → Answer → Type 0
 Counts n a = a .number ≡ acceptance → a .count ≡ n
 
@@ -57,7 +57,7 @@ answer-counts e s octets zero =
     rw (one .same) (batch-counts e s (ap (λ (a : Answer). a .number) (sym (one .same)) ∙ zero))
 
 module _ (e : ℕ) (s old : List ℕ) (a : Answer) (found : a ≡ answer e s) where
-  -- a refusal stays, and so does the table
+  -- a refusal without a table is a refusal with one, and the table stays
   pub read-refused : (a .number ≡ acceptance → ⊥) → (a ≡ readAnswer e s old) × (old ≡ tableAfter e s old)
   unfolding readAnswer tableAfter
   read-refused some =
@@ -69,7 +69,7 @@ module _ (e : ℕ) (s old : List ℕ) (a : Answer) (found : a ≡ answer e s) wh
     accepting : eqb (answer e s .number) 0 ≡ true
     accepting = eq-eqb _ _ (ap (λ (x : Answer). x .number) (sym found) ∙ zero)
 
-    -- with no room the answer is 11, and the table stays
+    -- without room the answer is 11, and the table stays
     pub read-short : fits (a .count) old ≡ false → (refusal noRoom 0 ≡ readAnswer e s old) × (filled s (a .count) old ≡ tableAfter e s old)
     unfolding readAnswer tableAfter
     read-short few =
@@ -113,7 +113,7 @@ module _ (e : ℕ) (s old : List ℕ) where
   unfolding readAnswer
   with-room zero enough = rw (readAnswer, eq-eqb _ _ zero, enough)
 
-  -- and so it is where it is a refusal
+  -- and so it is if it is a refusal
   pub read-alike : (answer e s .number ≡ acceptance → ⊥) → readAnswer e s old ≡ answer e s
   read-alike some = sym (read-refused e s old (answer e s) refl some .0)
 

@@ -1,4 +1,5 @@
--- Document 01's batches marked [P], as it prints them: each read in an edition into a lent table, and what comes back. Assumes nothing.
+-- Document 01's batches marked [P], as it prints them (SPECIFICATION 9.1): each read in an edition into a lent table, and what comes back.
+-- Assumes nothing.
 use Prim.Native.Nat.{ℕ}
 use mathlib.Core.List.{List, [], _∷_, _++_}
 use lib.ListN.{take}
@@ -29,7 +30,7 @@ refusedWith old e bs n p = record { edition = e; octets = bs; table = old; numbe
 abbrev pub refusedIn : ℕ → List ℕ → ℕ → ℕ → Entry
 refusedIn = refusedWith lent
 
--- accepted with a count of rows: the table has the rows, and behind them it stays
+-- accepted with a count of rows: the table begins with the rows, and the numbers after them stay
 abbrev pub acceptedWith : List ℕ → ℕ → List ℕ → ℕ → List ℕ → List ℕ → Entry
 acceptedWith old e bs n rows rest =
     record { edition = e; octets = bs; table = old; number = 0; place = 0; count = n; after = rows ++ rest; verdicts = [] }
@@ -37,7 +38,7 @@ acceptedWith old e bs n rows rest =
 abbrev pub acceptedIn : ℕ → List ℕ → ℕ → List ℕ → List ℕ → Entry
 acceptedIn = acceptedWith lent
 
--- with verdicts
+-- the same entry with verdicts
 abbrev pub judging : List ℕ → Entry → Entry
 judging vs x =
     record { edition = x .edition; octets = x .octets; table = x .table; number = x .number; place = x .place; count = x .count; after = x .after; verdicts = vs }
@@ -93,7 +94,7 @@ rowsOfPairs kind =
     ∷ kind ∷ 13 ∷ 19 ∷ 5
     ∷ []
 
--- the list
+-- the batches
 abbrev pub entries : List Entry
 entries =
     -- "empty: 2 at 0"
@@ -126,7 +127,7 @@ entries =
     -- "With 04 for 0C: the reverse, kind 72"
     ∷ acceptedIn 1 (pairs 0x04) 7 (rowsOfPairs 72) (229 ∷ 230 ∷ [])
     ∷ refusedIn 2 (pairs 0x04) 9 26
-    -- "19 and 20 numbers of table for S", which are to be run: 11, with the place 0, and accepted
+    -- "19 and 20 numbers of table for S": 11, with the place 0, and accepted
     ∷ refusedWith (take 19 lent) 1 S 11 0
     ∷ refusedWith (take 19 lent) 2 S 11 0
     ∷ acceptedWith (take 20 lent) 1 S 5 rowsOfS []

@@ -1,4 +1,5 @@
--- Reading a batch in an edition: the answer and the table for every input, in document 01's order of refusals. Assumes nothing.
+-- Reading a batch in an edition, the answer and the table for every input: SPECIFICATION 4 and 5. The refusals are in document 01's order.
+-- Assumes nothing.
 use Prim.Native.Nat.{ℕ}
 use mathlib.Core.Bool.{Bool, true, false, _||_}
 use mathlib.Core.List.{List}
@@ -42,19 +43,20 @@ walkPasses (Broken p d r) = false
 abbrev pub eightOrNine : Bool → ℕ
 eightOrNine other = elim other [ true ↦ otherEdition | false ↦ notInGrammar ]
 
--- both stand where this edition's walk stops, which for 9 is the first difference
+-- 8 or 9, at the place where this edition's walk stops; for 9 that is the first difference (SPECIFICATION 3.8)
 abbrev pub stopped : ℕ → ℕ → Tree → Answer
 stopped e p t = refusal (eightOrNine (walkPasses (ownWalk (opposite e) t))) p
 
--- "10: a certReqId of more than 8 content octets", by the first such (its whole length, 0: none, and its place); or else acceptance
+-- "10: a certReqId of more than 8 content octets", or acceptance. The first such certReqId comes with its whole length, 0 if there is none,
+-- and its place.
 abbrev pub longIdOrAccepted : ℕ × ℕ → ℕ → Answer
 longIdOrAccepted long n = elim (eqb (long .0) 0) [ true ↦ accepted n | false ↦ refusal longCertReqId (long .1) ]
 
--- 8 or 9, 10 or acceptance, of bytes that are one element
+-- 8 or 9, 10 or acceptance, for bytes that are one element
 unfoldable pub batchAnswer : ℕ → List ℕ → Answer
 batchAnswer e s = elim (ownWalk e (tree 0 s)) [ Passed r ↦ longIdOrAccepted (firstLong (0, 0) (rowsOfInput s)) (length (rowsOfInput s)) | Broken p d r ↦ stopped e p (tree 0 s) ]
 
--- "Order for reading: 13, 1, then 2 to 6 over the whole nest, 7, 8 or 9, 10"
+-- "Order for reading: 13, 1, then 2 to 6 over the whole nest, 7, 8 or 9, 10" (SPECIFICATION 4)
 unfoldable pub answer : ℕ → List ℕ → Answer
 answer e s =
     elim (eqb e rfc2511 || eqb e rfc4211) [
@@ -68,12 +70,12 @@ answer e s =
       ]
     ]
 
--- "11: table or output too short": "Room is enough exactly when the accepted answer fits"
+-- "11: table or output too short": "Room is enough exactly when the accepted answer fits" (SPECIFICATION 5)
 unfoldable pub readAnswer : ℕ → List ℕ → List ℕ → Answer
 readAnswer e s old =
     let a = answer e s in
     elim (eqb (a .number) acceptance) [ false ↦ a | true ↦ elim (fits (a .count) old) [ true ↦ a | false ↦ refusal noRoom 0 ] ]
 
--- "An accepted reading changes the table's first 4 times count numbers and no others", and a refusal none
+-- "An accepted reading changes the table's first 4 times count numbers and no others", and a refusal changes none
 unfoldable pub tableAfter : ℕ → List ℕ → List ℕ → List ℕ
 tableAfter e s old = elim (eqb (readAnswer e s old .number) acceptance) [ true ↦ over old 0 (numbers (rowsOfInput s)) | false ↦ old ]

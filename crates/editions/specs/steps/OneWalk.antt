@@ -1,4 +1,4 @@
--- The answer as one walk over every form gives it: what it has met of the opposite edition's forms decides. Assumes nothing.
+-- The answer by one walk that reads every form: the forms of the opposite edition alone that it has met decide. Assumes nothing.
 use Prim.Native.Nat.{ℕ, _*_}
 use mathlib.Core.Bool.{true, false}
 use lib.Dec.{eqb, leb}
@@ -9,15 +9,15 @@ use Rattle.editions.specs.declared.reader.Answer.{Answer}
 use Rattle.editions.specs.meaning.Edition.{rfc2511, opposite}
 use Rattle.editions.specs.meaning.Reading.{refusal, accepted, eightOrNine, longIdOrAccepted}
 
--- of what was met, the first form of an edition alone: its difference's number (0: none) and its place
+-- the first form of an edition alone that was met: its difference's number, 0 if there is none, and its place
 abbrev pub formOf : ℕ → Tally → ℕ × ℕ
 formOf e s = elim (eqb e rfc2511) [ true ↦ (s .one .number, s .one .place) | false ↦ (s .two .number, s .two .place) ]
 
--- 9 where none of this edition's own was met, or else 8
+-- 9 if no form of this edition alone was met, otherwise 8
 abbrev pub stopNumber : ℕ → ℕ
 stopNumber own = eightOrNine (eqb own 0)
 
--- where the walk passes: 9 or 8 at the opposite edition's first form, 10, or acceptance
+-- the walk passes: 9 or 8 at the opposite edition's first form, 10, or acceptance
 unfoldable pub passedAnswer : ℕ → Tally → Answer
 passedAnswer e s =
     let foreign = formOf (opposite e) s in
@@ -26,12 +26,12 @@ passedAnswer e s =
       | true ↦ longIdOrAccepted (s .long .whole, s .long .place) (s .count)
     ]
 
--- where it breaks: 8 at the opposite edition's first form before it, or there
+-- the walk breaks: 8, at the opposite edition's first form before the break, or at the break
 unfoldable pub brokenAnswer : ℕ → ℕ → Tally → Answer
 brokenAnswer e p s =
     let foreign = formOf (opposite e) s in
     refusal notInGrammar (elim (eqb (foreign .0) 0) [ true ↦ p | false ↦ foreign .1 ])
 
--- so many rows in a table of a length: acceptance, or 11 where it is too short
+-- n rows in a table of `room` numbers: acceptance, or 11 if it is too short
 abbrev pub shownAnswer : ℕ → ℕ → Answer
 shownAnswer n room = elim (leb (width * n) room) [ true ↦ accepted n | false ↦ refusal noRoom 0 ]

@@ -1,4 +1,4 @@
--- The duplicate search over the messages' own certReqIds. Assumes nothing.
+-- The duplicate search over the messages' own certReqIds: SPECIFICATION 8. Assumes nothing.
 use Prim.Native.Nat.{ℕ, zero, suc, _-_, _<_, _≤_}
 use mathlib.Core.Path.{_≡_}
 use mathlib.Core.Bool.{Bool, true, false}
@@ -33,7 +33,7 @@ pub record Equal (ns : List ℤ) (earlier later : ℕ) : Type 0 where
   pub there : later < length ns
   pub same : getD ns earlier (pos 0) ≡ getD ns later (pos 0)
 
--- "the first equal pair (least later position, then least earlier)"
+-- "the first equal pair (least later position, then least earlier)" (SPECIFICATION 8)
 pub record FirstEqual (ns : List ℤ) (earlier later : ℕ) : Type 0 where
   pub pair : Equal ns earlier later
   pub first : (i j : ℕ) → Equal ns i j → (later ≤ j) × (j ≡ later → earlier ≤ i)
@@ -45,12 +45,12 @@ sameNumber (pos m) (negsuc n) = false
 sameNumber (negsuc m) (pos n) = false
 sameNumber (negsuc m) (negsuc n) = eqb m n
 
--- the least position from i on, in some numbers that begin there, that has a number
+-- the first position that has the number k, in a list whose first position is i
 unfoldable pub find : ℤ → ℕ → List ℤ → Option ℕ
 find k i [] = absent
 find k i (n ∷ ns) = elim (sameNumber k n) [ true ↦ some i | false ↦ find k (suc i) ns ]
 
--- the first equal pair with its later position from j on, of so many
+-- the first equal pair whose later position is one of the `more` positions from j on
 unfoldable pub pairFrom : List ℤ → (more j : ℕ) → Option (ℕ × ℕ)
 pairFrom ns zero j = absent
 pairFrom ns (suc more) j =
@@ -60,12 +60,12 @@ pairFrom ns (suc more) j =
 abbrev pub pairOf : List ℤ → Option (ℕ × ℕ)
 pairOf ns = pairFrom ns (length ns) 0
 
--- what the search answers of a pair; where there is none, the positions are 0 and 0
+-- what the search answers of a pair; if there is none, the positions are 0 and 0
 abbrev pub searched : Option (ℕ × ℕ) → Duplicates
 searched absent = record { number = accepted; place = 0; found = 0; earlier = 0; later = 0 }
 searched (some p) = record { number = accepted; place = 0; found = 1; earlier = p .0; later = p .1 }
 
--- "Refusals: reading's without 11"
+-- the answer for every input (SPECIFICATION 8): "Refusals: reading's without 11"
 unfoldable pub duplicatesAnswer : ℕ → List ℕ → Duplicates
 duplicatesAnswer e s =
     let a = answer e s in

@@ -1,4 +1,4 @@
--- The verdict on a message's proof, and the part that its signature covers, on the messages of the batch. Assumes nothing.
+-- The verdict on a message's proof, and the part that its signature covers: SPECIFICATION 7. Assumes nothing.
 use Prim.Native.Nat.{ℕ, _+_}
 use mathlib.Core.Path.{_≡_}
 use mathlib.Core.Bool.{Bool, true, false, not, _&&_}
@@ -25,16 +25,16 @@ abbrev pub raVerified : ℕ
 raVerified = 1
 
 -- "2 signature over the certReq: no poposkInput, subject and publicKey both in the template."
-abbrev pub signedRequest : ℕ
-signedRequest = 2
+abbrev pub signedCertReq : ℕ
+signedCertReq = 2
 
 -- "3 signature over poposkInput: present, subject or publicKey missing."
-abbrev pub signedInput : ℕ
-signedInput = 3
+abbrev pub signedPoposkInput : ℕ
+signedPoposkInput = 3
 
 -- "4 signature otherwise."
-abbrev pub signatureNeither : ℕ
-signatureNeither = 4
+abbrev pub otherSignature : ℕ
+otherSignature = 4
 
 -- "5 other keyEncipherment"
 abbrev pub keyEncipherment : ℕ
@@ -45,10 +45,10 @@ abbrev pub keyAgreement : ℕ
 keyAgreement = 6
 
 -- "7 choice 82 under keyEncipherment, or without both subject and publicKey."
-abbrev pub macMisplaced : ℕ
-macMisplaced = 7
+abbrev pub misplacedDhMac : ℕ
+misplacedDhMac = 7
 
--- whether an element with the identifier stands in a field
+-- whether a field has an element with the identifier directly inside it
 abbrev pub has : ℕ → Field → Bool
 has id f = elim (child id f) [ absent ↦ false | some x ↦ true ]
 
@@ -60,16 +60,16 @@ hasSubjectAndKey m = has 0xA5 (m .template) && has 0xA6 (m .template)
 abbrev pub signatureVerdict : (input hasSubjectAndKey : Bool) → ℕ
 signatureVerdict input hasSubjectAndKey =
     elim input [
-      | true ↦ elim hasSubjectAndKey [ true ↦ signatureNeither | false ↦ signedInput ]
-      | false ↦ elim hasSubjectAndKey [ true ↦ signedRequest | false ↦ signatureNeither ]
+      | true ↦ elim hasSubjectAndKey [ true ↦ otherSignature | false ↦ signedPoposkInput ]
+      | false ↦ elim hasSubjectAndKey [ true ↦ signedCertReq | false ↦ otherSignature ]
     ]
 
 -- "keyEncipherment A2" and "keyAgreement A3": by whether the choice is 82, and whether the template has both
 abbrev pub enciphermentVerdict : (mac : Bool) → ℕ
-enciphermentVerdict mac = elim mac [ true ↦ macMisplaced | false ↦ keyEncipherment ]
+enciphermentVerdict mac = elim mac [ true ↦ misplacedDhMac | false ↦ keyEncipherment ]
 
 abbrev pub agreementVerdict : (mac hasSubjectAndKey : Bool) → ℕ
-agreementVerdict mac hasSubjectAndKey = elim (mac && not hasSubjectAndKey) [ true ↦ macMisplaced | false ↦ keyAgreement ]
+agreementVerdict mac hasSubjectAndKey = elim (mac && not hasSubjectAndKey) [ true ↦ misplacedDhMac | false ↦ keyAgreement ]
 
 -- the verdict on a proof, by its identifier: "raVerified 80", "signature A1", "keyEncipherment A2 or keyAgreement A3"
 abbrev pub proofVerdict : Message → Field → ℕ
@@ -82,7 +82,7 @@ proofVerdict m p =
       ]
     ]
 
--- the verdict on a message
+-- the verdict on a message: the table of SPECIFICATION 7
 unfoldable pub verdictOf : Message → ℕ
 verdictOf m = elim (m .proof) [ absent ↦ noProof | some p ↦ proofVerdict m p ]
 
@@ -93,9 +93,9 @@ inputOf m = elim (m .proof) [ absent ↦ (0, 0) | some p ↦ elim (child 0xA0 p)
 
 unfoldable pub signedOf : Message → ℕ × ℕ
 signedOf m =
-    elim (eqb (verdictOf m) signedRequest) [
+    elim (eqb (verdictOf m) signedCertReq) [
       | true ↦ (m .certReq .place, m .certReq .whole)
-      | false ↦ elim (eqb (verdictOf m) signedInput) [ true ↦ inputOf m | false ↦ (0, 0) ]
+      | false ↦ elim (eqb (verdictOf m) signedPoposkInput) [ true ↦ inputOf m | false ↦ (0, 0) ]
     ]
 
 -- no message
@@ -106,15 +106,15 @@ noMessage s = messageOf (missing (batch (tree 0 s)))
 abbrev pub messageAt : List ℕ → ℕ → Message
 messageAt s position = getD (messages (tree 0 s)) position (noMessage s)
 
--- a refusal, with the numbers that the papers leave free
+-- a refusal; verdict, place and length of the part are 0
 abbrev pub refused : ℕ → ℕ → Verdict
 refused n p = record { number = n; place = p; verdict = noProof; from = 0; length = 0 }
 
--- what a message's verdict answers
+-- the answer with a message's verdict and signed part
 abbrev pub verdictOn : Message → Verdict
 verdictOn m = record { number = accepted; place = 0; verdict = verdictOf m; from = signedOf m .0; length = signedOf m .1 }
 
--- "Refusals: as reading without 11, then 14"
+-- the answer for every input (SPECIFICATION 7): "Refusals: as reading without 11, then 14"
 unfoldable pub verdictAnswer : ℕ → List ℕ → ℕ → Verdict
 verdictAnswer e s position =
     let a = answer e s in

@@ -19,12 +19,12 @@ pub record Accepted (s : List ℕ) : Type 0 where
 abbrev pub mostMessages : ℕ
 mostMessages = 7281
 
--- So many numbers at the front of a list are the certReqIds.
+-- The first `count` numbers of a list are the certReqIds.
 pub record Collected (s : List ℕ) (numbers : List ℤ) (count : ℕ) : Type 0 where
   pub within : count ≤ length numbers
   pub same : take count numbers ≡ ids s
 
--- the certReqId of the message whose inside stands from a place to another: what is read first inside what is read first there
+-- the certReqId of the message whose inside is from one place to another: the first element of the first element there
 abbrev pub idIn : List ℕ → ℕ → ℕ → Element
 idIn s at end = let request = readAt s at end in readAt s (request .content) (request .end)
 

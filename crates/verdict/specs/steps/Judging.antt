@@ -1,4 +1,4 @@
--- The verdict step by step, on places of any bytes and on the parts that stand there. Assumes nothing.
+-- The verdict step by step, on places of any bytes and on the fields that are read there. Assumes nothing.
 use Prim.Native.Nat.{ℕ, _≤_}
 use mathlib.Core.Bool.{Bool, true, false}
 use mathlib.Core.List.{List, [], _∷_}
@@ -11,7 +11,7 @@ use Rattle.der.specs.meaning.Bounds.{longest}
 use Rattle.crmf.specs.meaning.Fields.{Field, firstWith}
 use Rattle.verdict.specs.declared.verdict.Extent.{Extent}
 use Rattle.verdict.specs.declared.verdict.Verdict.{Verdict}
-use Rattle.verdict.specs.meaning.Verdict.{noProof, raVerified, signedRequest, signedInput, signatureNeither, enciphermentVerdict, agreementVerdict}
+use Rattle.verdict.specs.meaning.Verdict.{noProof, raVerified, signedCertReq, signedPoposkInput, otherSignature, enciphermentVerdict, agreementVerdict}
 
 -- Two places of an input that is not too long, in order.
 pub record Places (s : List ℕ) (at end : ℕ) : Type 0 where
@@ -19,21 +19,21 @@ pub record Places (s : List ℕ) (at end : ℕ) : Type 0 where
   pub within : end ≤ length s
   pub short : length s ≤ longest
 
--- where a field stands; where there is none, 0 and 0
+-- the place and length of a field; 0 and 0 if there is none
 abbrev pub partOf : Option Field → Extent
 partOf absent = record { from = 0; length = 0 }
 partOf (some f) = record { from = f .place; length = f .whole }
 
--- whether an element with the identifier stands among some
+-- whether one of some fields has the identifier
 abbrev pub holds : ℕ → List Field → Bool
 holds id fs = elim (firstWith (id ∷ []) fs) [ absent ↦ false | some x ↦ true ]
 
--- What a search has found: the part of the first field with the identifier, if there is one; and no field has no length.
+-- What a search has found: the part of the first field with the identifier, if there is one. Only if there is none, its length is 0.
 pub record FieldFound (o : Option Field) (r : Extent) : Type 0 where
   pub part : r ≡ partOf o
   pub none : r .length ≡ 0 → o ≡ absent
 
--- a verdict, with the signed part
+-- a verdict with a signed part
 abbrev pub told : ℕ → Extent → Verdict
 told v p = record { number = accepted; place = 0; verdict = v; from = p .from; length = p .length }
 
@@ -45,11 +45,11 @@ bare v = told v (partOf absent)
 unfoldable pub signatureAnswer : Option Field → (named : Bool) → Extent → Verdict
 signatureAnswer input named request =
     elim input [
-      | absent ↦ elim named [ true ↦ told signedRequest request | false ↦ bare signatureNeither ]
-      | some x ↦ elim named [ true ↦ bare signatureNeither | false ↦ told signedInput (partOf (some x)) ]
+      | absent ↦ elim named [ true ↦ told signedCertReq request | false ↦ bare otherSignature ]
+      | some x ↦ elim named [ true ↦ bare otherSignature | false ↦ told signedPoposkInput (partOf (some x)) ]
     ]
 
--- the verdict by the identifier of what stands after the certReq, and by the fields inside it
+-- the verdict by the identifier of the element after the certReq, and by the fields inside it
 unfoldable pub proofAnswer : ℕ → List Field → (named : Bool) → Extent → Verdict
 proofAnswer id inside named request =
     elim (eqb id 0x80) [

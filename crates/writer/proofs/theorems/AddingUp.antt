@@ -1,4 +1,4 @@
--- Adding up from the last row to the first: what the rows from one on have settled, one row more, and all of them. Assumes nothing.
+-- Adding up from the last row to the first: what is settled after some rows, after one row more, and after all of them. Assumes nothing.
 use Prim.Native.Nat.{ℕ, zero, suc, _+_, _-_, _*_, _≤_, _<_}
 use native.Mathlib.Nat.{add-zero, zero-add, add-suc, suc-add}
 use native.Mathlib.Omega.{arith}
@@ -19,7 +19,7 @@ use Rattle.writer.specs.meaning.Writing.{mostRows}
 use Rattle.writer.specs.steps.Inner.{lies, Whole, sound, children, Summed, Blank, Added}
 
 module _ (bytes : List ℕ) where
-  -- no rows are sound, and so are a row and those after it where each is
+  -- no rows are sound, and so are a row and those after it if each is
   sound-none : (n : ℕ) → sound bytes n [] ≡ true
   unfolding inside
   sound-none n = ap (noneLonger longest n) (pieces-none bytes) ∙ within-none longest n
@@ -59,7 +59,7 @@ pub record Settled (bytes : List ℕ) (rs : List Row) (i : ℕ) (old table : Lis
   pub whole-sums : (k : ℕ) → i ≤ k → k < length rs → getD table k 0 ≡ children bytes rs k
 
 module _ (bytes : List ℕ) (rs : List Row) where
-  -- after the last row nothing is to be added
+  -- after the last row nothing is added
   pub settled-last : (table : List ℕ) → Blank rs table → Settled bytes rs (length rs) table table
   settled-last table blank =
       record {
@@ -94,16 +94,16 @@ module _ (bytes : List ℕ) (rs : List Row) where
     own-sum : getD table j 0 ≡ children bytes rs j
     own-sum = s .open-sums j (omega arith)
 
-    -- the row that stands before those
+    -- the row before those
     module _ (r : Row) (cut : drop j rs ≡ r ∷ drop (suc j) rs) (n : ℕ) (w : Whole bytes r (getD table j 0) n) where
-      -- the rows from this one on are sound where its whole length isn't too long
+      -- the rows from this one on are sound if its whole length isn't too long
       next-sound : sound bytes j (drop j rs) ≡ leb n longest
       next-sound =
           ap (sound bytes j) cut ∙ sound-row bytes j r (drop (suc j) rs)
           ∙ ap₂ (λ (k : ℕ) (b : Bool). (lies bytes r && leb (wholeOf (pieceOf bytes r) k) longest) && b) (sym own-sum) (s .sounds)
           ∙ ap (λ (b : Bool). b && true) (sym (w .side)) ∙ and-true (leb n longest)
 
-      -- where it is too long, the draft isn't sound
+      -- if it is too long, the draft isn't sound
       pub settled-stops : longest < n → (out : List ℕ) → (false ≡ sound bytes 0 rs) × (false ≡ true → Summed bytes rs out)
       settled-stops long out = (sym (go (sound bytes 0 rs) refl), λ no. absurd (false≢true no))
         where
@@ -112,7 +112,7 @@ module _ (bytes : List ℕ) (rs : List Row) where
               absurd (false≢true (sym (lt-leb n longest long) ∙ sym next-sound ∙ ap (λ (k : ℕ). sound bytes k (drop j rs)) (sym (zero-add j)) ∙ sound-rest bytes 0 rs ok j))
           go false ok = ok
 
-      -- and else it is added to the parent's sum, if the parent is before it
+      -- otherwise it is added to the parent's sum, if the parent is before it
       pub settled-next : n ≤ longest → (new : List ℕ) → length new ≡ length table → Added table (r .parent) j n new → Settled bytes rs j old new
       settled-next short new sized added =
           record {

@@ -50,7 +50,7 @@ array-room new n kept short = fits longest kept short
     fits : (m : ℕ) → length new ≡ length (replicate {A = ℕ} m 0) → n ≤ m → n ≤ length new
     fits m kept short = omega (arith, kept, length-replicate {A = ℕ} m 0)
 
--- neither of two tests, as the code and as the definition has it
+-- neither test passes, as the code says it and as the definition does
 neither : (a b : Bool) → (not a && not b) ≡ true → (a || b) ≡ false
 neither true b is = sym is
 neither false true is = sym is

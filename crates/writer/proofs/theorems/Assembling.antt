@@ -1,4 +1,4 @@
--- Assembling from the first row to the last: what stands in the scratch before a row, one row more, and the whole. Assumes nothing.
+-- Assembling from the first row to the last: what the scratch holds before a row, after it, and at the end. Assumes nothing.
 use Prim.Native.Nat.{ℕ, suc, _+_, _≤_, _<_}
 use native.Mathlib.Numerals.{add-one}
 use native.Mathlib.Omega.{arith}
@@ -17,7 +17,7 @@ use Rattle.crmf.proofs.Laws.{pieces-none, pieces-row, assembled-none, assembled
 use Rattle.writer.specs.steps.Inner.{children, Appended, Begins}
 use Rattle.writer.proofs.theorems.WholeLengths.{stands-same, stands-past}
 
--- The octets of the rows before number i stand in the scratch's first ones, and the others' come after them.
+-- The scratch begins with the octets of the rows before number i, and those of the other rows come after them.
 pub record Joined (bytes : List ℕ) (rs : List Row) (i at : ℕ) (old scratch : List ℕ) : Type 0 where
   pub room : longest ≤ length old
   pub sized : length scratch ≡ length old
@@ -27,7 +27,7 @@ pub record Joined (bytes : List ℕ) (rs : List Row) (i at : ℕ) (old scratch :
   pub whole : assembled 0 (piecesOf bytes rs) ≡ take at scratch ++ assembled i (piecesOf bytes (drop i rs))
 
 module _ (bytes : List ℕ) (rs : List Row) where
-  -- nothing stands before the first row
+  -- before the first row the scratch holds nothing
   pub joined-first : (scratch : List ℕ) → longest ≤ length scratch → noneLonger longest 0 (piecesOf bytes rs) ≡ true → Joined bytes rs 0 0 scratch scratch
   joined-first scratch room fit = record { room = room; sized = refl; below = omega arith; short = omega arith; fit = fit; whole = refl }
 
@@ -35,7 +35,7 @@ module _ (bytes : List ℕ) (rs : List Row) where
     before : length (take at scratch) ≡ at
     before = length-take-le at scratch (omega (arith, j .room, j .sized, j .short))
 
-    -- after the last row the whole stands there
+    -- after the last row it holds the whole candidate
     pub joined-last : length rs ≤ i → Begins (assembled 0 (piecesOf bytes rs)) at scratch
     joined-last last =
         let end : i ≡ length rs = omega (arith, j .below) in
@@ -63,7 +63,7 @@ module _ (bytes : List ℕ) (rs : List Row) where
       pub row-fits : wholeOf (pieceOf bytes r) inner ≤ longest
       row-fits = leb-true (wholeOf (pieceOf bytes r) inner) longest (fits .0)
 
-      -- the row's own octets stand before the others'
+      -- the row's own octets come before the others'
       parted : assembled 0 (piecesOf bytes rs) ≡ (take at scratch ++ own (pieceOf bytes r) inner) ++ rest
       unfolding rest
       parted =

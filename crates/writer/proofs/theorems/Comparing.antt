@@ -17,7 +17,7 @@ use Rattle.writer.specs.meaning.Writing.{samePieces}
 use Rattle.writer.specs.steps.Inner.{samePiece}
 use Rattle.writer.proofs.theorems.WholeLengths.{leaf-octets}
 
--- octets of one length, compared as far as a place
+-- octets of the same length, compared up to a place
 pub same-start : (a b : List ℕ) → true ≡ same (take 0 a) (take 0 b)
 same-start a b = sym same-none
 
@@ -66,7 +66,7 @@ module _ (bytes octets : List ℕ) (r s : Row) where
       both-leaves is a b first second =
           ap₂ same (first ∙ sym (leaf-octets bytes r is)) (second ∙ sym (leaf-octets octets s (ap container (sym kinds) ∙ is))) ∙ sym same-parent
 
--- pieces of another number are not the same
+-- two lists of pieces of different lengths are not the same
 pub other-count : (xs ys : List Piece) → (length xs ≡ length ys → ⊥) → samePieces xs ys ≡ false
 unfolding samePieces
 other-count [] [] other = absurd (other refl)

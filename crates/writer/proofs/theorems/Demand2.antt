@@ -1,4 +1,4 @@
--- Demand 2, writing: a draft is refused with 12 exactly where no acceptable batch has its rows and leaf bytes; otherwise, given room, that
+-- Demand 2, writing: a draft is refused with 12 exactly if no acceptable batch has its rows and leaf bytes; otherwise, given room, that
 -- batch is written, and reading it shows the draft's fields; and writing the rows of an accepted batch gives its bytes again. Assumes nothing.
 use Prim.Native.Nat.{ℕ, suc, _+_, _*_, _≤_, _<_}
 use native.Mathlib.Omega.{arith}
@@ -19,8 +19,7 @@ use Rattle.crmf.proofs.Laws.{Edition, first-edition, second-edition, Holds, noR
 use Rattle.editions.specs.declared.reader.Answer.{Answer}
 use Rattle.editions.specs.meaning.Membership.{InGrammar}
 use Rattle.editions.specs.meaning.Reading.{refusal, accepted, readAnswer, tableAfter}
-use Rattle.editions.proofs.theorems.Demand2.{accepted-in, read-exactly, rows-shown}
-use Rattle.editions.proofs.theorems.Tables.{shown}
+use Rattle.editions.proofs.Laws.{accepted-in, read-exactly, rows-shown, shown}
 use Rattle.writer.specs.meaning.Draft.{inside, HasRows}
 use Rattle.writer.specs.meaning.Writing.{drafted, candidate, described, writeAnswer, outputAfter}
 use Rattle.writer.proofs.theorems.Described.{rows-are, pieces-are, as-many, has-candidate, has-described, described-has}
@@ -36,7 +35,7 @@ module _ {e : ℕ} (ed : Edition e) (draft bytes old : List ℕ) where
   unfolding writeAnswer
   refused not-one = rw (writeAnswer, known ed, not-one)
 
-  -- what is described is never
+  -- what is described is never refused with 12
   room-or-not : described e draft bytes ≡ true → writeAnswer e draft bytes old .number ≡ 12 → ⊥
   unfolding writeAnswer
   room-or-not one twelve = go (leb (length (candidate draft bytes)) (length old)) (rw (writeAnswer, known ed, one) at twelve)
@@ -83,7 +82,7 @@ reads-back {e} ed draft bytes s table h room =
     let zero = read-exactly s table (h .octets) ed .1 (h .batch, h .fit, size) in
     (zero, (rs, (rows-shown s table (h .octets) zero (h .batch), sym (pieces-are ed draft bytes s h))))
 
--- rows that end within some bytes lie in them
+-- leaves that end within the bytes lie in them
 inside-all : (s : List ℕ) (rs : List Row) → ((i : ℕ) → i < length rs → getD rs i noRow .first + getD rs i noRow .whole ≤ length s) → inside s rs ≡ true
 unfolding inside
 inside-all s [] ends = refl

@@ -1,4 +1,4 @@
--- A draft is described exactly where some batch has its rows, and that batch is the draft's assembly: so there is at most one. Assumes nothing.
+-- A draft is described exactly if some batch has its rows, and that batch is the draft's assembly: so there is at most one. Assumes nothing.
 use Prim.Native.Nat.{ℕ, _*_, _≤_}
 use native.Mathlib.Omega.{arith}
 use mathlib.Core.Path.{_≡_, refl, sym, ap, ap₂, _∙_}
@@ -19,12 +19,12 @@ use Rattle.crmf.proofs.Laws.{Edition, same-octets, same-itself, assembly, rows-
 use Rattle.editions.specs.declared.reader.Answer.{Answer}
 use Rattle.editions.specs.meaning.Membership.{InGrammar}
 use Rattle.editions.specs.meaning.Reading.{answer}
-use Rattle.editions.proofs.theorems.Demand2.{nest-rows, in-accepted, accepted-in}
+use Rattle.editions.proofs.Laws.{nest-rows, in-accepted, accepted-in}
 use Rattle.writer.specs.meaning.Draft.{inside, HasRows}
 use Rattle.writer.specs.meaning.Writing.{rowsIn, mostRows, shaped, drafted, candidate, samePieces, assembles, shows, described}
 use Rattle.writer.proofs.theorems.DraftRows.{rows-back, fours}
 
--- pieces are compared as the same exactly where they are
+-- pieces pass the comparison exactly if they are the same
 pub pieces-same : (xs ys : List Piece) → samePieces xs ys ≡ true → xs ≡ ys
 unfolding samePieces
 pieces-same [] [] is = refl

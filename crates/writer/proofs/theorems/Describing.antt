@@ -17,7 +17,7 @@ use Rattle.crmf.specs.steps.rows.Assembly.{noneLonger}
 use Rattle.crmf.proofs.Laws.{over-holds, pieces-length, fits-room}
 use Rattle.editions.specs.declared.reader.Answer.{Answer}
 use Rattle.editions.specs.meaning.Reading.{answer, readAnswer, tableAfter}
-use Rattle.editions.proofs.theorems.Tables.{answer-counts, shown, with-room, shown-table}
+use Rattle.editions.proofs.Laws.{answer-counts, shown, with-room, shown-table}
 use Rattle.writer.specs.meaning.Draft.{inside}
 use Rattle.writer.specs.meaning.Writing.{rowsIn, shaped, drafted, candidate, samePieces, shows, described}
 use Rattle.writer.specs.steps.Inner.{sound}
@@ -72,7 +72,7 @@ module _ (e : ℕ) (draft bytes : List ℕ) where
         ap (λ (l : List ℕ). eqb (answer e l .number) 0 && samePieces (drafted draft bytes) (piecesOf l (rowsOfInput l))) (sym is)
         ∙ ap (λ (x : Bool). x && samePieces (drafted draft bytes) (piecesOf s (rowsOfInput s))) test
 
-    -- Where reading it is refused, with room for as many rows as the draft has, it doesn't show the draft's pieces.
+    -- If reading it is refused, with room for as many rows as the draft has, it doesn't show the draft's pieces.
     pub read-refuses : width * length (rowsIn draft) ≤ length old → (readAnswer e s old .number ≡ acceptance → ⊥) → shows e draft bytes ≡ false
     read-refuses room some = by-number (eqb (answer e s .number) 0) refl
       where
@@ -89,7 +89,7 @@ module _ (e : ℕ) (draft bytes : List ℕ) where
         by-number false test = by-answer false test
 
     module _ (zero : readAnswer e s old .number ≡ acceptance) where
-      -- Where it is accepted, there was room for its rows,
+      -- If it is accepted, there was room for its rows,
       pub read-room : width * readAnswer e s old .count ≤ length old
       read-room =
           let found = shown e s old zero in

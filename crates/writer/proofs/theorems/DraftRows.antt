@@ -1,4 +1,4 @@
--- The rows of a draft by their numbers: how many they are, and which numbers each has. Assumes nothing.
+-- The rows of a draft: how many there are, and which numbers each has. Assumes nothing.
 use Prim.Native.Nat.{ℕ, zero, suc, _+_, _*_, _/_, _≤_, _<_}
 use native.Mathlib.Omega.{arith}
 use mathlib.Core.Path.{_≡_, refl, ap, _∙_}
@@ -9,7 +9,7 @@ use Rattle.crmf.specs.meaning.Rows.{Row, width, numbers}
 use Rattle.crmf.proofs.Laws.{noRow, numbers-none, numbers-row}
 use Rattle.writer.specs.meaning.Writing.{rowsIn}
 
--- as many as the numbers have fours
+-- there are a quarter as many rows as numbers
 pub rows-fours : (d : List ℕ) → length (rowsIn d) ≡ length d / width
 unfolding rowsIn
 rows-fours [] = refl
@@ -18,7 +18,7 @@ rows-fours (k ∷ p ∷ []) = refl
 rows-fours (k ∷ p ∷ w ∷ []) = refl
 rows-fours (k ∷ p ∷ w ∷ u ∷ more) = omega (arith, rows-fours more)
 
--- so there are four numbers for each
+-- a draft has four numbers for each row
 pub rows-room : (d : List ℕ) → width * length (rowsIn d) ≤ length d
 rows-room d = omega (arith, rows-fours d)
 
@@ -26,7 +26,7 @@ rows-room d = omega (arith, rows-fours d)
 abbrev pub rowFrom : List ℕ → ℕ → Row
 rowFrom d at = record { kind = getD d at 0; first = getD d (at + 1) 0; whole = getD d (at + 2) 0; parent = getD d (at + 3) 0 }
 
--- such a row a place of four numbers further on
+-- the same row in a list that begins four numbers earlier
 row-further : (k p w u : ℕ) (d : List ℕ) (i : ℕ) → rowFrom (k ∷ p ∷ w ∷ u ∷ d) (width * suc i) ≡ rowFrom d (width * i)
 row-further k p w u d i =
     let at : width * suc i ≡ suc (suc (suc (suc (width * i)))) = omega arith in
@@ -45,17 +45,17 @@ row-numbers (k ∷ p ∷ w ∷ []) i there = absurd (omega arith)
 row-numbers (k ∷ p ∷ w ∷ u ∷ more) zero there = refl
 row-numbers (k ∷ p ∷ w ∷ u ∷ more) (suc i) there = rw (row-further k p w u more i) (row-numbers more i (omega arith))
 
--- so the rows from a number on begin with that of its four numbers
+-- the rows from number i on begin with the row of its four numbers
 pub row-cut : (d : List ℕ) (i : ℕ) → i < length (rowsIn d) → drop i (rowsIn d) ≡ rowFrom d (width * i) ∷ drop (suc i) (rowsIn d)
 row-cut d i there = drop-cons (rowsIn d) i noRow there ∙ ap (λ (r : Row). r ∷ drop (suc i) (rowsIn d)) (row-numbers d i there)
 
--- the numbers of rows are a draft of these
+-- the numbers of rows are a draft with these rows
 pub rows-back : (rs : List Row) → rowsIn (numbers rs) ≡ rs
 unfolding rowsIn
 rows-back [] = rw numbers-none
 rows-back (r ∷ rs) = rw (numbers-row r rs) (ap (λ (more : List Row). r ∷ more) (rows-back rs))
 
--- a draft of as many numbers as its rows have is these
+-- a draft without numbers to spare is the numbers of its rows
 pub fours : (d : List ℕ) → width * length (rowsIn d) ≡ length d → numbers (rowsIn d) ≡ d
 unfolding rowsIn
 fours [] is = numbers-none

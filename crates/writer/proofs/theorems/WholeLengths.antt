@@ -11,13 +11,14 @@ use lib.Seq.{slice, length-slice}
 use borrow.Author.Tests.{lt-leb, le-leb, eqb-true, eqb-false}
 use Rattle.der.specs.meaning.Length.{lengthOctets}
 use Rattle.der.specs.meaning.Bounds.{longest}
+use Rattle.crmf.specs.meaning.Kinds as kinds
 use Rattle.crmf.specs.meaning.Rows.{Row, container}
 use Rattle.crmf.specs.meaning.Pieces.{pieceOf}
 use Rattle.crmf.specs.steps.rows.Assembly.{wholeOf, implied}
 use Rattle.crmf.proofs.Laws.{whole-container, whole-leaf, implied-type, implied-none}
 use Rattle.writer.specs.steps.Inner.{Stands, Whole, lies}
 
--- a number stands for itself, and any past the longest for any other
+-- a number stands for itself, and any that is greater than the longest for any other
 pub stands-same : {r n : ℕ} → r ≡ n → Stands r n
 stands-same is = record { side = ap (λ (k : ℕ). leb k longest) is; same = λ short. is }
 
@@ -25,25 +26,25 @@ pub stands-past : {r n : ℕ} → longest < r → longest < n → Stands r n
 stands-past {r} {n} long other = record { side = lt-leb r longest long ∙ sym (lt-leb n longest other); same = λ short. absurd (omega arith) }
 
 -- the implied type's length
-pub implied-size : (kind : ℕ) → kind ≡ 74 → length (implied kind) ≡ 11
+pub implied-size : (kind : ℕ) → kind ≡ kinds.regInfoCertReq → length (implied kind) ≡ 11
 implied-size kind is = ap (λ (k : ℕ). length (implied k)) is ∙ ap length implied-type
 
-pub implied-empty : (kind : ℕ) → (kind ≡ 74 → ⊥) → length (implied kind) ≡ 0
+pub implied-empty : (kind : ℕ) → (kind ≡ kinds.regInfoCertReq → ⊥) → length (implied kind) ≡ 0
 implied-empty kind other = ap length (implied-none kind other)
 
 pub implied-short : (kind : ℕ) → length (implied kind) ≤ 11
-implied-short kind = go (eqb kind 74) refl
+implied-short kind = go (eqb kind kinds.regInfoCertReq) refl
   where
-    go : (b : Bool) → eqb kind 74 ≡ b → length (implied kind) ≤ 11
-    go true is = omega (arith, implied-size kind (eqb-true kind 74 is))
-    go false other = omega (arith, implied-empty kind (eqb-false kind 74 other))
+    go : (b : Bool) → eqb kind kinds.regInfoCertReq ≡ b → length (implied kind) ≤ 11
+    go true is = omega (arith, implied-size kind (eqb-true kind kinds.regInfoCertReq is))
+    go false other = omega (arith, implied-empty kind (eqb-false kind kinds.regInfoCertReq other))
 
 -- the octets of a leaf's piece
 pub leaf-octets : (bytes : List ℕ) (r : Row) → container (r .kind) ≡ false → pieceOf bytes r .octets ≡ slice (r .first) (r .first + r .whole) bytes
 leaf-octets bytes r is = ap (λ (b : Bool). elim b as (λ x. List ℕ) [ true ↦ [] | false ↦ slice (r .first) (r .first + r .whole) bytes ]) is
 
 module _ (bytes : List ℕ) (r : Row) (inner : ℕ) where
-  -- the test of a row, where it is known whether the row lies in the slice
+  -- the test of a row, by whether the row lies in the slice
   tested : (n k : ℕ) (b : Bool) → lies bytes r ≡ b → leb n longest ≡ (b && leb k longest) → wholeOf (pieceOf bytes r) inner ≡ k
       → leb n longest ≡ (lies bytes r && leb (wholeOf (pieceOf bytes r) inner) longest)
   tested n k b lying test whole = test ∙ ap₂ (λ (x : Bool) (y : ℕ). x && leb y longest) (sym lying) (sym whole)

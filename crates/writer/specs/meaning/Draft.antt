@@ -1,4 +1,5 @@
--- What it means that a batch has a draft's rows, on the batch's own rows alone: it names nothing that puts a batch together. Assumes nothing.
+-- What it means that a batch has a draft's rows: SPECIFICATION 6. It speaks of the batch's own rows and names nothing that puts a batch
+-- together. Assumes nothing.
 use Prim.Native.Nat.{ℕ, _+_}
 use mathlib.Core.Path.{_≡_}
 use mathlib.Core.Bool.{Bool, true, _&&_, _||_}
@@ -16,7 +17,7 @@ inside bytes [] = true
 inside bytes (r ∷ rs) = (container (r .kind) || leb (r .first + r .whole) (length bytes)) && inside bytes rs
 
 -- "A batch has a draft's rows if its own rows show the same kinds and parents in the same order and, in each leaf, the same length and the
--- bytes the draft points at"; it is one that reading in the edition accepts.
+-- bytes the draft points at" (SPECIFICATION 6); and reading in the edition accepts the batch.
 pub record HasRows (e : ℕ) (draft bytes s : List ℕ) : Type 0 where
   pub octets : Octets s
   pub batch : InGrammar e s

@@ -1,4 +1,5 @@
--- Writing a draft in an edition: the answer and the output for every input, in document 01's order of refusals. Assumes nothing.
+-- Writing a draft in an edition, the answer and the output for every input: SPECIFICATION 6. The refusals are in document 01's order.
+-- Assumes nothing.
 use Prim.Native.Nat.{ℕ, _*_}
 use mathlib.Core.Bool.{Bool, true, false, _&&_, _||_}
 use mathlib.Core.List.{List, [], _∷_}
@@ -32,7 +33,7 @@ mostRows = 32767
 abbrev pub shaped : List ℕ → Bool
 shaped draft = eqb (width * length (rowsIn draft)) (length draft) && leb (length (rowsIn draft)) mostRows
 
--- the pieces that a draft shows, and the only batch that can have them
+-- the pieces that a draft shows, and the candidate: the only batch that can have them (SPECIFICATION 6, steps 1 to 4)
 abbrev pub drafted : List ℕ → List ℕ → List Piece
 drafted draft bytes = piecesOf bytes (rowsIn draft)
 
@@ -47,22 +48,22 @@ samePieces (x ∷ xs) [] = false
 samePieces (x ∷ xs) (y ∷ ys) =
     (eqb (x .kind) (y .kind) && (eqb (x .parent) (y .parent) && same (x .octets) (y .octets))) && samePieces xs ys
 
--- whether a batch can be put together from a draft: its leaves lie in the slice, and nothing is too long
+-- whether the candidate can be put together: the leaves lie in the slice, and nothing is too long
 abbrev pub assembles : List ℕ → List ℕ → Bool
 assembles draft bytes =
     inside bytes (rowsIn draft) && (noneLonger longest 0 (drafted draft bytes) && leb (length (candidate draft bytes)) longest)
 
--- and whether reading it accepts it and shows the draft's pieces
+-- whether reading accepts the candidate and shows the draft's pieces
 abbrev pub shows : ℕ → List ℕ → List ℕ → Bool
 shows e draft bytes =
     let s = candidate draft bytes in
     eqb (answer e s .number) acceptance && samePieces (drafted draft bytes) (piecesOf s (rowsOfInput s))
 
--- Whether a draft describes a batch.
+-- Whether a draft describes a batch (SPECIFICATION 6).
 unfoldable pub described : ℕ → List ℕ → List ℕ → Bool
 described e draft bytes = shaped draft && (assembles draft bytes && shows e draft bytes)
 
--- "Order of writing refusals: 13, 12, 11"; "Writing answers 0 and the batch's length"
+-- "Order of writing refusals: 13, 12, 11" (SPECIFICATION 4); "Writing answers 0 and the batch's length"
 unfoldable pub writeAnswer : ℕ → List ℕ → List ℕ → List ℕ → Answer
 writeAnswer e draft bytes old =
     elim (eqb e rfc2511 || eqb e rfc4211) [

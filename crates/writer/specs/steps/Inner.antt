@@ -21,7 +21,7 @@ use Rattle.writer.specs.meaning.Writing.{mostRows, rowsIn, shaped, draft
 abbrev pub rowOf : Given → Row
 rowOf r = record { kind = r .kind; first = r .first; whole = r .whole; parent = r .parent }
 
--- A number stands for another: it is that one up to the longest length of a batch, or both are past it.
+-- A number stands for another: both are equal and at most the longest length of a batch, or both are greater.
 pub record Stands (r n : ℕ) : Type 0 where
   pub side : leb r longest ≡ leb n longest
   pub same : r ≤ longest → r ≡ n
@@ -30,12 +30,12 @@ pub record Stands (r n : ℕ) : Type 0 where
 abbrev pub lies : List ℕ → Row → Bool
 lies bytes r = container (r .kind) || leb (r .first + r .whole) (length bytes)
 
--- A number is the whole length of a row, where that lies in the slice and isn't too long; else it is past the longest.
+-- A number is the whole length of a row if the row lies in the slice and isn't too long; otherwise it is greater than the longest.
 pub record Whole (bytes : List ℕ) (r : Row) (inner n : ℕ) : Type 0 where
   pub side : leb n longest ≡ (lies bytes r && leb (wholeOf (pieceOf bytes r) inner) longest)
   pub same : n ≤ longest → n ≡ wholeOf (pieceOf bytes r) inner
 
--- no leaf leaves the slice and no piece is too long, of the rows from number n on
+-- of the rows from number n on, no leaf leaves the slice and no piece is too long
 abbrev pub sound : List ℕ → ℕ → List Row → Bool
 sound bytes n rs = inside bytes rs && noneLonger longest n (piecesOf bytes rs)
 
@@ -43,7 +43,7 @@ sound bytes n rs = inside bytes rs && noneLonger longest n (piecesOf bytes rs)
 abbrev pub children : List ℕ → List Row → ℕ → ℕ
 children bytes rs k = childrenOf k (suc k) (piecesOf bytes (drop (suc k) rs))
 
--- a table has them for each row
+-- a table has this number for each row
 abbrev pub Summed : List ℕ → List Row → List ℕ → Type 0
 Summed bytes rs table = (k : ℕ) → k < length rs → getD table k 0 ≡ children bytes rs k
 
@@ -52,13 +52,13 @@ pub record Appended (old : List ℕ) (at : ℕ) (octets : List ℕ) (next : ℕ)
   pub place : next ≡ at + length octets
   pub kept : next ≤ length old → take next new ≡ take at old ++ octets
 
--- a table that is lent for the sums has a zero for each row, of which there are no more than a batch can have
+-- a table that is lent for the sums has a zero for each row, and there are no more rows than a batch can have
 pub record Blank (rs : List Row) (table : List ℕ) : Type 0 where
   pub few : length rs ≤ mostRows
   pub room : length rs ≤ length table
   pub zero : (k : ℕ) → k < length rs → getD table k 0 ≡ 0
 
--- A number is added to the parent's, if that is below a limit.
+-- A number is added to the parent's sum, if the parent is below a limit.
 pub record Added (old : List ℕ) (parent limit n : ℕ) (new : List ℕ) : Type 0 where
   pub below : (k : ℕ) → k < limit → getD new k 0 ≡ elim (eqb parent k) [ true ↦ n | false ↦ 0 ] + getD old k 0
   pub others : (k : ℕ) → limit ≤ k → getD new k 0 ≡ getD old k 0
@@ -70,7 +70,7 @@ pub record Lent (draft bytes sums scratch : List ℕ) : Type 0 where
   pub summed : Summed bytes (rowsIn draft) sums
   pub room : longest ≤ length scratch
 
--- A number stands for how many some octets are, and a scratch begins with them.
+-- A number stands for the number of some octets, and a scratch begins with them.
 pub record Begins (octets : List ℕ) (n : ℕ) (scratch : List ℕ) : Type 0 where
   pub counted : Stands n (length octets)
   pub first : n ≤ longest → take n scratch ≡ octets
@@ -99,7 +99,7 @@ pub record AddedUp (draft bytes scratch table : List ℕ) : Type 0 where
   pub octets : longest ≤ length scratch
   pub rows : width * length (rowsIn draft) ≤ length table
 
--- A draft is found to describe a batch, with whose octets a scratch begins, or nothing.
+-- A draft is found to describe a batch, and a scratch begins with its octets; or it describes nothing.
 abbrev pub Built : ℕ → List ℕ → List ℕ → List ℕ → Outcome → Type 0
 Built e draft bytes scratch (Batch n) = (described e draft bytes ≡ true) × (take n scratch ≡ candidate draft bytes) × (n ≤ longest)
 Built e draft bytes scratch Nothing = described e draft bytes ≡ false

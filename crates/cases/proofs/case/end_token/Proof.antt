@@ -1,4 +1,4 @@
--- `cases::case::end_token` meets its contract: the times that are left, after those that stand there, are all. The measure is the times that are left.
+-- `cases::case::end_token` meets its contract: the repetitions that are left, after those done, give the whole. The measure is how many are left.
 -- Assumes nothing.
 use Prim.Native.Nat.{_+_, _-_}
 use borrow.Author.Needs.{needs}

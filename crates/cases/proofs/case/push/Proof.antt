@@ -1,4 +1,4 @@
--- `cases::case::push` meets its contract: an octet more, or none where the room is full. Assumes nothing.
+-- `cases::case::push` meets its contract: an octet more, or none if the room is full. Assumes nothing.
 use borrow.Author.Needs.{needs}
 use Rattle.cases.proofs.Steps.{pushed-room, pushed-full}
 use Rattle.cases.proofs.case.push.Statement.{statement}

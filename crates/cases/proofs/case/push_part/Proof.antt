@@ -1,4 +1,5 @@
--- `cases::case::push_part` meets its contract: what is left to put, after what is put, is the whole. The measure is what is left. Assumes nothing.
+-- `cases::case::push_part` meets its contract: adding the octets that are left to those added gives the whole. The measure is how many are left.
+-- Assumes nothing.
 use Prim.Native.Nat.{_+_, _-_}
 use borrow.Author.Needs.{needs}
 use mathlib.Core.Path.{_≡_, refl, sym, ap, _∙_}

@@ -1,6 +1,6 @@
 -- `crmf::explain::list`, `element` and `inside` meet their contracts, by one induction on the bytes that are left: an inside has fewer. The
--- list's loop keeps the answer from its cursor on the whole list's; an element's answer is what its line, its inside and its value say.
--- Assumes nothing.
+-- list's loop keeps this: the answer from its cursor on is the whole list's. An element's answer is what its line, its inside and its value
+-- say. Assumes nothing.
 use Prim.Native.Nat.{ℕ, _+_, _-_, _*_, _≤_, _<_}
 use mathlib.Core.Path.{_≡_, refl, sym, ap, subst, _∙_}
 use native.Mathlib.Omega.{arith}

@@ -1,5 +1,5 @@
 -- `crmf::recognise::list` and `element` meet their contracts, by one induction on the bytes that are left: an inside has fewer. The list's loop
--- keeps the count from its place on the whole list's; an element's is what its line and its content say. Assumes nothing.
+-- keeps this: the count from its place on is the whole list's. An element's count is what its line and its content say. Assumes nothing.
 use Prim.Native.Nat.{ℕ, suc, _+_, _-_, _*_, _≤_, _<_}
 use mathlib.Core.Path.{_≡_, refl, sym, ap, subst, _∙_}
 use mathlib.Core.List.{List}

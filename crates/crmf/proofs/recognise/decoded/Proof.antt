@@ -1,4 +1,4 @@
--- `crmf::recognise::decoded` meets its contract: 0 is the unrecognised, and any other number one more than the rows. Assumes nothing.
+-- `crmf::recognise::decoded` meets its contract: 0 means unrecognised, and any other number is one more than the rows. Assumes nothing.
 use borrow.Author.Needs.{needs}
 use borrow.Author.Tests.{eq-eqb, ne-eqb}
 use Rattle.crmf.specs.steps.recognise.Inner.{decode}

@@ -1,6 +1,6 @@
 -- `crmf::rows::list`, `element` and `inside` meet their contracts, by one induction on the bytes that are left: an inside has fewer. The
--- loop keeps what is written before its spot, and what is left of the list's rows; an element writes its own rows and those inside it.
--- Assumes nothing.
+-- list's loop keeps account of the rows that are written before its spot and those that are left. An element writes its own rows and those
+-- inside it. Assumes nothing.
 use Prim.Native.Nat.{ℕ, _+_, _-_, _*_, _≤_, _<_}
 use mathlib.Core.Path.{_≡_, refl, sym, ap, subst, _∙_}
 use mathlib.Core.Bool.{true}

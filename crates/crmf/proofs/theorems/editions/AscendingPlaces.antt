@@ -24,13 +24,13 @@ abbrev pub Ascends : ℕ → ℕ → List Occurrence → Type 0
 Ascends low high [] = Unit {0}
 Ascends low high (o ∷ os) = (low ≤ o .place) × (o .place < high) × Ascends (suc (o .place)) high os
 
--- so they do in a wider range
+-- they ascend in a wider range too
 ascends-wider : (low high a b : ℕ) (os : List Occurrence) → a ≤ low → high ≤ b → Ascends low high os → Ascends a b os
 ascends-wider low high a b [] down up order = tt
 ascends-wider low high a b (o ∷ os) down up order =
     (omega arith, omega arith, ascends-wider (suc (o .place)) high (suc (o .place)) b os (omega arith) up (order .2))
 
--- and in two ranges, one behind the other
+-- and in two ranges, one after the other
 ascends-append : (low mid high : ℕ) (a b : List Occurrence) → low ≤ mid → mid ≤ high → Ascends low mid a → Ascends mid high b
     → Ascends low high (a ++ b)
 ascends-append low mid high [] b down up left right = ascends-wider mid high low high b down (omega arith) right
@@ -44,8 +44,8 @@ ascends-least low high o p (x ∷ os) order member = go (List·Memᴰ·cases-con
   where
     go : (p ≡ x) ⊎ List·Memᴰ p os → (Ascends low high (o ∷ os) → List·Memᴰ p os → o .place < p .place) → o .place < p .place
     go (inl same) later = rw same (order .2 .0)
-    go (inr behind) later =
-        later (order .0, order .1, ascends-wider (suc (x .place)) high (suc (o .place)) high os (omega arith) (omega arith) (order .2 .2)) behind
+    go (inr after) later =
+        later (order .0, order .1, ascends-wider (suc (x .place)) high (suc (o .place)) high os (omega arith) (omega arith) (order .2 .2)) after
 
 -- So the first of the editions that a test takes has the least place of them.
 pub first-least : (f : ℕ → Bool) (low high : ℕ) (os : List Occurrence) (o p : Occurrence) → Ascends low high os → firstOf f os ≡ some o
@@ -59,13 +59,13 @@ first-least f low high (x ∷ os) o p order here member taken =
     go true own (inl same) later =
         let first : x ≡ o = cc (first-here f x os own) in
         rw (← first, same) (omega arith)
-    go true own (inr behind) later =
+    go true own (inr after) later =
         let first : x ≡ o = cc (first-here f x os own) in
-        rw (← first) (omega (arith, ascends-least low high x p os order behind))
+        rw (← first) (omega (arith, ascends-least low high x p os order after))
     go false passed (inl same) later = never-both (f (x .edition)) (rw same at taken) passed
-    go false passed (inr behind) later = later (sym (first-later f x os passed) ∙ here) behind taken
+    go false passed (inr after) later = later (sym (first-later f x os passed) ∙ here) after taken
 
--- what a form's mark says stands at its place
+-- the occurrence that a mark gives has the place of its element
 occurs-ascend : (m : Mark) (p : ℕ) → Ascends p (suc p) (occurs m p)
 occurs-ascend both p = tt
 occurs-ascend (alone e d) p = (omega arith, omega arith, tt)
@@ -75,7 +75,7 @@ module _ (left place id first whole : ℕ) (c : List ℕ) (inside rest : Tree) (
   own : Formed place id first whole c inside (WellFormed left (place + length (header id c)) inside)
   own = well-formed-element left place id first whole c inside rest .0 formed .0
 
-  -- the elements inside a well-formed element are well-formed behind its header, and fit into its content
+  -- the elements inside a well-formed element are well-formed after its header, and fit into its content
   formed-inside : WellFormed left (place + length (header id c)) inside × (length (encode inside) ≤ length c)
   formed-inside = go (constructed id) refl
     where
@@ -83,12 +83,12 @@ module _ (left place id first whole : ℕ) (c : List ℕ) (inside rest : Tree) (
       go true made = let (filled, inner) = own .filled made in (inner, rw (ap length filled) (omega arith))
       go false plain = let bare = own .valued plain .0 in (rw bare (well-formed-none left (place + length (header id c))), rw bare (omega (arith, ap length encode-none)))
 
-  -- places at the element, inside it and behind it ascend
+  -- places at the element, inside it and after it ascend
   element-ascends : (here inner later : List Occurrence) → Ascends first (suc first) here
       → Ascends (place + length (header id c)) (place + length (header id c) + length (encode inside)) inner
       → Ascends (place + whole) (place + whole + length (encode rest)) later
       → Ascends place (place + length (encode (element id first whole c inside rest))) (here ++ (inner ++ later))
-  element-ascends here inner later at-it in-it behind =
+  element-ascends here inner later at-it in-it after =
       let h = length (header id c) in
       let sized = own .sized in
       let size = length-append (header id c) c in
@@ -101,7 +101,7 @@ module _ (left place id first whole : ℕ) (c : List ℕ) (inside rest : Tree) (
       (ascends-wider first (suc first) place (place + h) here (omega arith) (omega arith) at-it)
       (ascends-append (place + h) (place + whole) ends inner later (omega arith) (omega arith)
       (ascends-wider (place + h) (place + h + length (encode inside)) (place + h) (place + whole) inner (omega arith) (omega arith) in-it)
-      (ascends-wider (place + whole) (place + whole + length (encode rest)) (place + whole) ends later (omega arith) (omega arith) behind))
+      (ascends-wider (place + whole) (place + whole + length (encode rest)) (place + whole) ends later (omega arith) (omega arith) after))
 
 -- inside an element, from the elements inside it
 ascends-within : (low high j : ℕ) (t : Tree) → Ascends low high (trail j t) → Ascends low high (trailIn j t)
@@ -129,10 +129,10 @@ trail-ascends (suc left) place k (element id first whole c inside rest) formed =
     split : (n : ℕ) (later : List Occurrence) → Ascends (place + h) (place + h + length (encode inside)) (trail (line n .inside) inside)
         → Ascends (place + whole) (place + whole + length (encode rest)) later
         → Ascends place (place + length (encode t)) (occurs (line n .mark) first ++ (trailIn (line n .inside) inside ++ later))
-    split n later inner behind =
+    split n later inner after =
         let j = line n .inside in
         element-ascends left place id first whole c inside rest formed (occurs (line n .mark) first) (trailIn j inside) later
-        (occurs-ascend (line n .mark) first) (ascends-within (place + h) (place + h + length (encode inside)) j inside inner) behind
+        (occurs-ascend (line n .mark) first) (ascends-within (place + h) (place + h + length (encode inside)) j inside inner) after
 
     go : Way k id c inside → ((j : ℕ) → Ascends (place + h) (place + h + length (encode inside)) (trail j inside))
         → ((j : ℕ) → Ascends (place + whole) (place + whole + length (encode rest)) (trail j rest))
@@ -145,12 +145,12 @@ trail-ascends (suc left) place k (element id first whole c inside rest) formed =
     go (onward n next found fine on) inner later =
         rw (trail-on k n id first whole c inside rest found next fine on) (split n (trail next rest) (inner (line n .inside)) (later next))
 
--- places behind an element ascend from it on
-behind-ascends : (left place id first whole : ℕ) (c : List ℕ) (inside rest : Tree) (later : List Occurrence)
+-- places after an element ascend from the element on
+after-ascends : (left place id first whole : ℕ) (c : List ℕ) (inside rest : Tree) (later : List Occurrence)
     → WellFormed (suc left) place (element id first whole c inside rest) → Ascends (place + whole) (place + whole + length (encode rest)) later
     → Ascends place (place + length (encode (element id first whole c inside rest))) later
-behind-ascends left place id first whole c inside rest later formed behind =
-    element-ascends left place id first whole c inside rest formed [] [] later tt tt behind
+after-ascends left place id first whole c inside rest later formed after =
+    element-ascends left place id first whole c inside rest formed [] [] later tt tt after
 
 mutual
   unfolding occurrences
@@ -168,7 +168,7 @@ mutual
       (occurrences-ascend m (suc left) (place + whole) (well-formed-element left place id first whole c inside rest .0 formed .1))
   occurrences-ascend (choose n chosen m) zero place formed = absurd (well-formed-deep _ _ _ _ _ _ _ formed)
   occurrences-ascend (choose {id = id} {first = first} {whole = whole} {c = c} {inside = inside} {rest = rest} n chosen m) (suc left) place formed =
-      behind-ascends left place id first whole c inside rest (occurrences m) formed (occurrences-ascend m (suc left) (place + whole) (well-formed-element left place id first whole c inside rest .0 formed .1))
+      after-ascends left place id first whole c inside rest (occurrences m) formed (occurrences-ascend m (suc left) (place + whole) (well-formed-element left place id first whole c inside rest .0 formed .1))
 
   -- so do those inside an element
   pub occurrencesIn-ascend : {R : ℕ → Bool} {i : Inside} {t : Tree} (w : Within R i t) (left place : ℕ) → WellFormed left place t

@@ -1,5 +1,5 @@
--- In what is in one edition's grammar every difference that occurs is that edition's own. So the other edition's walk passes alike where none
--- occurs, and otherwise stops at the first. Assumes nothing.
+-- Every difference that occurs in a tree of one edition's grammar is that edition's own. So the other edition's walk passes with the same
+-- answer if none occurs, and otherwise stops at the first. Assumes nothing.
 use Prim.Native.Nat.{ℕ}
 use mathlib.Core.Path.{_≡_, refl, sym, ap, _∙_}
 use mathlib.Core.Bool.{Bool, true, false, not}
@@ -22,12 +22,12 @@ use Rattle.crmf.proofs.theorems.editions.ReadableSets.{firstOf, unread,
 use Rattle.crmf.proofs.theorems.editions.FirstSeen.{Edition, first-edition, second-edition}
 use Rattle.crmf.proofs.theorems.editions.OneEdition.{other}
 
--- How a walk follows one that passes, by the differences that occur: it passes alike, or stops at the first.
+-- How a walk follows one that passes, by the differences that occur: it answers the same, or stops at the first.
 abbrev pub StopsAt : Walked → Walked → List Occurrence → Type 0
 StopsAt w u [] = w ≡ u
 StopsAt w u (o ∷ os) = (d : ℕ) × ((r : Tally) × (w ≡ Broken (o .place) d r))
 
--- what isn't unread is read
+-- a form that is not unread is read
 read : (b : Bool) → not b ≡ false → b ≡ true
 read true no-unread = refl
 read false no-unread = sym no-unread
@@ -46,7 +46,7 @@ module _ {e : ℕ} (n : Name) {t : Tree} (m : Matches (λ x. eqb x e) (content n
       rw (trail-occurrences n m) at (passed-reads (λ x. eqb x e) s r (start n) around t passed) in
       eqb-true _ _ (read (eqb (o .edition) e) (first-none (unread (λ x. eqb x e)) (occurrences m) o clear member))
 
-  -- The other edition's walk passes alike where none occurs, and otherwise stops at the first.
+  -- The other edition's walk answers the same if none occurs, and otherwise stops at the first.
   pub other-walk : Edition e → (r : Tally) × ((walk (λ x. eqb x e) s (start n) around t ≡ Passed r)
       × StopsAt (walk (λ x. eqb x (other e)) s (start n) around t) (Passed r) (occurrences m))
   unfolding firstOf

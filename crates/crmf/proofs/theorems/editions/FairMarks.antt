@@ -1,5 +1,5 @@
--- The grammar's marks name edition 1 or 2 and a difference that is not 0: computed over the lines, and so of every occurrence of a trail.
--- Assumes nothing.
+-- The grammar's marks name edition 1 or 2 and a difference that is not 0. This is computed over the lines, so it holds of every occurrence
+-- of a trail. Assumes nothing.
 use Prim.Native.Nat.{ℕ}
 use mathlib.Core.Path.{_≡_, refl}
 use mathlib.Core.Bool.{Bool, true, false, not, _&&_, _||_, and-eq-true-iff}
@@ -18,7 +18,7 @@ abbrev pub fair : Mark → Bool
 fair both = true
 fair (alone e d) = (eqb e 1 || eqb e 2) && not (eqb d 0)
 
--- The lines of the table have such marks: computed, and so the line of any number.
+-- The lines of the table have such marks, by computing, and so has the line of any number.
 pub line-fair : (n : ℕ) → fair (line n .mark) ≡ true
 unfolding computed
 line-fair = at-line (λ x. fair (x .mark)) refl
@@ -37,7 +37,7 @@ fair-first o os good =
     let own = and-eq-true-iff (eqb (o .edition) 1 || eqb (o .edition) 2) (not (eqb (o .difference) 0)) .0 (whole .0) in
     (own .0, not-true (eqb (o .difference) 0) (own .1), whole .1)
 
--- two lists of them together
+-- two such lists together
 pub fair-append : (a b : List Occurrence) → fairAll a ≡ true → fairAll b ≡ true → fairAll (a ++ b) ≡ true
 unfolding fairAll
 fair-append [] b left right = right

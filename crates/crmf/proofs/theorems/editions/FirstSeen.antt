@@ -37,21 +37,21 @@ abbrev pub firstOr : ℕ × ℕ → Option Occurrence → ℕ × ℕ
 firstOr h none = h
 firstOr h (some o) = (o .difference, o .place)
 
--- what is known of an edition behind some occurrences: what was known, or else their first of the edition
+-- what is known of an edition after some occurrences: what was known before them, or else the first of them that is of the edition
 unfoldable pub after : ℕ → ℕ × ℕ → List Occurrence → ℕ × ℕ
 after e h os = elim (eqb (h .0) 0) [ false ↦ h | true ↦ firstOr h (firstOf (λ x. eqb x e) os) ]
 
--- it stays where something was known
+-- it stays if something was known
 pub after-known : (e : ℕ) (h : ℕ × ℕ) (os : List Occurrence) → eqb (h .0) 0 ≡ false → after e h os ≡ h
 unfolding after
 after-known e h os known = rw (known, after)
 
--- where nothing was, it is the first of the edition
+-- if nothing was known, it is the first of the edition
 pub after-unknown : (e : ℕ) (h : ℕ × ℕ) (os : List Occurrence) → eqb (h .0) 0 ≡ true → after e h os ≡ firstOr h (firstOf (λ x. eqb x e) os)
 unfolding after
 after-unknown e h os free = rw (free, after)
 
--- it stays where nothing occurs
+-- it stays if nothing occurs
 pub after-none : (e : ℕ) (h : ℕ × ℕ) → after e h [] ≡ h
 unfolding after firstOf
 after-none e h = go (eqb (h .0) 0)
@@ -73,7 +73,7 @@ first-fair f (x ∷ os) o good here = go (f (x .edition)) refl (first-fair f os 
         rw (← same) (fair-first x os good .1)
     go false passed later = later (fair-first x os good .2) (sym (first-later f x os passed) ∙ here)
 
--- behind occurrences and then others
+-- after occurrences and then others
 pub after-append : (e : ℕ) (h : ℕ × ℕ) (a b : List Occurrence) → fairAll a ≡ true → after e h (a ++ b) ≡ after e (after e h a) b
 after-append e h a b good = by-known (eqb (h .0) 0) refl
   where
@@ -162,7 +162,7 @@ seen-within e s j place t inner = go (eqb j 0)
     go true = sym (after-none e (firstSeen e s))
     go false = inner
 
--- What the walk that reads every form has met of an edition: what was met before it, or where that is none the first of its trail.
+-- What the walk that reads every form has met of an edition: what was met before it, or else the first of its trail.
 pub walk-seen : {e : ℕ} → Edition e → (s : Tally) (k around : ℕ) (t : Tree)
     → firstSeen e (seenOf (walk all s k around t)) ≡ after e (firstSeen e s) (trail k t)
 walk-seen {e} ed s k around tree.none = rw (trail-end, after-none e (firstSeen e s)) (go (closed k) refl)
@@ -185,7 +185,7 @@ walk-seen {e} ed s k around (element id first whole c inside rest) =
     in-it : ℕ → List Occurrence
     in-it n = trailIn (line n .inside) inside
 
-    -- behind the element's inside
+    -- after the element's inside
     settled : (n : ℕ) (w : Walked) → innerWalk all (withElement (line n) first whole s) (line n .inside) first inside ≡ w
         → ((m : Tally) (j : ℕ) → firstSeen e (seenOf (walk all m j first inside)) ≡ after e (firstSeen e m) (trail j inside))
         → firstSeen e (seenOf w) ≡ after e h (here n ++ in-it n)

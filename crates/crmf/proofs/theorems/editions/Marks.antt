@@ -28,7 +28,7 @@ use Rattle.crmf.proofs.theorems.explain.EveryForm.{all, isPassed, walk-
 use Rattle.crmf.proofs.theorems.editions.ReadableSets.{firstOf, unread, passed-follows, own-walk}
 use Rattle.crmf.proofs.theorems.editions.FirstSeen.{Edition, firstSeen, after, seenOf, walk-seen}
 
--- the occurrences in an element that keeps a choice, and behind it
+-- the occurrences in an element that keeps a choice, and after it
 abbrev keptOccurrences : (R : ℕ → Bool) (first : ℕ) (h : Choice) (c : List ℕ) (inside rest : Tree) → Keeps R h c inside rest → List Occurrence
 keptOccurrences R first (taking f ps) c inside rest k = occurs (f .mark) first ++ (occurrencesIn (k .within) ++ occurrences (k .further))
 keptOccurrences R first (choosing id s ns) c inside rest k = occurrences (k .further)
@@ -45,7 +45,7 @@ unfolding begins-past
 past-occurrences R o fs ps none ok b = refl
 past-occurrences R o fs ps (element id first whole c inside rest) ok b = refl
 
--- The occurrences of a meaning are those in the first element and behind it.
+-- The occurrences of a meaning are those in the first element and after it.
 begun : {R : ℕ → Bool} {ps : List Part} {t : Tree} (m : Matches R ps t) → occurrences m ≡ begunOccurrences R ps t (matches-begin m)
 unfolding occurrences matches-begin
 begun end = refl
@@ -61,7 +61,7 @@ module _ (R : ℕ → Bool) where
       let alike = passed-follows (walk R emptyTally k 0 t) (walk all emptyTally k 0 t) (firstOf (unread R) (trail k t)) r (own-walk R emptyTally k 0 t) passed .1 in
       sym (walk-passes emptyTally k 0 t) ∙ ap isPassed alike
 
-  -- and over what stands inside an element
+  -- and over what is inside an element
   within-pass : (i : Inside) (t : Tree) → Within R i t → passesIn (insideLine i) t ≡ true
   unfolding insideLine
   within-pass free t w = refl

@@ -1,5 +1,5 @@
--- The walk of one edition alone is decided by the walk that reads every form: what that has met of the other edition is where it breaks, and
--- it answers alike where that has met none. Assumes nothing.
+-- The walk that reads every form decides the walk of one edition alone: the latter breaks at the first form of the other edition that was
+-- met, and answers the same if none was met. Assumes nothing.
 use Prim.Native.Nat.{ℕ, _-_}
 use mathlib.Core.Path.{_≡_, refl, sym, _∙_, ap}
 use mathlib.Core.Bool.{Bool, true, false, not, _&&_, _||_, and-true, and-false}
@@ -38,7 +38,7 @@ apart-other ed f known = go (eqb f 1) refl ed
     go false more first-edition = rw more (sym (rw more at known))
     go false more second-edition = rw (more, rw more at known)
 
--- tests that agree take the same first
+-- tests that agree take the same first occurrence
 first-alike : (f g : ℕ → Bool) (o : Occurrence) (os : List Occurrence) → f (o .edition) ≡ g (o .edition) → firstOf f os ≡ firstOf g os
     → firstOf f (o ∷ os) ≡ firstOf g (o ∷ os)
 first-alike f g o os same later = go (g (o .edition)) refl
@@ -68,11 +68,11 @@ module _ {e : ℕ} (ed : Edition e) (s : Tally) (k around : ℕ) (t : Tree) (fre
       walk-seen (other-edition ed) s k around t
       ∙ after-unknown (other e) (firstSeen (other e) s) (trail k t) (eq-eqb (firstSeen (other e) s .0) 0 fresh)
 
-  -- the walk follows by it
+  -- the walk follows the one that reads every form by it
   own-follows : Follows (walk (λ x. eqb x e) s k around t) (walk all s k around t) (firstOf (λ x. eqb x (other e)) (trail k t))
   own-follows = rw (first-unread ed (trail k t) (trail-fair k t)) at (own-walk (λ x. eqb x e) s k around t)
 
-  -- Where none of the other's was met, it answers alike.
+  -- If none of the other's was met, it answers the same.
   pub own-alike : foreign e (walk all s k around t) .0 ≡ 0 → walk (λ x. eqb x e) s k around t ≡ walk all s k around t
   own-alike clear = go (firstOf (λ x. eqb x (other e)) (trail k t)) refl own-follows
     where
@@ -99,7 +99,7 @@ module _ {e : ℕ} (ed : Edition e) (s : Tally) (k around : ℕ) (t : Tree) (fre
       go none is alike = absurd (seen (ap (λ (h : ℕ × ℕ). h .0) (rw is at seen-first) ∙ fresh))
       go (some o) is stops = rw (rw is at seen-first) stops
 
-  -- So it passes where the walk that reads every form does and has met none of the other's.
+  -- So it passes exactly when the walk that reads every form passes and has met none of the other's.
   pub own-passes : isPassed (walk (λ x. eqb x e) s k around t)
       ≡ (passes k t && eqb (foreign e (walk all s k around t) .0) 0)
   own-passes = go (eqb (foreign e (walk all s k around t) .0) 0) refl

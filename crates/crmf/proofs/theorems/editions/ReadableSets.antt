@@ -1,5 +1,5 @@
--- Theorem 4. The walk that reads every form decides every other walk: a walk that reads fewer forms goes as it goes, unless its trail has an
--- occurrence that may not be read, and then it breaks at the first of them. Assumes nothing.
+-- Theorem 4. The walk that reads every form decides every other walk: a walk that reads fewer forms answers the same, unless the trail has
+-- an occurrence that may not be read. Then it breaks at the first of them. Assumes nothing.
 use Prim.Native.Nat.{ℕ}
 use native.Mathlib.Omega.{arith}
 use mathlib.Core.Path.{_≡_, refl, sym, _∙_, ap}
@@ -49,7 +49,7 @@ first-left f (x ∷ a) b o here = go (f (x .edition)) refl (first-left f a b o)
     go true taken later = first-here f x (a ++ b) taken ∙ sym (first-here f x a taken) ∙ here
     go false passed later = first-later f x (a ++ b) passed ∙ later (sym (first-later f x a passed) ∙ here)
 
--- and else the second's
+-- and otherwise the second's
 pub first-right : (f : ℕ → Bool) (a b : List Occurrence) → firstOf f a ≡ none → firstOf f (a ++ b) ≡ firstOf f b
 first-right f [] b nowhere = refl
 first-right f (x ∷ a) b nowhere = go (f (x .edition)) refl (first-right f a b)
@@ -58,7 +58,7 @@ first-right f (x ∷ a) b nowhere = go (f (x .edition)) refl (first-right f a b)
     go true taken later = let z : _≡_ {A = ℕ} 0 1 = cc (first-here f x a taken) in absurd (omega arith)
     go false passed later = first-later f x (a ++ b) passed ∙ later (sym (first-later f x a passed) ∙ nowhere)
 
--- no member is taken where there is no first
+-- if there is no first, no member is taken
 pub first-none : (f : ℕ → Bool) (os : List Occurrence) (o : Occurrence) → firstOf f os ≡ none → List·Memᴰ o os → f (o .edition) ≡ false
 first-none f [] o clear member = absurd (List·Memᴰ·not-nil member)
 first-none f (x ∷ os) o clear member = go (f (x .edition)) refl (List·Memᴰ·cases-cons member) (first-none f os o)
@@ -66,9 +66,9 @@ first-none f (x ∷ os) o clear member = go (f (x .edition)) refl (List·Memᴰ�
     go : (b : Bool) → f (x .edition) ≡ b → (o ≡ x) ⊎ List·Memᴰ o os
         → (firstOf f os ≡ none → List·Memᴰ o os → f (o .edition) ≡ false) → f (o .edition) ≡ false
     go true taken (inl same) later = let z : _≡_ {A = ℕ} 0 1 = cc (first-here f x os taken) in absurd (omega arith)
-    go true taken (inr behind) later = let z : _≡_ {A = ℕ} 0 1 = cc (first-here f x os taken) in absurd (omega arith)
+    go true taken (inr after) later = let z : _≡_ {A = ℕ} 0 1 = cc (first-here f x os taken) in absurd (omega arith)
     go false passed (inl same) later = rw same passed
-    go false passed (inr behind) later = later (sym (first-later f x os passed) ∙ clear) behind
+    go false passed (inr after) later = later (sym (first-later f x os passed) ∙ clear) after
 
 -- the first is taken, and no member before it
 pub first-split : (f : ℕ → Bool) (os : List Occurrence) (o : Occurrence) → firstOf f os ≡ some o
@@ -87,8 +87,8 @@ first-split f (x ∷ os) o here = go (f (x .edition)) refl (first-split f os o)
         let (before, after, split, clear, taken) = later (sym (first-later f x os passed) ∙ here) in
         (x ∷ before, after, ap (λ (l : List Occurrence). x ∷ l) split, first-later f x before passed ∙ clear, taken)
 
--- How a walk w follows the walk u that reads every form, by the first occurrence of the trail that w may not read: they answer alike where
--- there is none, and else w breaks at its place, with the detail of its form.
+-- How a walk w follows the walk u that reads every form, by the first occurrence of the trail that w may not read: they answer the same if
+-- there is none, and otherwise w breaks at its place, with the detail of its form.
 abbrev pub Follows : Walked → Walked → Option Occurrence → Type 0
 Follows w u none = w ≡ u
 Follows w u (some o) = (r : Tally) × (w ≡ Broken (o .place) (unreadDetail (alone (o .edition) (o .difference))) r)
@@ -120,7 +120,7 @@ follows-within R s j place t inner = go (eqb j 0)
     go true = refl
     go false = inner
 
--- at an element that fits a line: the form itself, then the inside, then what the trail has behind it
+-- at an element that fits a line: the form itself, then the inside, then the rest of the trail
 follows-element : (R : ℕ → Bool) (s : Tally) (k n around id first whole : ℕ) (c : List ℕ) (inside rest : Tree) (tail : List Occurrence)
     → findLine k id ≡ At n
     → trail k (element id first whole c inside rest) ≡ occurs (line n .mark) first ++ (trailIn (line n .inside) inside ++ tail)
@@ -132,7 +132,7 @@ follows-element : (R : ℕ → Bool) (s : Tally) (k n around id first whole : �
     (firstOf (unread R) tail))
     → Follows (walk R s k around (element id first whole c inside rest)) (walk all s k around (element id first whole c inside rest))
     (firstOf (unread R) (trail k (element id first whole c inside rest)))
-follows-element R s k n around id first whole c inside rest tail found split inner behind = rw split (by-mark (readable R (line n .mark)) refl)
+follows-element R s k n around id first whole c inside rest tail found split inner after = rw split (by-mark (readable R (line n .mark)) refl)
   where
     t : Tree
     t = element id first whole c inside rest
@@ -149,7 +149,7 @@ follows-element R s k n around id first whole c inside rest tail found split inn
     by-inner : readable R (line n .mark) ≡ true → (x : Option Occurrence) → firstOf (unread R) within' ≡ x
         → Follows (innerWalk R m (line n .inside) first inside) (innerWalk all m (line n .inside) first inside) x
         → Follows (walk R s k around t) (walk all s k around t) (firstOf (unread R) (within' ++ tail))
-    by-inner read none clear alike = rw (first-right (unread R) within' tail clear) (behind read alike)
+    by-inner read none clear alike = rw (first-right (unread R) within' tail clear) (after read alike)
     by-inner read (some o) stop breaks =
         rw (first-left (unread R) within' tail o stop)
         (breaks .0, walk-inner-broken R s k around id first whole c inside rest n (o .place) _ (breaks .0) found read (breaks .1))
@@ -217,7 +217,7 @@ own-walk R s k around (element id first whole c inside rest) =
           walk-next all s k around id first whole c inside rest n next r found (all-read (line n .mark)) e on,
         ) (later r next))
 
--- where a walk passes, the walk that reads every form answers alike
+-- if a walk passes, the walk that reads every form answers the same
 pub passed-follows : (w u : Walked) (x : Option Occurrence) (r : Tally) → Follows w u x → w ≡ Passed r → (x ≡ none) × (u ≡ Passed r)
 passed-follows w u none r alike passed = (refl, sym alike ∙ passed)
 passed-follows w u (some o) r breaks passed = let z : _≡_ {A = ℕ} 0 1 = cc (breaks .1) in absurd (omega arith)
@@ -227,8 +227,8 @@ pub passed-reads : (R : ℕ → Bool) (s r : Tally) (k around : ℕ) (t : Tree) 
 passed-reads R s r k around t passed =
     passed-follows (walk R s k around t) (walk all s k around t) (firstOf (unread R) (trail k t)) r (own-walk R s k around t) passed .0
 
--- Theorem 4: where a walk with one set of readable forms passes, a walk with another set passes alike, if every occurrence of the trail may
--- be read; otherwise it stops exactly at the first that may not.
+-- Theorem 4: if a walk with one set of readable forms passes, a walk with another set answers the same if it may read every occurrence of
+-- the trail; otherwise it stops exactly at the first that it may not read.
 pub two-sets : (R Q : ℕ → Bool) (s r : Tally) (k around : ℕ) (t : Tree) → walk R s k around t ≡ Passed r
     → Follows (walk Q s k around t) (Passed r) (firstOf (unread Q) (trail k t))
 two-sets R Q s r k around t passed =

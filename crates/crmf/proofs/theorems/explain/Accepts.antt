@@ -1,4 +1,4 @@
--- Theorem 2. The walk passes over a list of elements exactly where the grammar describes it, whichever forms may be read: the search finds
+-- Theorem 2. The walk passes over a list of elements exactly when the grammar describes it, whichever forms may be read: the search finds
 -- the line of what the parts choose, and the grammar is deterministic, so no other choice describes the element. Assumes nothing.
 use Prim.Native.Nat.{ℕ, zero, suc, _<_}
 use native.Mathlib.Nat.{le-of-suc-le-suc}
@@ -48,12 +48,12 @@ name-below (m ∷ ns) (suc w) n there = omega (arith, name-below ns w n there)
 same-line : {m n : ℕ} {f : FoundLine} → f ≡ At m → f ≡ At n → m ≡ n
 same-line p q = cc
 
--- no search finds a line and nothing
+-- no search finds both a line and nothing
 found-somewhere : {A : Type 0} {n : ℕ} {f : FoundLine} → f ≡ At n → f ≡ Nowhere → A
 found-somewhere p q = let z : _≡_ {A = ℕ} 0 1 = cc in absurd (omega arith)
 
 module _ (R : ℕ → Bool) where
-  -- An inside that the walk passes is what its form asks.
+  -- An inside that the walk passes is what its form asks for.
   within-sound : (m r : Tally) (i : Inside) (first : ℕ) (inside : Tree)
       → ((n : Name) → walk R m (start n) first inside ≡ Passed r → Matches R (content n) inside)
       → innerWalk R m (insideLine i) first inside ≡ Passed r → Within R i inside
@@ -61,7 +61,7 @@ module _ (R : ℕ → Bool) where
   within-sound m r free first inside each passed = unseen
   within-sound m r (holds n) first inside each passed = parts (each n (sym (inner-walked R m (start n) first inside (starts-past n)) ∙ passed))
 
-  -- The walk passes an inside that is what its form asks.
+  -- The walk passes an inside that is what its form asks for.
   within-complete : (m : Tally) (i : Inside) (first : ℕ) (inside : Tree)
       → ((n : Name) → Matches R (content n) inside → Accepted R m (start n) first inside) → Within R i inside
       → (r : Tally) × (innerWalk R m (insideLine i) first inside ≡ Passed r)
@@ -180,7 +180,7 @@ pub accepts-sound : (R : ℕ → Bool) (s r : Tally) (n : Name) (around : ℕ) (
     → Matches R (content n) t
 accepts-sound R s r n around t = walk-sound R t s r (start n) around (content n) (stands-start n)
 
--- Completeness: what is in the grammar the walk of its container passes over.
+-- Completeness: the walk of a container passes over what is in the grammar.
 pub accepts-complete : (R : ℕ → Bool) (s : Tally) (n : Name) (around : ℕ) (t : Tree) → Matches R (content n) t
     → Accepted R s (start n) around t
 accepts-complete R s n around t = walk-complete R t s (start n) around (content n) (stands-start n)

@@ -1,4 +1,4 @@
--- The test whether the walk that reads every form passes is that walk: the same steps, with what was met left out. Assumes nothing.
+-- The test of whether the walk that reads every form passes takes the same steps as that walk and leaves out what was met. Assumes nothing.
 use Prim.Native.Nat.{ℕ}
 use native.Mathlib.Omega.{arith}
 use mathlib.Core.Path.{_≡_, refl, sym, _∙_, ap}
@@ -46,7 +46,7 @@ pub all-read : (m : Mark) → readable all m ≡ true
 all-read both = refl
 all-read (alone e d) = refl
 
--- The walk that reads every form passes where `passes` says so, whatever was met before.
+-- The walk that reads every form passes exactly when `passes` says so, whatever was met before.
 pub walk-passes : (s : Tally) (k around : ℕ) (t : Tree) → isPassed (walk all s k around t) ≡ passes k t
 walk-passes s k around none = go (closed k) refl
   where
@@ -83,7 +83,7 @@ walk-passes s k around (element id first whole c inside rest) =
         ap isPassed (walk-next all s k around id first whole c inside rest n next r found (all-read (line n .mark)) e on)
         ∙ later r next ∙ sym (passes-on k n id first whole c inside rest found next fine on)
 
--- so an inside that passes the test the walk passes
+-- so the walk passes an inside that passes the test
 pub inner-passed : (m : Tally) (j place : ℕ) (t : Tree) → passesIn j t ≡ true → (r : Tally) × (innerWalk all m j place t ≡ Passed r)
 inner-passed m j place t fine = is-passed (innerWalk all m j place t) (passes-within m j place t (walk-passes m j place t) ∙ fine)
 
@@ -91,7 +91,7 @@ inner-passed m j place t fine = is-passed (innerWalk all m j place t) (passes-wi
 pub inner-broken : (m : Tally) (j place : ℕ) (t : Tree) → passesIn j t ≡ false → (q d : ℕ) × (r : Tally) × (innerWalk all m j place t ≡ Broken q d r)
 inner-broken m j place t stops = is-broken (innerWalk all m j place t) (passes-within m j place t (walk-passes m j place t) ∙ stops)
 
--- The test passes exactly where the walk that reads every form does.
+-- The test passes exactly when the walk that reads every form does.
 pub passes-accepts : (k : ℕ) (t : Tree) (s : Tally) (around : ℕ)
     → (passes k t ≡ true) ↔ ((r : Tally) × (walk (λ e. true) s k around t ≡ Passed r))
 passes-accepts k t s around =

@@ -1,5 +1,5 @@
--- What the counting walk has met of certReqIds "of more than 8 content octets": the first of the rows that is one, whichever derivation
--- gives the rows, as a line's own kind alone can be a certReqId's. Assumes nothing.
+-- The counting walk's certReqId "of more than 8 content octets" is the first row that is one, whichever derivation gives the rows: only a
+-- line's own kind can be a certReqId's. Assumes nothing.
 use Prim.Native.Nat.{ℕ, _+_}
 use native.Mathlib.Omega.{arith}
 use mathlib.Core.Path.{_≡_, refl, sym, _∙_, ap}
@@ -32,7 +32,7 @@ item-not-id : (k : ℕ) → not (eqb (line k .item) kinds.certReqId) ≡ true
 unfolding computed
 item-not-id = at-line (λ x. not (eqb (x .item) kinds.certReqId)) refl
 
--- the first of two lists of rows: that of the second, where one known behind the first stays
+-- the first in two lists of rows: the second list is searched with what is known after the first
 long-append : (h : ℕ × ℕ) (a b : List Row) → firstLong h (a ++ b) ≡ firstLong (firstLong h a) b
 unfolding firstLong
 long-append h [] b = refl
@@ -54,7 +54,7 @@ row-long h kind p w up = go (eqb kind 0) refl
         ap (firstLong h) (row-none kind p w up e) ∙ sym (other-kind h kind p w o)
     go false e = ap (firstLong h) (row-own kind p w up e)
 
--- the row of an item is none
+-- the row of an item is no long certReqId
 item-long : (h : ℕ × ℕ) (item p w up : ℕ) → not (eqb item kinds.certReqId) ≡ true → firstLong h (rowIf item p w up) ≡ h
 item-long h item p w up e = row-long h item p w up ∙ other-kind h item p w (denied (eqb item kinds.certReqId) e)
   where
@@ -62,7 +62,7 @@ item-long h item p w up e = row-long h item p w up ∙ other-kind h item p w (de
     denied true f = sym f
     denied false f = refl
 
--- what is noted leaves what is known
+-- noting a form leaves what is known
 noted-long : (m : Mark) (p : ℕ) (s : Tally) → known (withForm m p s) ≡ known s
 unfolding withForm
 noted-long both p s = refl
@@ -76,7 +76,7 @@ noted-long (alone e d) p s = by-one (eqb e 1 && eqb (s .one .number) 0) refl
     by-one true t = rw (withForm, t)
     by-one false t = by-two t (eqb e 2 && eqb (s .two .number) 0) refl
 
--- and the element's kind and length come to it
+-- the element's kind and length are added to it
 lengthy-long : (kind p w : ℕ) (s : Tally) → known (withLongId kind p w s) ≡ longer (known s) kind p w
 unfolding withLongId
 lengthy-long kind p w s = go (longId kind w && eqb (s .long .whole) 0) refl
@@ -91,18 +91,18 @@ unfolding withElement
 met-long x p w s =
     lengthy-long (x .kind) p w (withForm (x .mark) p s) ∙ ap (λ (h : ℕ × ℕ). longer h (x .kind) p w) (noted-long (x .mark) p s)
 
--- an element's rows: what is known goes from a, with its own row and the rows inside it, to b, and with those behind it to d
-rows-one-long : (kind item p w : ℕ) (inner : ℕ → ℕ → List Row) (behind : ℕ → List Row) (n up place whole : ℕ) (a b d : ℕ × ℕ)
-    → not (eqb item kinds.certReqId) ≡ true → ((j u : ℕ) → firstLong (longer a kind p w) (inner j u) ≡ b) → ((j : ℕ) → firstLong b (behind j) ≡ d)
-    → firstLong a (rowsOne kind item p w inner behind n up place whole) ≡ d
+-- an element's rows: what is known goes from a to b with its own row and the rows inside it, and from b to d with those after it
+rows-one-long : (kind item p w : ℕ) (inner : ℕ → ℕ → List Row) (later : ℕ → List Row) (n up place whole : ℕ) (a b d : ℕ × ℕ)
+    → not (eqb item kinds.certReqId) ≡ true → ((j u : ℕ) → firstLong (longer a kind p w) (inner j u) ≡ b) → ((j : ℕ) → firstLong b (later j) ≡ d)
+    → firstLong a (rowsOne kind item p w inner later n up place whole) ≡ d
 unfolding rowsOne
-rows-one-long kind item p w inner behind n up place whole a b d other within further =
+rows-one-long kind item p w inner later n up place whole a b d other within further =
     let around = rowIf item place whole up in
     let above = parentIf item n up in
     let own = rowIf kind p w above in
     let next = n + length around in
     let inside = inner (next + length own) (parentIf kind next above) in
-    let rest = behind (next + length own + length inside) in
+    let rest = later (next + length own + length inside) in
     long-append a around (own ++ (inside ++ rest))
     ∙ ap (λ (h : ℕ × ℕ). firstLong h (own ++ (inside ++ rest))) (item-long a item place whole up other)
     ∙ long-append a own (inside ++ rest)
@@ -125,7 +125,7 @@ inner-long R m r i first inside n up place whole each w = go (eqb i 0) refl
     go false e =
         ap (firstLong (known m)) (inner-rows i inside n up place whole e) ∙ each (sym (inner-walked R m i first inside e) ∙ w)
 
--- What the counting walk has met of long certReqIds is the first row that is one.
+-- The long certReqId that the counting walk has met is the first row that is one.
 pub rows-long : (R : ℕ → Bool) (t : Tree) (s r : Tally) (k around n up place whole : ℕ) → walk R s k around t ≡ Passed r
     → firstLong (s .long .whole, s .long .place) (rowsFrom k t n up place whole) ≡ (r .long .whole, r .long .place)
 unfolding rowsFrom firstLong
@@ -135,22 +135,22 @@ rows-long R (element id p w c inside rest) s r k around n up place whole passed 
     let x = line (e .at) in
     let m = withElement x p w s in
     let inner : ℕ → ℕ → List Row = λ j u. rowsWithin (x .inside) inside j u p w in
-    let behind : ℕ → List Row = λ j. rowsFrom (e .next) rest j up place whole in
+    let later : ℕ → List Row = λ j. rowsFrom (e .next) rest j up place whole in
     let within : (j u : ℕ) → firstLong (known m) (rowsWithin (x .inside) inside j u p w) ≡ known (e .seen) =
     λ j u. inner-long R m (e .seen) (x .inside) p inside j u p w (rows-long R inside m (e .seen) (x .inside) p j u p w) (e .inner) in
     let further : (j : ℕ) → firstLong (known (e .seen)) (rowsFrom (e .next) rest j up place whole) ≡ known r =
     λ j. rows-long R rest (e .seen) r (e .next) around j up place whole (e .further) in
     ap (firstLong (known s)) (rows-from-element k id p w c inside rest n up place whole (e .at) (e .next) (e .found) (e .onward))
-    ∙ rows-one-long (x .kind) (x .item) p w inner behind n up place whole (known s) (known (e .seen)) (known r) (item-not-id (e .at))
+    ∙ rows-one-long (x .kind) (x .item) p w inner later n up place whole (known s) (known (e .seen)) (known r) (item-not-id (e .at))
     (λ j u. ap (λ (h : ℕ × ℕ). firstLong h (inner j u)) (sym (met-long x p w s)) ∙ within j u) further
 
--- What a walk over a container's elements has met of them is the first of any derivation's rows that is one.
+-- The long certReqId that a walk over a container's elements has met is the first of any derivation's rows that is one.
 pub walk-long : {R : ℕ → Bool} (Q : ℕ → Bool) (name : Name) {t : Tree} (m : Matches R (content name) t) (s r : Tally) (around n up place whole : ℕ)
     → walk Q s (start name) around t ≡ Passed r → firstLong (s .long .whole, s .long .place) (rows m n up place whole) ≡ (r .long .whole, r .long .place)
 walk-long Q name {t = t} m s r around n up place whole passed =
     ap (firstLong (known s)) (sym (rows-lines name m n up place whole)) ∙ rows-long Q t s r (start name) around n up place whole passed
 
--- with a row more, none is known where none was and the row is none
+-- with one more row, no long certReqId is known if none was and the row is not one
 longer-none : (h : ℕ × ℕ) (kind p w : ℕ) (c : Bool) → (eqb (longer h kind p w .0) 0 && c) ≡ (eqb (h .0) 0 && (not (longId kind w) && c))
 longer-none h kind p w c = go (longId kind w) (eqb (h .0) 0) refl refl
   where
@@ -165,7 +165,7 @@ longer-none h kind p w c = go (longId kind w) (eqb (h .0) 0) refl refl
     go false true t e = rw (longer, t, e)
     go false false t e = rw (longer, t, e)
 
--- behind some rows none is known where none was and none of them is one
+-- after some rows, no long certReqId is known if none was and no row is one
 long-known : (h : ℕ × ℕ) (rs : List Row) → eqb (firstLong h rs .0) 0 ≡ (eqb (h .0) 0 && allShort rs)
 unfolding firstLong allShort
 long-known h [] = go (eqb (h .0) 0)
@@ -176,27 +176,27 @@ long-known h [] = go (eqb (h .0) 0)
 long-known h (r ∷ rs) =
     long-known (longer h (r .kind) (r .first) (r .whole)) rs ∙ longer-none h (r .kind) (r .first) (r .whole) (allShort rs)
 
--- Where nothing was known, nothing is known exactly where no row is one.
+-- If nothing was known, nothing is known exactly when no row is one.
 pub long-none : (rs : List Row) → eqb (firstLong (0, 0) rs .0) 0 ≡ allShort rs
 long-none rs = long-known (0, 0) rs
 
--- Where nothing is known behind some rows, nothing was known before them.
+-- If nothing is known after some rows, nothing was known before them.
 none-before : (s r : Tally) (rs : List Row) → firstLong (known s) rs ≡ known r → r .long .whole ≡ 0 → s .long .whole ≡ 0
 none-before s r rs is zero =
     let both-none = ap (λ (h : ℕ × ℕ). eqb (h .0) 0) is ∙ eq-eqb (r .long .whole) 0 zero in
     eqb-true (s .long .whole) 0 (and-eq-true-iff (eqb (s .long .whole) 0) (allShort rs) .0 (sym (long-known (known s) rs) ∙ both-none) .0)
 
--- Before a walk that passes and has met no long certReqId none was met.
+-- If a walk passes and has met no long certReqId, none was met before it.
 pub walk-short : (R : ℕ → Bool) (t : Tree) (s r : Tally) (k around : ℕ) → walk R s k around t ≡ Passed r → r .long .whole ≡ 0 → s .long .whole ≡ 0
 walk-short R t s r k around passed = none-before s r (rowsFrom k t 0 0 0 0) (rows-long R t s r k around 0 0 0 0 passed)
 
--- So it is before an inside.
+-- The same holds before an inside.
 pub inner-short : (R : ℕ → Bool) (m r : Tally) (i first : ℕ) (inside : Tree) → innerWalk R m i first inside ≡ Passed r → r .long .whole ≡ 0 → m .long .whole ≡ 0
 inner-short R m r i first inside passed =
     none-before m r (rowsWithin i inside 0 0 0 0)
     (inner-long R m r i first inside 0 0 0 0 (rows-long R inside m r i first 0 0 0 0) passed)
 
--- With an element in a line's form none is known: it is none.
+-- If no long certReqId is known after an element in a line's form, the element is not one.
 pub met-short : (x : Line) (p w : ℕ) (s : Tally) → withElement x p w s .long .whole ≡ 0 → not (longId (x .kind) w) ≡ true
 met-short x p w s zero =
     let nothing = ap (λ (h : ℕ × ℕ). eqb (h .0) 0 && true) (sym (met-long x p w s)) ∙ ap (λ (n : ℕ). eqb n 0 && true) zero in

@@ -1,4 +1,4 @@
--- What is met with an element, by the code of its line's mark: an edition and a difference below 8, one above the other. Assumes nothing.
+-- What is met with an element, by the code of its line's mark, which holds an edition and a difference below 8. Assumes nothing.
 use Prim.Native.Nat.{ℕ, _+_, _/_, _%_, _<_}
 use mathlib.Core.Path.{_≡_, refl, sym, ap, ap₂, _∙_}
 use mathlib.Core.Bool.{Bool, true, false, _&&_}

@@ -1,4 +1,4 @@
--- What a walk that passes says of the first element, part for part, and how the walk over an element is made of those parts. Assumes nothing.
+-- What a walk that passes says of the first element, part by part, and how the walk over an element is made of those parts. Assumes nothing.
 use Prim.Native.Nat.{ℕ, _+_, _<_}
 use native.Mathlib.Omega.{arith}
 use mathlib.Core.Path.{_≡_, refl, sym, _∙_}
@@ -19,11 +19,11 @@ use Rattle.crmf.specs.meaning.Language.{readable}
 use Rattle.crmf.specs.steps.grammar.Lines.{keep, choose}
 use Rattle.crmf.specs.steps.explain.Walk.{line, findLine, closed, ruleDetail, ways, judged, unreadDetail, withElement, walk}
 
--- the walk inside an element whose inside starts at a line: none where that is 0
+-- the walk inside an element whose inside starts at a line: none if that is 0
 unfoldable pub innerWalk : (ℕ → Bool) → Tally → ℕ → ℕ → Tree → Walked
 innerWalk R m i first inside = elim (eqb i 0) [ true ↦ Passed m | false ↦ walk R m i first inside ]
 
--- a value that keeps its rule goes on with the line behind
+-- a value that keeps its rule goes on with the next line
 pub judged-kept : (r : Rule) (next : ℕ) (c : List ℕ) → keeps r c ≡ true → judged (keep r) next c ≡ To next
 unfolding judged
 judged-kept r next c ok = rw (ok, judged)
@@ -48,7 +48,7 @@ judged-astray s next c lost = rw (lost, judged)
 breaks-not-to : {A : Type 0} {d n : ℕ} → Breaks d ≡ To n → A
 breaks-not-to same = let z : _≡_ {A = ℕ} 0 1 = cc in absurd (omega arith)
 
--- only a value that keeps its rule goes on, with the line behind
+-- only a value that keeps its rule goes on, with the next line
 pub kept-onward : (r : Rule) (next n : ℕ) (c : List ℕ) → judged (keep r) next c ≡ To n → (keeps r c ≡ true) × (next ≡ n)
 kept-onward r next n c to = go (keeps r c) refl
   where
@@ -65,7 +65,7 @@ way-onward s next n c to = go (ltb (selected s c) (ways s)) refl
     go true e = (ltb-true (selected s c) (ways s) e, cc (judged-way s next c e))
     go false e = breaks-not-to (sym (judged-astray s next c e) ∙ to)
 
--- What a walk that passes found for the first element: its line, what was met behind its inside, and the line behind it.
+-- What a walk that passes found for the first element: its line, what was met up to the end of its inside, and the line after it.
 pub record Chosen (R : ℕ → Bool) (s : Tally) (k around id first whole : ℕ) (c : List ℕ) (inside rest : Tree) (r : Tally) : Type 0 where
   pub at : ℕ
   pub found : findLine k id ≡ At at
@@ -91,12 +91,12 @@ pub inner-walked : (R : ℕ → Bool) (m : Tally) (i first : ℕ) (inside : Tree
 unfolding innerWalk
 inner-walked R m i first inside starts = rw (starts, innerWalk)
 
--- the walk at a container's end, where it may end
+-- the walk at a container's end, if it may end
 pub walk-closed : (R : ℕ → Bool) (s : Tally) (k around : ℕ) → closed k ≡ true → walk R s k around none ≡ Passed s
 unfolding walk
 walk-closed R s k around ok = rw (ok, walk)
 
--- the walk at a container's end, where a part is missing
+-- the walk at a container's end, if a part is missing
 pub walk-open : (R : ℕ → Bool) (s : Tally) (k around : ℕ) → closed k ≡ false → walk R s k around none ≡ Broken around 2 s
 unfolding walk
 walk-open R s k around missing = rw (missing, walk)
@@ -127,7 +127,7 @@ module _ (R : ℕ → Bool) (s : Tally) (k around id first whole : ℕ) (c : Lis
   unfolding walk innerWalk
   walk-breaks n d r e u w j = rw (e, walk) (rw u (rw w (rw j)))
 
-  -- an element that is passed: the walk goes on behind it
+  -- an element that is passed: the walk goes on after it
   pub walk-next : (n next : ℕ) (r : Tally) → findLine k id ≡ At n → readable R (line n .mark) ≡ true
       → innerWalk R (withElement (line n) first whole s) (line n .inside) first inside ≡ Passed r → judged (line n .judge) (line n .next) c ≡ To next
       → walk R s k around (element id first whole c inside rest) ≡ walk R r next around rest

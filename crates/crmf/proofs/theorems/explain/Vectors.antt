@@ -21,7 +21,7 @@ use Rattle.crmf.specs.meaning.Grammar.{content}
 use Rattle.crmf.specs.steps.grammar.Lines.{partSize, size, startsFrom, start, insideLine, passOf, formLines, nextLine, wayLine, partLines, containerLines, linesFrom, lines}
 use Rattle.crmf.specs.steps.explain.Walk.{line, findLineIn, findLine, closedIn, closed, judged, withForm, withLongId, withElement, walk}
 
--- A batch, its octets as the digits of a number, and what the walk answers that reads all forms, edition 1's and edition 2's.
+-- A batch, its octets as the digits of a number, and what three walks answer: the one that reads every form, edition 1's and edition 2's.
 record Example : Type 0 where
   octets : ℕ
   all : Walked
@@ -63,9 +63,9 @@ examples =
     ∷ each 0x301E301C300502010030003013301106092B06010505070502010404613F6225 (Passed (seen 7 2 26 0 0)) (Passed (seen 7 2 26 0 0)) (Broken 26 1 (rows 6))
     -- no batch: the element fits no part
     ∷ alike 0x3100 (Broken 0 1 (rows 0))
-    -- a part missing comes before what stands behind
+    -- a missing part comes before the element that follows
     ∷ alike 0x3009300530030201000500 (Broken 4 2 (rows 4))
-    -- a form of edition 2 alone, and behind it a break
+    -- a form of edition 2 alone, and after it a break
     ∷ each 0x300F300D30050201003000A204A3020500 (Broken 15 1 (seen 7 0 0 1 13)) (Broken 13 1 (rows 6)) (Broken 15 1 (seen 7 0 0 1 13))
     -- a needed part is never passed over
     ∷ alike 0x300E300C30050201003000A103030100 (Broken 13 1 (rows 6))
@@ -79,11 +79,11 @@ examples =
     ∷ each 0x3026302430220201003000301B301906092B0601050507050103300C020100300730050201008600 (Broken 31 4 (seen 7 3 38 0 0)) (Broken 31 4 (seen 7 3 38 0 0)) (Broken 38 4 (rows 7))
     -- the list beside action 0, alone
     ∷ alike 0x30243022302002010030003019301706092B0601050507050103300A02010030053003020101 (Broken 31 4 (rows 7))
-    -- a form of edition 2 alone, and behind it a message without its certReq
+    -- a form of edition 2 alone, and after it a message without its certReq
     ∷ each 0x301C301830050201003000300F300D06092B06010505070502010C003000 (Broken 28 2 (seen 8 0 0 2 26)) (Broken 26 1 (rows 6)) (Broken 28 2 (seen 8 0 0 2 26))
     -- forms of both sides
     ∷ each 0x301E301C30050201003000A202A400300F300D06092B06010505070502010400 (Passed (seen 9 2 30 1 13)) (Broken 13 1 (rows 6)) (Broken 30 1 (seen 8 0 0 1 13))
-    -- a form of edition 2 alone, behind an id of nine octets, which plays no part here
+    -- a form of edition 2 alone, after an id of nine octets, which plays no part here
     ∷ each 0x30153013300D02090101010101010101013000A202A400 (Passed (longer 11 6 (seen 7 0 0 1 21))) (Broken 21 1 (longer 11 6 (rows 6))) (Passed (longer 11 6 (seen 7 0 0 1 21)))
     -- a typed item: its value, another value, none, and a third element
     ∷ alike 0x301A301830160201003000300F300D06092B06010505070501010C00 (Passed (rows 7))
@@ -111,7 +111,7 @@ examples =
     ∷ alike 0x301E301C301A0201003015A413A011180F30303030303232393030303030305A (Passed (rows 7))
     ∷ []
 
--- every example is walked so
+-- every example is walked as it says
 worked : Each Walks examples
 unfolding tagNumber constructed allowed valueFrom shortest longForm lengthOf base256 sizedBy headOf
     boolean integer lastOf bitString nothingAt given read treeOf tree

@@ -12,7 +12,7 @@ use Rattle.crmf.specs.declared.grammar.table.FoundLine.the-variants.{At,
 use Rattle.crmf.specs.meaning.Language.{Occurrence, occurs}
 use Rattle.crmf.specs.steps.explain.Walk.{line, findLine, closed, judged, passes, trail}
 
--- whether the walk that reads every form passes inside an element whose inside starts at a line: a free inside, where that is 0, does
+-- whether the walk that reads every form passes an inside that starts at a line; 0 stands for a free inside, which passes
 abbrev pub passesIn : ℕ → Tree → Bool
 passesIn j t = elim (eqb j 0) [ true ↦ true | false ↦ passes j t ]
 
@@ -90,7 +90,7 @@ module _ (k n id first whole : ℕ) (c : List ℕ) (inside rest : Tree) (found :
   unfolding trail
   trail-breaks d inner breaks = rw (found, inner, breaks, trail) (rw append-nil refl)
 
-  -- an element that is passed: the test goes on behind it
+  -- an element that is passed: the test goes on after it
   pub passes-on : (next : ℕ) → passesIn (line n .inside) inside ≡ true → judged (line n .judge) (line n .next) c ≡ To next
       → passes k (element id first whole c inside rest) ≡ passes next rest
   unfolding passes

@@ -92,7 +92,7 @@ forward-step at to end r (Breaks d) a b c = tt
 
 -- The walk by places, over the element that is read from p before e.
 module _ (s : List ℕ) (p e : ℕ) (some : p < e) (fits : e ≤ length s) (high : length s ≤ longest) (x : Element) (is : x ≡ readAt s p e) where
-  -- the elements from p to e are the element that is read and those behind it
+  -- the elements from p to e are the element that is read and those after it
   pub tree-read : tree p (slice p e s)
       ≡ elementAt p x (slice (x .content) (x .end) s) (tree (x .content) (slice (x .content) (x .end) s)) (tree (x .end) (slice (x .end) e s))
   tree-read =
@@ -180,8 +180,8 @@ module _ (s : List ℕ) (c : Cursor) (e : ℕ) (h : c .at ≡ e) (around : ℕ) 
   pub at-open : closed (c .state) ≡ false → Broken around 2 (c .tally) ≡ walkFrom s c e around
   at-open opens = rw (at-end s (c .at) e h) (sym (walk-open every (c .tally) (c .state) around opens))
 
--- the inside of an element in a line's form, by the number that code finds for it: what was met before is answered where that is 0, and
--- else the walk from there
+-- the inside of an element in a line's form, by the number that code finds for it: if that is 0 the answer is what was met before, and
+-- otherwise the walk from there
 module _ (k start : ℕ) (is : start ≡ line k .inside) (s : Tally) (around : ℕ) (t : Tree) where
   pub inside-free : start ≡ 0 → Passed s ≡ insideWalk k s around t
   inside-free free = rw (insideWalk, eq-eqb _ _ (sym is ∙ free))

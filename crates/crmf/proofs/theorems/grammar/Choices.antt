@@ -1,5 +1,5 @@
--- What the next element may be, by a container's parts: the forms that can be reached, a needed part never being passed over, each with the
--- parts behind it. The grammar is deterministic: no identifier is of two of them. Assumes nothing.
+-- What the next element may be, by a container's parts: the forms that can be reached without passing over a needed part, each with the
+-- parts after it. The grammar is deterministic: no identifier is of two of them. Assumes nothing.
 use Prim.Native.Nat.{ℕ}
 use native.Mathlib.Omega.{arith}
 use mathlib.Core.Path.{_≡_, refl, sym, _∙_}
@@ -12,13 +12,13 @@ use borrow.Author.Tests.{eqb-true, not-true}
 use Rattle.crmf.specs.meaning.Value.{Selector}
 use Rattle.crmf.specs.meaning.Notation.{Identifiers, octet, generalName, anything, nothing, among, named, Name, names, Form, Part, part, select}
 use Rattle.crmf.specs.meaning.Grammar.{content}
-use Rattle.crmf.specs.meaning.Language.{passable, behind}
+use Rattle.crmf.specs.meaning.Language.{passable, partsAfter}
 use Rattle.crmf.specs.steps.grammar.Lines.{passOf}
 use Rattle.crmf.specs.steps.explain.Walk.{goesOn, ways}
 use Rattle.crmf.proofs.theorems.lists.Tests.{all}
 use Rattle.crmf.proofs.theorems.grammar.Names.{at-each, not-there}
 
--- What an element may be: of a form, with the parts behind it; or one whose value selects the container's further parts.
+-- What an element may be: of a form, with the parts after it; or one whose value selects the container's further parts.
 pub data Choice : Type 0 where
   taking : Form → List Part → Choice
   choosing : ℕ → Selector → List Name → Choice
@@ -28,7 +28,7 @@ abbrev pub identifiersOf : Choice → Identifiers
 identifiersOf (taking f ps) = f .identifiers
 identifiersOf (choosing id s ns) = octet id
 
--- the forms of a part, with the parts behind them
+-- the forms of a part, with the parts after them
 unfoldable pub takings : List Part → List Form → List Choice
 takings ps [] = []
 takings ps (f ∷ fs) = taking f ps ∷ takings ps fs
@@ -36,7 +36,7 @@ takings ps (f ∷ fs) = taking f ps ∷ takings ps fs
 -- what the next element may be
 unfoldable pub choices : List Part → List Choice
 choices [] = []
-choices (part o fs ∷ ps) = takings (behind o fs ps) fs ++ (elim (passable o) [ true ↦ choices ps | false ↦ [] ])
+choices (part o fs ∷ ps) = takings (partsAfter o fs ps) fs ++ (elim (passable o) [ true ↦ choices ps | false ↦ [] ])
 choices (select id s ns ∷ ps) = choosing id s ns ∷ []
 
 -- whether every part may be passed over
@@ -136,17 +136,17 @@ apart-rule h g (x ∷ hs) id a (List·Memᴰ·tail m) e f =
     let both = and-eq-true-iff (disjoint (identifiersOf h) (identifiersOf x)) (apartFrom h hs) .0 a in
     apart-rule h g hs id (both .1) m e f
 
--- the first choice, where the identifier is its own
+-- the first choice, if the identifier is its own
 pub chosen-first : (h : Choice) (hs : List Choice) (id : ℕ) → named (identifiersOf h) id ≡ true → chosen (h ∷ hs) id ≡ some h
 unfolding chosen
 chosen-first h hs id e = rw (e, chosen)
 
--- the choices behind the first, where the identifier is not the first's
+-- the choices after the first, if the identifier is not the first's
 pub chosen-later : (h : Choice) (hs : List Choice) (id : ℕ) → named (identifiersOf h) id ≡ false → chosen (h ∷ hs) id ≡ chosen hs id
 unfolding chosen
 chosen-later h hs id e = rw (e, chosen)
 
--- The rule: where no identifier is of two choices, a choice with an identifier is the one that the identifier has.
+-- The rule: if no identifier is of two choices, a choice with an identifier is the one that the identifier has.
 pub only-choice : (h : Choice) (hs : List Choice) (id : ℕ) → apart hs ≡ true → List·Memᴰ h hs → named (identifiersOf h) id ≡ true
     → chosen hs id ≡ some h
 unfolding apart
@@ -154,31 +154,31 @@ only-choice h [] id a m e = absurd (List·Memᴰ·not-nil m)
 only-choice h (g ∷ hs) id a (List·Memᴰ·head here) e = chosen-first g hs id (rw here at e) ∙ rw here
 only-choice h (g ∷ hs) id a (List·Memᴰ·tail m) e =
     let both = and-eq-true-iff (apartFrom g hs) (apart hs) .0 a in
-    let behind = only-choice h hs id (both .1) m e in
-    go (both .0) behind (named (identifiersOf g) id) refl
+    let rest = only-choice h hs id (both .1) m e in
+    go (both .0) rest (named (identifiersOf g) id) refl
   where
     go : apartFrom g hs ≡ true → chosen hs id ≡ some h → (b : Bool) → named (identifiersOf g) id ≡ b → chosen (g ∷ hs) id ≡ some h
     go from rest true f = apart-rule g h hs id from m f e
     go from rest false f = chosen-later g hs id f ∙ rest
 
--- what deterministic parts choose from holds no identifier twice
+-- the choices of deterministic parts hold no identifier twice
 pub determinate-apart : (ps : List Part) → determinate ps ≡ true → apart (choices ps) ≡ true
 unfolding determinate apart choices
 determinate-apart [] d = refl
 determinate-apart (p ∷ ps) d = and-eq-true-iff (apart (choices (p ∷ ps))) (determinate ps) .0 d .0
 
--- the parts behind some of a container's are deterministic too
-determinate-behind : (before ps : List Part) → determinate (before ++ ps) ≡ true → determinate ps ≡ true
+-- the parts after some of a container's are deterministic too
+determinate-after : (before ps : List Part) → determinate (before ++ ps) ≡ true → determinate ps ≡ true
 unfolding determinate
-determinate-behind [] ps d = d
-determinate-behind (p ∷ before) ps d =
-    determinate-behind before ps (and-eq-true-iff (apart (choices (p ∷ (before ++ ps)))) (determinate (before ++ ps)) .0 d .1)
+determinate-after [] ps d = d
+determinate-after (p ∷ before) ps d =
+    determinate-after before ps (and-eq-true-iff (apart (choices (p ∷ (before ++ ps)))) (determinate (before ++ ps)) .0 d .1)
 
 -- The grammar is deterministic: from any part of a container on, an identifier has at most one of the choices that can be reached.
 pub deterministic : (n : Name) (before ps : List Part) → content n ≡ before ++ ps → (id : ℕ) (h g : Choice) → List·Memᴰ h (choices ps)
     → List·Memᴰ g (choices ps) → named (identifiersOf h) id ≡ true → named (identifiersOf g) id ≡ true → h ≡ g
 deterministic n before ps whole id h g mh mg eh eg =
-    let own = determinate-apart ps (determinate-behind before ps (rw whole at (determinate-content n))) in
+    let own = determinate-apart ps (determinate-after before ps (rw whole at (determinate-content n))) in
     cc (only-choice h (choices ps) id own mh eh, only-choice g (choices ps) id own mg eg)
 
 -- a choice that an identifier has is one of the list's and has the identifier

@@ -1,5 +1,5 @@
--- What the grammar means, an element at a time: some parts describe a list of elements exactly where the first element is one of the parts'
--- choices and keeps it, or where there is none and every part may be passed over. Assumes nothing.
+-- What the grammar means, one element at a time: some parts describe a list of elements exactly when the first element is one of the parts'
+-- choices and keeps it, or when there is none and every part may be passed over. Assumes nothing.
 use Prim.Native.Nat.{ℕ}
 use mathlib.Core.Path.{_≡_, refl, sym, subst}
 use mathlib.Core.Logic.{_⊎_, inl, inr}
@@ -13,7 +13,7 @@ use Rattle.der.specs.meaning.Tree.{Tree, none, element}
 use Rattle.crmf.specs.meaning.Value.{keeps, Selector, selected}
 use Rattle.crmf.specs.meaning.Notation.{octet, named, Name, Form, Occurs, Part, part, select}
 use Rattle.crmf.specs.meaning.Grammar.{content}
-use Rattle.crmf.specs.meaning.Language.{readable, passable, behind, OneOf, Matches, end, pass, take, choose, Within}
+use Rattle.crmf.specs.meaning.Language.{readable, passable, partsAfter, OneOf, Matches, end, pass, take, choose, Within}
 pub use Rattle.der.proofs.Laws.{passed as holds-true}
 use Rattle.crmf.proofs.theorems.grammar.Choices.{Choice, taking, choosing, identifiersOf, takings, choices, never-both, skippable}
 
@@ -21,7 +21,7 @@ use Rattle.crmf.proofs.theorems.grammar.Choices.{Choice, taking, choosi
 pub true-holds : (b : Bool) → b ≡ true → T b
 true-holds b e = rw e tt
 
--- An element keeps a form, with the parts behind it.
+-- An element keeps a form, with the parts after it.
 pub record Taken (R : ℕ → Bool) (f : Form) (ps : List Part) (c : List ℕ) (inside rest : Tree) : Type 0 where
   pub read : T (readable R (f .mark))
   pub kept : T (keeps (f .rule) c)
@@ -59,7 +59,7 @@ begins-past R o fs ps none ok b = and-eq-true-iff (passable o) (skippable ps) .1
 begins-past R o fs ps (element id first whole c inside rest) ok b =
     record {
       choice = b .choice;
-      among = Memᴰ·append-right (takings (behind o fs ps) fs) (rw (holds-true (passable o) ok) (b .among));
+      among = Memᴰ·append-right (takings (partsAfter o fs ps) fs) (rw (holds-true (passable o) ok) (b .among));
       identified = b .identified;
       keeping = b .keeping;
     }
@@ -86,8 +86,8 @@ matches-begin end = refl
 matches-begin {R = R} (pass {o = o} {fs = fs} {ps = ps} {t = t} ok m) = begins-past R o fs ps t ok (matches-begin m)
 matches-begin (take {o = o} {fs = fs} {ps = ps} {id = id} f one fits read kept w m) =
     record {
-      choice = taking f (behind o fs ps);
-      among = Memᴰ·append-left (elim (passable o) [ true ↦ choices ps | false ↦ [] ]) (taking-among (behind o fs ps) one);
+      choice = taking f (partsAfter o fs ps);
+      among = Memᴰ·append-left (elim (passable o) [ true ↦ choices ps | false ↦ [] ]) (taking-among (partsAfter o fs ps) one);
       identified = holds-true (named (f .identifiers) id) fits;
       keeping = record { read = read; kept = kept; within = w; further = m };
     }
@@ -100,7 +100,7 @@ matches-begin (choose {s = s} {names = ns} {id = id} n way m) =
     }
 
 module _ (R : ℕ → Bool) where
-  -- no element, where every part may be passed over
+  -- no element, if every part may be passed over
   skipped-match : (ps : List Part) → skippable ps ≡ true → Matches R ps none
   unfolding skippable
   skipped-match [] e = end
@@ -111,11 +111,11 @@ module _ (R : ℕ → Bool) where
 
   module _ (id first whole : ℕ) (c : List ℕ) (inside rest : Tree) where
     -- an element that keeps a form of a part
-    taken-match : (o : Occurs) (fs : List Form) (ps : List Part) (h : Choice) → List·Memᴰ h (takings (behind o fs ps) fs)
+    taken-match : (o : Occurs) (fs : List Form) (ps : List Part) (h : Choice) → List·Memᴰ h (takings (partsAfter o fs ps) fs)
         → named (identifiersOf h) id ≡ true → Keeps R h c inside rest → Matches R (part o fs ∷ ps) (element id first whole c inside rest)
     taken-match o fs ps h m fits k =
-        let (f, e, one) = among-takings h fs (behind o fs ps) m in
-        let taken : Taken R f (behind o fs ps) c inside rest = subst (λ (g : Choice). Keeps R g c inside rest) e k in
+        let (f, e, one) = among-takings h fs (partsAfter o fs ps) m in
+        let taken : Taken R f (partsAfter o fs ps) c inside rest = subst (λ (g : Choice). Keeps R g c inside rest) e k in
         let own : named (f .identifiers) id ≡ true = subst (λ (g : Choice). named (identifiersOf g) id ≡ true) e fits in
         take f one (true-holds (named (f .identifiers) id) own) (taken .read) (taken .kept) (taken .within) (taken .further)
 
@@ -125,7 +125,7 @@ module _ (R : ℕ → Bool) where
     unfolding choices named
     kept-match [] h m fits k = absurd (List·Memᴰ·not-nil m)
     kept-match (part o fs ∷ ps) h m fits k =
-        by-part (List·Memᴰ·append-cases (takings (behind o fs ps) fs) m) (λ n. kept-match ps h n fits k)
+        by-part (List·Memᴰ·append-cases (takings (partsAfter o fs ps) fs) m) (λ n. kept-match ps h n fits k)
       where
         by-pass : (b : Bool) → passable o ≡ b → List·Memᴰ h (elim b as (λ x. List Choice) [ true ↦ choices ps | false ↦ [] ])
             → (List·Memᴰ h (choices ps) → Matches R ps (element id first whole c inside rest))
@@ -133,7 +133,7 @@ module _ (R : ℕ → Bool) where
         by-pass true e n further = pass (true-holds (passable o) e) (further n)
         by-pass false e n further = absurd (List·Memᴰ·not-nil n)
 
-        by-part : List·Memᴰ h (takings (behind o fs ps) fs) ⊎ List·Memᴰ h (elim (passable o) as (λ x. List Choice) [ true ↦ choices ps | false ↦ [] ])
+        by-part : List·Memᴰ h (takings (partsAfter o fs ps) fs) ⊎ List·Memᴰ h (elim (passable o) as (λ x. List Choice) [ true ↦ choices ps | false ↦ [] ])
             → (List·Memᴰ h (choices ps) → Matches R ps (element id first whole c inside rest))
             → Matches R (part o fs ∷ ps) (element id first whole c inside rest)
         by-part (inl n) further = taken-match o fs ps h n fits k
@@ -145,7 +145,7 @@ module _ (R : ℕ → Bool) where
         subst (λ (i : ℕ). Matches R (select i s ns ∷ ps) (element id first whole c inside rest)) (eqb-true id a own)
         (choose (picked .name) (picked .way) (picked .further))
 
-  -- What begins as some parts choose they describe.
+  -- Some parts describe what begins as they choose.
   pub begin-matches : (ps : List Part) (t : Tree) → Begins R ps t → Matches R ps t
   begin-matches ps none b = skipped-match ps b
   begin-matches ps (element id first whole c inside rest) b =

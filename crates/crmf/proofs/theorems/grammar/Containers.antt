@@ -10,14 +10,14 @@ use lib.ListN.{getElem?}
 use borrow.Author.Tests.{not-true}
 use Rattle.crmf.specs.meaning.Notation.{among, Name, names, Inside, free, holds, Form, Occurs, once, optional, repeated, Part, part, select}
 use Rattle.crmf.specs.meaning.Grammar.{content}
-use Rattle.crmf.specs.meaning.Language.{behind, OneOf, first, later}
+use Rattle.crmf.specs.meaning.Language.{partsAfter, OneOf, first, later}
 use Rattle.crmf.specs.meaning.Value.{Selector}
 use Rattle.crmf.specs.meaning.Rows.{container}
 use Rattle.crmf.proofs.theorems.grammar.Names.{at-each}
 use Rattle.crmf.proofs.theorems.lists.Tests.{all, all-getElem}
 use Rattle.crmf.proofs.theorems.grammar.Choices.{never-both}
 
--- whether the row that the rows behind it have for their parent is a container's: the element's own, if it has one
+-- whether the row that is the parent of the rows to come is a container's: the element's own row, if it has one
 abbrev pub bearsIf : ℕ → Bool → Bool
 bearsIf kind b = elim (eqb kind 0) [ true ↦ b | false ↦ container kind ]
 
@@ -34,7 +34,7 @@ unfoldable pub allForms : (Form → Bool) → List Form → Bool
 allForms test [] = true
 allForms test (f ∷ fs) = test f && allForms test fs
 
--- no row stands in what a form, some parts and a container describe, where q says so of the containers below
+-- no row stands in what a form, some parts and a container describe; q says so of the containers below
 unfoldable pub quietIn : (Name → Bool) → Inside → Bool
 quietIn q free = true
 quietIn q (holds n) = q n
@@ -66,12 +66,12 @@ unfoldable pub earlyIn : Inside → Bool
 earlyIn free = false
 earlyIn (holds n) = early (content n)
 
--- what stands inside an element may stand there, where b says whether the row above is a container's
+-- what is inside an element may stand there; b says whether the row above is a container's
 unfoldable pub rightIn : Bool → Inside → Bool
 rightIn b free = true
 rightIn b (holds n) = b || quiet n
 
--- A form is right below a row: its rows stand below containers' rows, and what may give the element a row stands behind no row of its own.
+-- A form is right below a row: its rows stand below containers' rows, and what may give the element a row comes after no row of its own.
 unfoldable pub rightForm : Bool → Form → Bool
 rightForm b f =
     (eqb (f .item) 0 || b)
@@ -81,7 +81,7 @@ rightForm b f =
 -- Some parts are right below a row.
 unfoldable pub right : Bool → List Part → Bool
 right b [] = true
-right b (part o fs ∷ ps) = allForms (rightForm b) fs && (not (early (behind o fs ps)) && right b ps)
+right b (part o fs ∷ ps) = allForms (rightForm b) fs && (not (early (partsAfter o fs ps)) && right b ps)
 right b (select id s ns ∷ ps) = (b || all quiet ns) && right b ps
 
 -- Every container is right below a container's row, and one without rows below any: a test that computes.
@@ -89,7 +89,7 @@ all-right : all (λ n. right true (content n) && (not (quiet n) || right false (
 unfolding content right rightForm rightIn allForms early earlyIn givesItem quiet quietTo quietParts quietIn container among
 all-right = refl
 
--- one of two holds: the second where the first doesn't
+-- one of two holds: the second if the first doesn't
 pub or-second : (a b : Bool) → (a || b) ≡ true → a ≡ false → b ≡ true
 or-second true b e off = never-both true refl off
 or-second false b e off = e
@@ -133,7 +133,7 @@ right-form b f e =
     free-own true w y = refl
     free-own false w y = never-both (earlyIn (f .inside)) y (not-true (earlyIn (f .inside)) w)
 
--- a container is right where the row above is a container's, or where it has no rows
+-- a container is right if the row above is a container's, or if it has no rows
 pub right-content : (b : Bool) (n : Name) → (b || quiet n) ≡ true → right b (content n) ≡ true
 right-content b n either = go b either (and-eq-true-iff (right true (content n)) (not (quiet n) || right false (content n)) .0 both)
   where
@@ -156,27 +156,27 @@ right-way b id i s ns ps n e there =
     go true w = refl
     go false w = all-getElem quiet n ns w i there
 
--- What right parts say: of each form, of the parts behind one, and of the parts behind the first.
+-- What right parts say: of each form, of the parts after one, and of the parts after the first.
 pub record RightPart (b : Bool) (o : Occurs) (fs : List Form) (ps : List Part) : Type 0 where
   pub form : {f : Form} → OneOf f fs → Right b f
-  pub late : early (behind o fs ps) ≡ false
-  pub behind-form : right b (behind o fs ps) ≡ true
+  pub late : early (partsAfter o fs ps) ≡ false
+  pub after-form : right b (partsAfter o fs ps) ≡ true
   pub past : right b ps ≡ true
 
 -- parts that pass the test say so
 pub right-part : (b : Bool) (o : Occurs) (fs : List Form) (ps : List Part) → right b (part o fs ∷ ps) ≡ true → RightPart b o fs ps
 unfolding right
 right-part b o fs ps e =
-    let one = and-eq-true-iff (allForms (rightForm b) fs) (not (early (behind o fs ps)) && right b ps) .0 e in
-    let two = and-eq-true-iff (not (early (behind o fs ps))) (right b ps) .0 (one .1) in
+    let one = and-eq-true-iff (allForms (rightForm b) fs) (not (early (partsAfter o fs ps)) && right b ps) .0 e in
+    let two = and-eq-true-iff (not (early (partsAfter o fs ps))) (right b ps) .0 (one .1) in
     record {
       form = λ {f} m. right-form b f (forms-at (rightForm b) m (one .0));
-      late = not-true (early (behind o fs ps)) (two .0);
-      behind-form = again o e (two .1);
+      late = not-true (early (partsAfter o fs ps)) (two .0);
+      after-form = again o e (two .1);
       past = two .1;
     }
   where
-    again : (p : Occurs) → right b (part p fs ∷ ps) ≡ true → right b ps ≡ true → right b (behind p fs ps) ≡ true
+    again : (p : Occurs) → right b (part p fs ∷ ps) ≡ true → right b ps ≡ true → right b (partsAfter p fs ps) ≡ true
     again once whole past = past
     again optional whole past = past
     again repeated whole past = whole

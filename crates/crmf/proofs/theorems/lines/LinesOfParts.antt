@@ -1,5 +1,5 @@
 -- Lines and parts: from a container's start on stand the lines of its parts, so the search among the lines chooses what the parts choose,
--- and the lines let a container end where the parts do. Assumes nothing.
+-- and the lines let a container end exactly when the parts do. Assumes nothing.
 use Prim.Native.Nat.{ℕ, zero, suc, _+_}
 use native.Mathlib.Nat.{add-zero}
 use native.Mathlib.Numerals.{add-one}
@@ -18,7 +18,7 @@ use Rattle.crmf.specs.meaning.Kinds as kinds
 use Rattle.crmf.specs.meaning.Value.{Selector}
 use Rattle.crmf.specs.meaning.Notation.{octet, named, both, Name, names, order, Form, Occurs, once, optional, repeated, Part, part, select}
 use Rattle.crmf.specs.meaning.Grammar.{content}
-use Rattle.crmf.specs.meaning.Language.{passable, behind}
+use Rattle.crmf.specs.meaning.Language.{passable, partsAfter}
 use Rattle.crmf.specs.steps.grammar.Lines.{keep, choose, needed, Line, endLine, partSize, size, startsFrom, start, insideLine, passOf, formLines, nextLine, wayLine, partLines, containerLines, linesFrom, lines}
 use Rattle.crmf.specs.steps.explain.Walk.{line, goesOn, findLine, closedIn, closed, ways}
 use Rattle.crmf.proofs.theorems.lists.Tests.{all}
@@ -58,17 +58,17 @@ record Placed (at : ℕ) (xs : List Line) (n : Name) : Type 0 where
   more : List Line
   there : drop at xs ≡ containerLines at (content n) ++ more
 
--- behind some lines, the lines of a list of containers hold those of each of them from its start on
+-- after some lines, the lines of a list of containers hold those of each of them from its start on
 placed : (before : List Line) (at : ℕ) (ns : List Name) (i : ℕ) (n : Name) → length before ≡ at → getElem? ns i ≡ some n
     → Placed (getD (startsFrom at ns) i 0) (before ++ linesFrom at ns) n
 unfolding startsFrom linesFrom
 placed before at [] i n sized there = not-there there
 placed before at (m ∷ ns) zero n sized there =
     let here : m ≡ n = cc in
-    let behind = linesFrom (at + size (content m)) ns in
+    let after = linesFrom (at + size (content m)) ns in
     record {
-      more = behind;
-      there = drop-at before (containerLines at (content m) ++ behind) at sized ∙ ap (λ (x : Name). containerLines at (content x) ++ behind) here;
+      more = after;
+      there = drop-at before (containerLines at (content m) ++ after) at sized ∙ ap (λ (x : Name). containerLines at (content x) ++ after) here;
     }
 placed before at (m ∷ ns) (suc i) n sized there =
     let own = containerLines at (content m) in
@@ -93,9 +93,9 @@ all-start-past = refl
 pub starts-past : (n : Name) → eqb (start n) 0 ≡ false
 starts-past n = not-true (eqb (start n) 0) (at-each (λ m. not (eqb (start m) 0)) all-start-past n)
 
--- the lines behind some lines
-pub behind-lines : (k j : ℕ) (xs ys : List Line) → drop k lines ≡ xs ++ ys → length xs ≡ j → drop (k + j) lines ≡ ys
-behind-lines k j xs ys e sized = sym (drop-drop j k lines) ∙ ap (drop j) e ∙ drop-at xs ys j sized
+-- the lines after some lines
+pub lines-after : (k j : ℕ) (xs ys : List Line) → drop k lines ≡ xs ++ ys → length xs ≡ j → drop (k + j) lines ≡ ys
+lines-after k j xs ys e sized = sym (drop-drop j k lines) ∙ ap (drop j) e ∙ drop-at xs ys j sized
 
 -- a line among them
 pub line-among : (k j : ℕ) (xs : List Line) → drop k lines ≡ xs → line (k + j) ≡ getD xs j endLine
@@ -106,33 +106,33 @@ line-among k j xs e = sym (getD-drop k lines j endLine) ∙ ap (λ (l : List Lin
 pub line-there : (k : ℕ) (x : Line) (xs : List Line) → drop k lines ≡ x ∷ xs → line k ≡ x
 line-there k x xs e = ap line (sym (add-zero k)) ∙ line-among k 0 (x ∷ xs) e
 
--- the lines behind the first
-pub behind-line : (k : ℕ) (x : Line) (xs : List Line) → drop k lines ≡ x ∷ xs → drop (suc k) lines ≡ xs
-behind-line k x xs e = ap (λ (n : ℕ). drop n lines) (sym (add-one k)) ∙ behind-lines k 1 (x ∷ []) xs e refl
+-- the lines after the first
+pub line-after : (k : ℕ) (x : Line) (xs : List Line) → drop k lines ≡ x ∷ xs → drop (suc k) lines ≡ xs
+line-after k x xs e = ap (λ (n : ℕ). drop n lines) (sym (add-one k)) ∙ lines-after k 1 (x ∷ []) xs e refl
 
--- behind a part stand the lines of the parts behind it
-pub stands-behind : (k : ℕ) (o : Occurs) (fs : List Form) (ps : List Part) → Stands k (part o fs ∷ ps) → Stands (k + length fs) ps
+-- after a part stand the lines of the parts after it
+pub stands-after : (k : ℕ) (o : Occurs) (fs : List Form) (ps : List Part) → Stands k (part o fs ∷ ps) → Stands (k + length fs) ps
 unfolding containerLines partLines partSize determinate complete
-stands-behind k o fs ps s =
+stands-after k o fs ps s =
     let own = formLines o (nextLine o k (length fs)) fs in
     let rest = containerLines (k + length fs) ps ++ s .more in
     record {
       more = s .more;
-      there = behind-lines k (length fs) own rest (s .there ∙ append-assoc own (containerLines (k + length fs) ps) (s .more))
+      there = lines-after k (length fs) own rest (s .there ∙ append-assoc own (containerLines (k + length fs) ps) (s .more))
           (form-lines-length o (nextLine o k (length fs)) fs);
       determined = and-eq-true-iff (apart (choices (part o fs ∷ ps))) (determinate ps) .0 (s .determined) .1;
       completed = and-eq-true-iff (goesOn (passOf o fs)) (complete ps) .0 (s .completed) .1;
     }
 
--- behind an element of a part stand the lines of the parts that may stand there
+-- after an element of a part stand the lines of the parts that may stand there
 pub stands-next : (k : ℕ) (o : Occurs) (fs : List Form) (ps : List Part) → Stands k (part o fs ∷ ps)
-    → Stands (nextLine o k (length fs)) (behind o fs ps)
+    → Stands (nextLine o k (length fs)) (partsAfter o fs ps)
 unfolding nextLine
-stands-next k once fs ps s = stands-behind k once fs ps s
-stands-next k optional fs ps s = stands-behind k optional fs ps s
+stands-next k once fs ps s = stands-after k once fs ps s
+stands-next k optional fs ps s = stands-after k optional fs ps s
 stands-next k repeated fs ps s = s
 
--- What a line says of a form: the form's own fields, and from the line behind it on stand the parts behind it.
+-- What a line says of a form: the form's own fields, and that the lines of the parts after it stand from the line after it on.
 pub record Takes (f : Form) (ps : List Part) (x : Line) : Type 0 where
   pub identified : x .identifiers ≡ f .identifiers
   pub entered : x .inside ≡ insideLine (f .inside)
@@ -158,7 +158,7 @@ abbrev pub Shows : Choice → Line → Type 0
 Shows (taking f ps) x = Takes f ps x
 Shows (choosing id s ns) x = Selects id s ns x
 
--- The search finds the line of the choice, or nothing where there is none.
+-- The search finds the line of the choice, or nothing if there is none.
 abbrev pub Finds : Option Choice → FoundLine → Type 0
 Finds absent f = f ≡ Nowhere
 Finds (some h) f = (n : ℕ) × (f ≡ At n) × Shows h (line n)
@@ -172,7 +172,7 @@ shows-identifiers : (h : Choice) (x : Line) → Shows h x → x .identifiers ≡
 shows-identifiers (taking f ps) x s = s .identified
 shows-identifiers (choosing id t ns) x s = s .identified
 
--- a line that says what the first choice is, with the other choices behind it, if the search goes on there
+-- a line that says what the first choice is, with the other choices after it, if the search goes on there
 track-line : (k : ℕ) (x : Line) (xs : List Line) (h : Choice) (hs : List Choice) → drop k lines ≡ x ∷ xs → Shows h x
     → (goesOn (x .pass) ≡ true → Tracks (suc k) hs) → (goesOn (x .pass) ≡ false → hs ≡ []) → Tracks k (h ∷ hs)
 unfolding chosen
@@ -182,7 +182,7 @@ track-line k x xs h hs e shows on off id = by-name (named (x .identifiers) id) r
     same = shows-identifiers h x shows
 
     by-pass : named (x .identifiers) id ≡ false → (b : Bool) → goesOn (x .pass) ≡ b → Finds (chosen hs id) (findLine k id)
-    by-pass fails true go = rw (find-line-on k x xs e id fails go (behind-line k x xs e)) (on go id)
+    by-pass fails true go = rw (find-line-on k x xs e id fails go (line-after k x xs e)) (on go id)
     by-pass fails false stop = rw (off stop) (find-line-off k x xs e id fails stop)
 
     by-name : (b : Bool) → named (x .identifiers) id ≡ b → Finds (chosen (h ∷ hs) id) (findLine k id)
@@ -190,14 +190,14 @@ track-line k x xs h hs e shows on off id = by-name (named (x .identifiers) id) r
         rw (chosen-first h hs id (rw same at fits)) (k, find-line-found k x xs e id fits, rw (line-there k x xs e) shows)
     by-name false fails = rw (chosen-later h hs id (rw same at fails)) (by-pass fails (goesOn (x .pass)) refl)
 
--- behind a part's last form the search goes on where the part may be passed over
+-- after a part's last form the search goes on if the part may be passed over
 pass-last : (o : Occurs) → goesOn (passOf o []) ≡ passable o
 unfolding passOf
 pass-last once = refl
 pass-last optional = refl
 pass-last repeated = refl
 
--- the search ends only behind the last form of a part that is needed
+-- the search ends only after the last form of a needed part
 pass-stops : (o : Occurs) (fs : List Form) → goesOn (passOf o fs) ≡ false → (fs ≡ []) × (passable o ≡ false)
 unfolding passOf
 pass-stops once [] e = (refl, refl)
@@ -205,7 +205,7 @@ pass-stops once (f ∷ fs) e = never-both true refl e
 pass-stops optional fs e = never-both true refl e
 pass-stops repeated fs e = never-both true refl e
 
--- a part's forms, with other choices behind them where the part may be passed over
+-- a part's forms, with other choices after them if the part may be passed over
 track-forms : (o : Occurs) (next k : ℕ) (ps : List Part) (fs : List Form) (xs : List Line) (hs : List Choice)
     → drop k lines ≡ formLines o next fs ++ xs → Stands next ps → goesOn (passOf o fs) ≡ true
     → (passable o ≡ true → Tracks (k + length fs) hs) → (passable o ≡ false → hs ≡ []) → Tracks k (takings ps fs ++ hs)
@@ -218,7 +218,7 @@ track-forms o next k ps (f ∷ fs) xs hs e stands on past stop =
     let place : k + suc (length fs) ≡ suc k + length fs = omega arith in
     track-line k x rest (taking f ps) (takings ps fs ++ hs) e shows
     (λ further.
-    track-forms o next (suc k) ps fs xs hs (behind-line k x rest e) stands further (λ p. subst (λ (n : ℕ). Tracks n hs) place (past p)) stop)
+    track-forms o next (suc k) ps fs xs hs (line-after k x rest e) stands further (λ p. subst (λ (n : ℕ). Tracks n hs) place (past p)) stop)
     (λ last.
     let l = pass-stops o fs last in
     ap (λ (gs : List Form). takings ps gs ++ hs) (l .0) ∙ stop (l .1))
@@ -237,11 +237,11 @@ find-line-chooses (part o fs ∷ ps) k s =
     let next = nextLine o k (length fs) in
     let own = formLines o next fs in
     let rest = containerLines (k + length fs) ps in
-    let behind-it = stands-behind k o fs ps s in
-    track-forms o next k (behind o fs ps) fs (rest ++ s .more) (elim (passable o) [ true ↦ choices ps | false ↦ [] ])
+    let after-it = stands-after k o fs ps s in
+    track-forms o next k (partsAfter o fs ps) fs (rest ++ s .more) (elim (passable o) [ true ↦ choices ps | false ↦ [] ])
     (s .there ∙ append-assoc own rest (s .more)) (stands-next k o fs ps s)
     (and-eq-true-iff (goesOn (passOf o fs)) (complete ps) .0 (s .completed) .0)
-    (λ p. rw p (find-line-chooses ps (k + length fs) behind-it)) (λ p. rw p)
+    (λ p. rw p (find-line-chooses ps (k + length fs) after-it)) (λ p. rw p)
 find-line-chooses (select id t ns ∷ ps) k s =
     let x : Line = record { identifiers = octet id; inside = 0; judge = choose t; kind = kinds.none; item = kinds.none; mark = both; next = suc k; pass = needed } in
     let rest = containerLines (k + suc (length ns)) ps ++ s .more in
@@ -256,11 +256,11 @@ find-line-chooses (select id t ns ∷ ps) k s =
       itemed = refl;
       marked = refl;
       counted = ways-count;
-      onward = λ w n there. ap (λ (y : Line). y .next) (line-among (suc k) w (map wayLine ns ++ rest) (behind-line k x (map wayLine ns ++ rest) e) ∙ way-among ns rest w n there);
+      onward = λ w n there. ap (λ (y : Line). y .next) (line-among (suc k) w (map wayLine ns ++ rest) (line-after k x (map wayLine ns ++ rest) e) ∙ way-among ns rest w n there);
     } in
     track-line k x (map wayLine ns ++ rest) (choosing id t ns) [] e shows (λ on. never-both true refl (sym on)) (λ off. refl)
 
--- the lines of a part let a container end where the part may be passed over and the lines behind it do
+-- the lines of a part let a container end if the part may be passed over and the lines after it do
 closed-forms : (o : Occurs) (next : ℕ) (fs : List Form) (xs : List Line) → goesOn (passOf o fs) ≡ true
     → closedIn (formLines o next fs ++ xs) ≡ (passable o && closedIn xs)
 unfolding formLines closedIn passOf
@@ -272,15 +272,15 @@ closed-forms optional next (f ∷ fs) xs on = closed-forms optional next fs xs r
 closed-forms repeated next [] xs on = refl
 closed-forms repeated next (f ∷ fs) xs on = closed-forms repeated next fs xs refl
 
--- Where the lines of some parts stand, the lines let the container end where the parts do.
+-- Where the lines of some parts stand, they let the container end exactly when the parts do.
 pub closed-skips : (ps : List Part) (k : ℕ) → Stands k ps → closed k ≡ skippable ps
-unfolding containerLines partLines partSize skippable complete closed closedIn stands-behind
+unfolding containerLines partLines partSize skippable complete closed closedIn stands-after
 closed-skips [] k s = ap closedIn (s .there)
 closed-skips (part o fs ∷ ps) k s =
     let own = formLines o (nextLine o k (length fs)) fs in
     let rest = containerLines (k + length fs) ps in
-    let behind-it = stands-behind k o fs ps s in
+    let after-it = stands-after k o fs ps s in
     ap closedIn (s .there ∙ append-assoc own rest (s .more))
     ∙ closed-forms o (nextLine o k (length fs)) fs (rest ++ s .more) (and-eq-true-iff (goesOn (passOf o fs)) (complete ps) .0 (s .completed) .0)
-    ∙ ap (λ (b : Bool). passable o && b) (sym (ap closedIn (behind-it .there)) ∙ closed-skips ps (k + length fs) behind-it)
+    ∙ ap (λ (b : Bool). passable o && b) (sym (ap closedIn (after-it .there)) ∙ closed-skips ps (k + length fs) after-it)
 closed-skips (select id t ns ∷ ps) k s = ap closedIn (s .there)

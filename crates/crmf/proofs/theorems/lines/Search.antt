@@ -35,7 +35,7 @@ moves needed h = absurd (omega arith)
 moves another h = refl
 moves over h = refl
 
--- what the code of a line's identifiers says: an octet's is that of the one identifier, and nothing's is none's
+-- what the code of a line's identifiers says: an octet's code stands for that one identifier, and the code of nothing for none
 pub own-code : (i : Identifiers) (id : ℕ) → identifiersCode i ≡ id + codes.octet → named i id ≡ true
 unfolding identifiersCode named
 own-code (octet a) id e = eq-eqb id a (omega arith)
@@ -77,19 +77,19 @@ passing x xs = go (x .pass)
     go another h = absurd (omega arith)
     go over h = refl
 
--- with a line that stands at k, and those behind it
+-- with a line that stands at k, and those after it
 module _ (k : ℕ) (x : Line) (xs : List Line) (there : drop k lines ≡ x ∷ xs) (id : ℕ) where
   -- the search finds a line that has the identifier
   pub find-line-found : named (x .identifiers) id ≡ true → findLine k id ≡ At k
   unfolding findLine findLineIn
   find-line-found fits = rw there (rw (fits, findLineIn))
 
-  -- at another it goes on where the line says so
+  -- at another it goes on if the line says so
   pub find-line-on : named (x .identifiers) id ≡ false → goesOn (x .pass) ≡ true → drop (suc k) lines ≡ xs → findLine k id ≡ findLine (suc k) id
   unfolding findLine findLineIn
-  find-line-on fails on behind = rw there (rw (fails, findLineIn) (rw (on, behind)))
+  find-line-on fails on after = rw there (rw (fails, findLineIn) (rw (on, after)))
 
-  -- and else ends
+  -- and otherwise ends
   pub find-line-off : named (x .identifiers) id ≡ false → goesOn (x .pass) ≡ false → findLine k id ≡ Nowhere
   unfolding findLine findLineIn
   find-line-off fails off = rw there (rw (fails, findLineIn) (rw off))
@@ -130,8 +130,8 @@ module _ (k : ℕ) (h : lineCount ≤ k) where
   unfolding closed closedIn
   closed-past = rw (closed, none-left)
 
--- a line where the search stays and that has no identifier; and the test that such a line is behind each line for identifiers of a code
--- other than an octet's that may be passed over
+-- a line without identifiers at which the search ends; and the test that such a line comes after each line that may be passed over and
+-- whose identifiers have a code other than an octet's
 abbrev bars : Line → Bool
 bars x = eqb (identifiersCode (x .identifiers)) (identifiersCode nothing) && not (goesOn (x .pass))
 
@@ -167,7 +167,7 @@ find-line-ends k h id low = by-name (named (line k .identifiers) id) refl
     by-name true e = find-line-here k h id e
     by-name false e = by-pass (goesOn (line k .pass)) e refl
 
--- a line's place behind others, and that it has an identifier
+-- a line's place after others, and that it has an identifier
 abbrev Named : List Line → ℕ → ℕ → ℕ → Type 0
 Named xs k id n = (m : ℕ) × (n ≡ k + m) × (named (getD xs m endLine .identifiers) id ≡ true)
 
@@ -195,9 +195,9 @@ found-names k id n e =
     let (m, place, fits) = find-line-names (drop k lines) k id n e in
     rw place (rw (getD-drop k lines m endLine) at fits)
 
--- What holds at the line where a search begins, and goes on where a line may be passed over, holds at the line that is found.
+-- What holds at the line where a search begins, and is kept past every line that may be passed over, holds at the line that is found.
 module _ (P : ℕ → Type 0) (on : (k : ℕ) → P k → goesOn (line k .pass) ≡ true → P (suc k)) (id n : ℕ) where
-  -- with so many lines to the table's end
+  -- by the number of lines to the table's end
   kept-from : (f k : ℕ) → lineCount ≤ k + f → P k → findLine k id ≡ At n → P n
   kept-from zero k h p e = let past = find-line-past k (omega arith) id in let z : _≡_ {A = ℕ} 0 1 = cc in absurd (omega arith)
   kept-from (suc f) k h p e = by-place (ltb k lineCount) refl (kept-from f (suc k) (omega arith))

@@ -140,7 +140,7 @@ to : (b : Bool) (d next n : ℕ) → (elim b [ true ↦ To next | false ↦ Brea
 to true d next n e = (refl, cc)
 to false d next n e = let z : _≡_ {A = ℕ} 0 1 = cc in absurd (omega arith)
 
--- Behind an element, whatever its value, the walk goes on with a line of the table where the container may end or an element is found.
+-- After an element, whatever its value, the walk goes on with a line of the table where the container may end or an element is found.
 pub onward-lives : (k : ℕ) (c : List ℕ) (n : ℕ) → judged (line k .judge) (line k .next) c ≡ To n → (n < lineCount) × Lives n
 unfolding judged
 onward-lives k c n = go (line k .judge) (line k .next) (going k) (next-small k)
@@ -155,7 +155,7 @@ onward-lives k c n = go (line k .judge) (line k .next) (going k) (next-small k)
         let p = to (ltb w (ways s)) 3 (line (next + w) .next) n e in
         there (line (next + w) .next) (next-small (next + w)) (way s next t w (ltb-true _ _ (p .0)) .1) (p .1)
 
--- So it does where a container starts.
+-- The same holds at the line where a container starts.
 pub start-lives : (n : Name) → Lives (start n)
 unfolding computed line findLine findLineIn closed closedIn named among
 start-lives n = lives-right (start n) (at-each (λ m. lives (start m)) refl n)
@@ -163,13 +163,13 @@ start-lives n = lives-right (start n) (at-each (λ m. lives (start m)) refl n)
 -- the lines of a selector's ways, from a line on
 pub record WayLines (at count : ℕ) : Type 0 where
   pub way : (w : ℕ) → w < count → (line (at + w) .identifiers ≡ nothing) × (line (at + w) .pass ≡ needed)
-  pub behind : line (at + count) .pass ≡ ends
+  pub after : line (at + count) .pass ≡ ends
 
 -- A selector's ways are as many as its lines, and as many as the grammar has.
 pub ways-lines : (k : ℕ) (s : Selector) → line k .judge ≡ choose s → WayLines (line k .next) (ways s)
 ways-lines k s e =
     let t = rw e at (going k) in
-    record { way = λ w h. way-code (line (line k .next + w)) (way s (line k .next) t w h .0); behind = ends-code _ (last s (line k .next) t) }
+    record { way = λ w h. way-code (line (line k .next + w)) (way s (line k .next) t w h .0); after = ends-code _ (last s (line k .next) t) }
 
 abbrev ways-right : Part → Bool
 ways-right (part o fs) = true

@@ -1,5 +1,5 @@
 -- What the fields of the packed table's words say of the grammar's lines. A test that is computed at every line holds at the line of any
--- number, since past the end stands the end line, which is also the first. So each field is one computed test. Assumes nothing.
+-- number, since any number past the end has the end line, which is also the first. So each field is one computed test. Assumes nothing.
 use Prim.Native.Nat.{ℕ, _+_, _<_}
 use mathlib.Core.Bool.{Bool, true}
 use mathlib.Core.List.{List}
@@ -16,7 +16,7 @@ use Rattle.crmf.specs.steps.grammar.Packed.{passField, identifiersField,
 use Rattle.crmf.specs.steps.explain.Walk.{line, rowsBy}
 use Rattle.crmf.proofs.theorems.lists.Tests.{all, all-first}
 
--- the table, to be computed: whoever unfolds it unfolds all that the lines and their words are made of
+-- the table, for computing: to unfold it is to unfold all that the lines and their words are made of
 unfoldable pub computed : List ℕ
 unfolding packed pack beside actionOf passCode identifiersCode judgeCode markCode lines linesFrom containerLines partLines wayLine nextLine formLines passOf insideLine start startsFrom size partSize order content
 computed = packed
@@ -79,7 +79,7 @@ rows-at = field-at rowsField rowsBy refl
 small-at : (f : Line → ℕ) (n : ℕ) → all (λ x. ltb (f x) n) lines ≡ true → (k : ℕ) → f (line k) < n
 small-at f n e k = ltb-true _ _ (at-line (λ x. ltb (f x) n) e k)
 
--- How many lines the table has. The code has it as a constant: where a proof meets the constant's value, it is this by computing.
+-- How many lines the table has. The code has it as a constant: if a proof meets the constant's value, it equals this by computing.
 unfoldable pub lineCount : ℕ
 unfolding computed
 lineCount = length lines

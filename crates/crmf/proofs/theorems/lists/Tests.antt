@@ -1,4 +1,4 @@
--- Tests of lists, to be computed, and what they say of the entries: a test of all entries holds at each, and a test of some entry holds
+-- Tests of lists that compute, and what they say of the entries: a test of all entries holds at each, and a test of some entry holds
 -- at one that can be named. Assumes nothing.
 use Prim.Native.Nat.{ℕ, zero, suc}
 use mathlib.Core.Bool.{Bool, true, false, _&&_, _||_, and-eq-true-iff, false≢true}
@@ -32,7 +32,7 @@ module _ {A : Type 0} (f : A → Bool) where
   all-getD d z (x ∷ xs) e zero = and-eq-true-iff (f x) (all xs) .0 e .0
   all-getD d z (x ∷ xs) e (suc k) = all-getD d z xs (and-eq-true-iff (f x) (all xs) .0 e .1) k
 
-  -- where the entry that stands past the end is also the first
+  -- if the entry past the end is also the first
   pub all-first : (x : A) (xs : List A) → all (x ∷ xs) ≡ true → (k : ℕ) → f (getD (x ∷ xs) k x) ≡ true
   all-first x xs e = all-getD x (and-eq-true-iff (f x) (all xs) .0 e .0) (x ∷ xs) e
 

@@ -1,4 +1,4 @@
--- Lists of elements as lists of fields. Well-formed elements are well-formed fields that stand one behind the other: so a constructed field
+-- Lists of elements as lists of fields. Well-formed elements are well-formed fields that stand one after the other: so a constructed field
 -- consists of the fields inside it, each stands at its place in the octets of the whole, and all of it moves with the bytes. Assumes nothing.
 use Prim.Native.Nat.{ℕ, zero, suc, _+_, _≤_}
 use native.Mathlib.Nat.{add-assoc}
@@ -34,7 +34,7 @@ pub fields-none : fields none ≡ []
 unfolding fields
 fields-none = refl
 
--- the fields of some elements: the first element's, and those of the elements behind it
+-- the fields of some elements: the first element's, and those of the elements after it
 pub fields-element : (id first whole : ℕ) (c : List ℕ) (inside rest : Tree)
     → fields (element id first whole c inside rest)
     ≡ record { identifier = id; place = first; whole = whole; content = c; inside = inside } ∷ fields rest
@@ -53,14 +53,14 @@ unfolding fields chain
 fields-chain [] = refl
 fields-chain (f ∷ fs) = ap (λ (gs : List Field). f ∷ gs) (fields-chain fs)
 
--- the encoding of a list of elements is its fields' octets, one behind the other
+-- the encoding of a list of elements is its fields' octets, one after the other
 pub encode-fields : (t : Tree) → encode t ≡ flatMap octets (fields t)
 unfolding fields flatMap octets
 encode-fields none = encode-none
 encode-fields (element id first whole c inside rest) =
     encode-element id first whole c inside rest ∙ ap (λ (bs : List ℕ). (header id c ++ c) ++ bs) (encode-fields rest)
 
--- A field is well-formed with so many levels of depth left, its own among them.
+-- A field is well-formed within some levels of depth, its own among them.
 abbrev pub FormedField : ℕ → Field → Type 0
 FormedField zero f = ⊥
 FormedField (suc left) f =
@@ -78,7 +78,7 @@ fields-formed (suc left) p (element id first whole c inside rest) w f (List·Mem
 fields-formed (suc left) p (element id first whole c inside rest) w f (List·Memᴰ·tail m) =
     fields-formed (suc left) (p + whole) rest (well-formed-element left p id first whole c inside rest .0 w .1) f m
 
--- well-formed elements stand one behind the other
+-- well-formed elements stand one after the other
 pub fields-run : (left p : ℕ) (t : Tree) → WellFormed left p t → Runs p (p + length (encode t)) (fields t)
 unfolding fields octets
 fields-run left p none w = omega (arith, ap length encode-none)
@@ -89,7 +89,7 @@ fields-run (suc left) p (element id first whole c inside rest) w =
     = omega (arith, one .sized, encode-length id first whole c inside rest) in
     (one .placed, one .sized, subst (λ (e : ℕ). Runs (p + whole) e (fields rest)) size (fields-run (suc left) (p + whole) rest more))
 
--- well-formed fields that stand one behind the other are well-formed elements
+-- well-formed fields that stand one after the other are well-formed elements
 pub chain-formed : (left from to : ℕ) (fs : List Field) → Runs from to fs → ((f : Field) → List·Memᴰ f fs → FormedField left f)
     → WellFormed left from (chain fs)
 unfolding chain
@@ -105,7 +105,7 @@ chain-formed (suc left) from to (f ∷ fs) run each =
       chain-formed (suc left) (from + f .whole) to fs (run .2) (λ g m. each g (List·Memᴰ·tail m)),
     )
 
--- fields that stand one behind the other end at or behind where they begin
+-- fields that stand one after the other end where they begin or later
 runs-up : (from to : ℕ) (fs : List Field) → Runs from to fs → from ≤ to
 runs-up from to [] run = omega arith
 runs-up from to (f ∷ fs) run = omega (arith, runs-up (from + f .whole) to fs (run .2))
@@ -150,7 +150,7 @@ stands-left s p a b h =
     let within : length a ≤ length (a ++ b) = omega (arith, length-append a b) in
     sym (take-take (length a) (length (a ++ b)) (drop p s) within) ∙ ap (take (length a)) h ∙ take-append-seam a b
 
--- those behind the first
+-- those after the first
 pub stands-right : (s : List ℕ) (p : ℕ) (a b : List ℕ) → StandsAt s p (a ++ b) → StandsAt s (p + length a) b
 stands-right s p a b h =
     let front = stands-left s p a b h in
@@ -158,11 +158,11 @@ stands-right s p a b h =
     = sym (take-add (length a) (length b) (drop p s)) ∙ subst (λ (n : ℕ). take n (drop p s) ≡ a ++ b) (length-append a b) h in
     rw (drop-drop (length a) p s) at (append-parts (take (length a) (drop p s)) a (take (length b) (drop (length a) (drop p s))) b (ap length front) both .1)
 
--- octets that stand at a place fit behind it
+-- octets that stand at a place fit into what follows it
 pub stands-fit : (s : List ℕ) (p : ℕ) (part : List ℕ) → StandsAt s p part → 1 ≤ length part → p + length part ≤ length s
 stands-fit s p part h n = omega (arith, simp (length-take, length-drop) at (ap length h))
 
--- fields that stand one behind the other stand each at its place
+-- fields that stand one after the other stand each at its place
 pub runs-stand : (s : List ℕ) (from to : ℕ) (fs : List Field) → Runs from to fs → StandsAt s from (flatMap octets fs)
     → (f : Field) → List·Memᴰ f fs → StandsAt s (f .place) (octets f)
 unfolding flatMap octets
@@ -187,7 +187,7 @@ abbrev pub IfAny : (Field → Type 0) → Option Field → Type 0
 IfAny P absent = Unit {0}
 IfAny P (some f) = P f
 
--- what holds of a field where another thing does
+-- what holds of a field if something else does
 pub if-any : {P Q : Field → Type 0} (o : Option Field) → ((f : Field) → P f → Q f) → IfAny P o → IfAny Q o
 if-any absent step p = tt
 if-any (some f) step p = step f p
@@ -206,7 +206,7 @@ first-with-found ids (g ∷ fs) f e = by-test (among ids (g .identifier)) refl e
         (List·Memᴰ·head (sym same), subst (λ (x : Field). among ids (x .identifier) ≡ true) same test)
     by-test false test there below = let (m, own) = below there in (List·Memᴰ·tail m, own)
 
--- where nothing is found, no field has one of the identifiers
+-- if nothing is found, no field has one of the identifiers
 pub first-with-missing : (ids : List ℕ) (fs : List Field) → firstWith ids fs ≡ absent → (f : Field) → List·Memᴰ f fs → among ids (f .identifier) ≡ false
 unfolding firstWith
 first-with-missing ids [] e f m = absurd (List·Memᴰ·not-nil m)
@@ -220,13 +220,13 @@ first-with-missing ids (g ∷ fs) e f m = by-test (among ids (g .identifier)) re
     by-test false test there below (inl same) = rw same test
     by-test false test there below (inr n) = below there f n
 
--- the first of such fields that has one of the identifiers, where there is no other
+-- the first of such fields that has one of the identifiers, if there is no other
 pub first-with-own : (ids : List ℕ) (o : Option Field) → IfAny (λ f. among ids (f .identifier) ≡ true) o → firstWith ids (listed o) ≡ o
 unfolding firstWith listed
 first-with-own ids absent e = refl
 first-with-own ids (some f) e = rw (e, firstWith)
 
--- behind a field that may stand there and has none of them
+-- after a field that may stand there and has none of them
 pub first-with-after : (ids : List ℕ) (o : Option Field) (fs : List Field) → IfAny (λ f. among ids (f .identifier) ≡ false) o
     → firstWith ids (listed o ++ fs) ≡ firstWith ids fs
 unfolding firstWith listed
@@ -282,7 +282,7 @@ pub child-moved : (d id : ℕ) (f : Field) → child id (movedField d f) ≡ Opt
 unfolding child
 child-moved d id f = rw (inside-moved d f) (first-with-moved d (id ∷ []) (fields (f .inside)))
 
--- fields further on, behind the first ones
+-- fields further on, after the first ones
 pub drop-moved : (d n : ℕ) (fs : List Field) → drop n (map (movedField d) fs) ≡ map (movedField d) (drop n fs)
 drop-moved d zero fs = refl
 drop-moved d (suc n) [] = refl
@@ -309,19 +309,19 @@ formed-moved d (suc left) f formed =
       valued = λ e. (ap (moved d) (formed .valued e .0) ∙ moved-none d, formed .valued e .1);
     }
 
--- fields that stand one behind the other do so further on
+-- fields that stand one after the other do so further on
 pub runs-moved : (d from to : ℕ) (fs : List Field) → Runs from to fs → Runs (d + from) (d + to) (map (movedField d) fs)
 unfolding movedField octets
 runs-moved d from to [] run = ap (λ (n : ℕ). d + n) run
 runs-moved d from to (f ∷ fs) run =
     (ap (λ (n : ℕ). d + n) (run .0), run .1, rw (add-assoc d from (f .whole)) (runs-moved d (from + f .whole) to fs (run .2)))
 
--- fields that stand one behind the other, behind others that do
+-- fields that stand one after the other, after others that do
 pub runs-append : (from mid to : ℕ) (fs gs : List Field) → Runs from mid fs → Runs mid to gs → Runs from to (fs ++ gs)
 runs-append from mid to [] gs run more = rw run more
 runs-append from mid to (f ∷ fs) gs run more = (run .0, run .1, runs-append (from + f .whole) mid to fs gs (run .2) more)
 
--- the octets of fields behind others
+-- the octets of fields after others
 pub octets-append : (fs gs : List Field) → flatMap octets (fs ++ gs) ≡ flatMap octets fs ++ flatMap octets gs
 unfolding flatMap
 octets-append [] gs = refl

@@ -1,4 +1,4 @@
--- Fields step by step, as code reads them from place to place: the field at a place and those behind it, those inside it, the first with an
+-- Fields step by step, as code reads them from place to place: the field at a place and those after it, those inside it, the first with an
 -- identifier, and the messages of a batch. Assumes nothing.
 use Prim.Native.Nat.{ℕ, _+_, _-_, _≤_, _<_}
 use native.Mathlib.Nat.{eq-or-lt-of-le}
@@ -43,19 +43,19 @@ pub fields-end : (s : List ℕ) (p e : ℕ) → e ≤ p → fieldsBetween s p e 
 unfolding fieldsBetween
 fields-end s p e past = ap (λ (bs : List ℕ). fields (tree p bs)) (slice-none p e s (omega arith)) ∙ ap fields (tree-end p) ∙ fields-none
 
--- What the fields from a place to another say of the first: it is the one that is read there, and the others stand behind it.
+-- What the fields from a place to another say of the first: it is the one that is read there, and the others stand after it.
 pub record Begins (s : List ℕ) (p e : ℕ) (f : Field) (fs : List Field) : Type 0 where
   pub room : p < e
   pub here : fieldAt s p (readAt s p e) ≡ f
-  pub behind : fieldsBetween s (readAt s p e .end) e ≡ fs
+  pub after : fieldsBetween s (readAt s p e .end) e ≡ fs
 
 module _ (s : List ℕ) (p e : ℕ) (fits : e ≤ length s) (high : length s ≤ 65535) where
-  -- before an end they are the one that is read there and those behind it
+  -- before an end they are the one that is read there and those after it
   pub fields-at : p < e → let x = readAt s p e in fieldsBetween s p e ≡ fieldAt s p x ∷ fieldsBetween s (x .end) e
   unfolding fieldsBetween
   fields-at room = ap fields (tree-at s p e room fits high) ∙ fields-element _ _ _ _ _ _
 
-  -- and where there is a first, it is that one
+  -- and if there is a first, it is that one
   pub fields-begin : {f : Field} {fs : List Field} → p ≤ e → fieldsBetween s p e ≡ f ∷ fs → Begins s p e f fs
   fields-begin {f} {fs} order same = by-room (eq-or-lt-of-le order)
     where
@@ -63,7 +63,7 @@ module _ (s : List ℕ) (p e : ℕ) (fits : e ≤ length s) (high : length s ≤
       by-room (inl end) = let none : f ∷ fs ≡ [] = sym same ∙ fields-end s p e (omega arith) in absurd (omega (arith, ap length none))
       by-room (inr room) =
           let both = sym (fields-at room) ∙ same in
-          record { room = room; here = ap (λ (l : List Field). getD l 0 f) both; behind = ap (drop 1) both }
+          record { room = room; here = ap (λ (l : List Field). getD l 0 f) both; after = ap (drop 1) both }
 
 -- the fields inside a constructed one
 pub inside-fields : (s : List ℕ) (p : ℕ) (x : Element) → constructed (x .identifier) ≡ true
@@ -113,7 +113,7 @@ pub message-field : (f : Field) → messageOf f .own ≡ f
 unfolding messageOf
 message-field f = refl
 
--- a field has an octet at least
+-- a field has at least one octet
 octets-some : (f : Field) → 1 ≤ length (octets f)
 unfolding octets
 octets-some f =

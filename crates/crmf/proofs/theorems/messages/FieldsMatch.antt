@@ -1,4 +1,4 @@
--- What the grammar says of a list of elements it says of its fields, a part at a time: a part that stands once is the first field, a part
+-- What the grammar says of a list of elements, it says of its fields, part by part: a part that stands once is the first field, a part
 -- that may stand once is the first field or none, a repeated part is all of them. Assumes nothing.
 use Prim.Native.Nat.{ℕ}
 use mathlib.Core.Path.{_≡_, refl}
@@ -12,7 +12,7 @@ use Rattle.der.specs.meaning.Tree.{Tree, element}
 use Rattle.crmf.specs.meaning.Value.{keeps}
 use Rattle.crmf.specs.meaning.Notation.{named, Name, holds, Form, Occurs, once, optional, repeated, Part, part, holding, row}
 use Rattle.crmf.specs.meaning.Grammar.{content}
-use Rattle.crmf.specs.meaning.Language.{readable, behind, OneOf, Matches, end, pass, take, Within, parts}
+use Rattle.crmf.specs.meaning.Language.{readable, partsAfter, OneOf, Matches, end, pass, take, Within, parts}
 use Rattle.crmf.specs.meaning.Fields.{Field, fields, listed}
 use Rattle.crmf.proofs.theorems.grammar.ChoicesMatch.{holds-true, true-holds}
 use Rattle.crmf.proofs.theorems.messages.FieldLaws.{IfAny}
@@ -117,7 +117,7 @@ fits-cons {R} {form} {forms} {f} fit = by-form (fit .one) (fit .keeping)
 
 -- a field that holds what a container holds keeps the form of such an element
 pub holding-take : {R : ℕ → Bool} {o : Occurs} {ps : List Part} {t : Tree} (k id : ℕ) (name : Name) (f : Field) → Holding R id name f
-    → Matches R (behind o (row k (holding id name) ∷ []) ps) t
+    → Matches R (partsAfter o (row k (holding id name) ∷ []) ps) t
     → Matches R (part o (row k (holding id name) ∷ []) ∷ ps) (element (f .identifier) (f .place) (f .whole) (f .content) (f .inside) t)
 unfolding named keeps
 holding-take k id name f h m =

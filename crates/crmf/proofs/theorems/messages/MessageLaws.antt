@@ -262,7 +262,7 @@ pub messages-none : (id first whole : ℕ) (c : List ℕ) (rest : Tree) → mess
 unfolding messages batch fields
 messages-none id first whole c rest = refl
 
--- An element's first message, and the messages behind it.
+-- An element's first message, and the messages after it.
 pub messages-step : (id first whole : ℕ) (c : List ℕ) (f : Field) (more rest : Tree)
     → messages (element id first whole c (element (f .identifier) (f .place) (f .whole) (f .content) (f .inside) more) rest)
     ≡ messageOf f ∷ messages (element id first whole c more rest)
@@ -315,7 +315,7 @@ top-batch t m =
     let b = once-begun m in
     rw (b .split) (fits-holding 0x30 Batch 1 (b .item) (fits-only (b .keeping)))
 
--- What a batch is: one element 30 from the first byte on, that consists of its messages, of which there is at least one.
+-- What a batch is: one element 30 from the first byte on, which consists of its messages, at least one.
 pub record BatchContent (t : Tree) : Type 0 where
   pub thirty : batch t .identifier ≡ 0x30
   pub first : batch t .place ≡ 0
@@ -324,7 +324,7 @@ pub record BatchContent (t : Tree) : Type 0 where
   pub whole : Consists (batch t) (map (λ (m : Message). m .own) (messages t))
   pub some : 1 ≤ length (messages t)
 
--- The content of a batch is its messages' octets, one behind the other, and the places run on.
+-- The content of a batch is its messages' octets, one after the other, and the places run on.
 pub batch-content : {R : ℕ → Bool} (t : Tree) → Matches R (content Top) t → WellFormed depth 0 t → Single t → BatchContent t
 unfolding messages octets
 batch-content t m w one =
@@ -372,7 +372,7 @@ pub record MessageStands (s : List ℕ) (m : Message) : Type 0 where
   pub proof : IfAny (λ f. StandsAt s (f .place) (octets f)) (m .proof)
   pub regInfo : IfAny (λ f. StandsAt s (f .place) (octets f)) (m .regInfo)
 
--- what holds of every one of some fields, some of which may not be there
+-- what holds of each of some fields, some of which may be missing
 listed-any : {P : Field → Type 0} (o : Option Field) → ((f : Field) → List·Memᴰ f (listed o) → P f) → IfAny P o
 unfolding listed
 listed-any absent each = tt
@@ -404,7 +404,7 @@ messages-stand t top w one m n =
       regInfo = listed-any (m .regInfo) (λ f i. part f (List·Memᴰ·tail (Memᴰ·append-right (listed (m .proof)) i)));
     }
 
--- what stands at a position is one of the list's
+-- the entry at a position is one of the list's
 pub at-position : {A : Type 0} (l : List A) (i : ℕ) (a : A) → getElem? l i ≡ some a → List·Memᴰ a l
 at-position [] i a e = absurd (Option·none-ne-some a e)
 at-position (x ∷ l) zero a e = List·Memᴰ·head (sym (Option·some-injective x a e))
@@ -418,7 +418,7 @@ batch-of-matches R fs n each =
     let c = flatMap octets fs in
     batch-matches R 0 (length (header 0x30 c ++ c)) c fs n each
 
--- A batch around well-formed fields that stand one behind the other, behind its header, is well-formed.
+-- A batch around well-formed fields that stand one after the other, after its header, is well-formed.
 pub batch-of-formed : (to : ℕ) (fs : List Field) → Runs (length (header 0x30 (flatMap octets fs))) to fs
     → ((f : Field) → List·Memᴰ f fs → FormedField 19 f) → WellFormed depth 0 (batchOf fs) × Single (batchOf fs)
 unfolding batchOf

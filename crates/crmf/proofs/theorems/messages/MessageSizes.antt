@@ -20,7 +20,7 @@ use Rattle.crmf.proofs.theorems.messages.FieldLaws.{FormedField, child-
 use Rattle.crmf.proofs.theorems.messages.MessageLaws.{MessageParts, batch-content, message-parts, messages-formed}
 use Rattle.crmf.proofs.theorems.messages.ShortIds.{ids-short}
 
--- the octets of a field are two more than its content at least
+-- a field has at least two octets more than its content
 pub octets-two : (f : Field) → 2 + length (f .content) ≤ length (octets f)
 unfolding octets
 octets-two f =
@@ -41,7 +41,7 @@ id-some left m k formed =
     let rule = x .valued (ap constructed (k .certReqId) ∙ integer-primitive) .1 in
     integer-some (m .certReqId .content) (rule .ofInteger (k .certReqId))
 
--- a message has 9 octets at least: four headers, and the content of its certReqId
+-- a message has at least 9 octets: four headers, and the content of its certReqId
 message-nine : (m : Message) → MessageParts m → 1 ≤ length (m .certReqId .content) → 9 ≤ m .own .whole
 message-nine m k some =
     let f = m .own in
@@ -60,7 +60,7 @@ message-nine m k some =
       run .2 .1,
     )
 
--- fields that stand one behind the other, each of so many octets at least
+-- fields that stand one after the other, each of at least n octets
 runs-many : (n from to : ℕ) (fs : List Field) → Runs from to fs → ((f : Field) → List·Memᴰ f fs → n ≤ f .whole) → from + n * length fs ≤ to
 runs-many n from to [] run each = omega (arith, run, mul-zero n)
 runs-many n from to (f ∷ fs) run each =
@@ -72,18 +72,18 @@ runs-many n from to (f ∷ fs) run each =
     )
 
 module _ {R : ℕ → Bool} (t : Tree) (top : Matches R (content Top) t) (w : WellFormed depth 0 t) (one : Single t) where
-  -- A message's certReqId has an octet of content at least.
+  -- A message's certReqId has at least one octet of content.
   pub ids-some : (m : Message) → List·Memᴰ m (messages t) → 1 ≤ length (m .certReqId .content)
   ids-some m at = id-some 16 m (message-parts t top w one m at) (messages-formed t top w one m at)
 
-  -- Where no row is a long certReqId, it has at most 8.
+  -- If no row is a long certReqId, it has at most 8.
   pub ids-eight : allShort (batchRows top) ≡ true → (m : Message) → List·Memᴰ m (messages t) → length (m .certReqId .content) ≤ 8
   unfolding octets
   ids-eight short m at =
       let x = id-formed 17 m (message-parts t top w one m at) (messages-formed t top w one m at) in
       omega (arith, octets-two (m .certReqId), x .sized, ids-short t top short m at)
 
-  -- A batch has two octets and 9 for each of its messages at least.
+  -- A batch has at least two octets, and 9 more for each of its messages.
   pub messages-few : 2 + 9 * length (messages t) ≤ length (encode t)
   messages-few =
       let f = batch t in

@@ -1,4 +1,4 @@
--- The messages of a batch where its octets are read element by element: each field is what is read at its place, and a message's certReqId is
+-- The messages of a batch as its octets are read element by element: each field is what is read at its place, and a message's certReqId is
 -- what is read first inside what is read first inside the message. Assumes nothing.
 use Prim.Native.Nat.{ℕ, _-_, _≤_, _<_}
 use native.Mathlib.Nat.{lt-of-not-le}
@@ -44,13 +44,13 @@ first-read s p e some fits high f fs thirty held =
     let first = sym held ∙ inside ∙ fields-at s (x .content) (x .end) within high there in
     (there, within, cc)
 
--- Where a message is read from the place p, before the place e: its certReqId is read inside its certReq, which is read inside it.
+-- A message that is read from the place p, before the place e: its certReqId is read inside its certReq, which is read inside it.
 pub record IdRead (s : List ℕ) (p e : ℕ) : Type 0 where
   pub there : let x = readAt s p e in let y = readAt s (x .content) (x .end) in (y .content < y .end) × (y .end ≤ length s)
   pub same : let x = readAt s p e in let y = readAt s (x .content) (x .end) in
       messageOf (fieldRead s p e) .certReqId ≡ fieldRead s (y .content) (y .end)
 
--- A message of which the parts are known is read so.
+-- A message whose parts are known is read so.
 pub id-read : (s : List ℕ) (p e : ℕ) → p < e → e ≤ length s → length s ≤ longest → MessageParts (messageOf (fieldRead s p e)) → IdRead s p e
 unfolding messageOf
 id-read s p e some fits high k =
@@ -62,7 +62,7 @@ id-read s p e some fits high k =
     (ap (λ (f : Field). fields (f .inside)) (sym request) ∙ k .request .held) in
     record { there = (inner, ends); same = same }
 
--- Where a whole input is read as a batch, its messages are those of the fields from the batch's content to the input's end.
+-- If a whole input is read as a batch, its messages are those of the fields from the batch's content to the input's end.
 pub batch-read : (s : List ℕ) → length s ≤ longest → encode (tree 0 s) ≡ s → BatchContent (tree 0 s)
     → let p = readAt s 0 (length s) .content in messages (tree 0 s) ≡ map messageOf (fieldsBetween s p (length s))
 unfolding messages

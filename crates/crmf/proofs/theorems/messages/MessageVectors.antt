@@ -1,5 +1,5 @@
--- The messages of two short batches, computed on the definitions: document 01's smallest one, and one of two messages, of which the second
--- has a proof and a regInfo. Assumes nothing.
+-- The messages of two short batches, computed on the definitions: document 01's smallest one, and one of two messages, the second with a
+-- proof and a regInfo. Assumes nothing.
 use Prim.Native.Nat.{ℕ}
 use mathlib.Core.Path.{_≡_, refl}
 use mathlib.Core.List.{List, [], _∷_, _++_, map}

@@ -1,4 +1,4 @@
--- In a batch none of whose rows is a certReqId "of more than 8 content octets" no message's certReqId is one: each is a row of the batch.
+-- If no row of a batch is a certReqId "of more than 8 content octets", no message's certReqId is one: each is a row of the batch.
 -- Assumes nothing.
 use Prim.Native.Nat.{ℕ, _+_, _≤_}
 use native.Mathlib.Omega.{arith}
@@ -25,14 +25,14 @@ both : (a b : Bool) → (a && b) ≡ true → (a ≡ true) × (b ≡ true)
 both true b e = (refl, e)
 both false b e = let z : _≡_ {A = ℕ} 0 1 = cc in absurd (omega arith)
 
--- where no row of two lists is long, none of either is
+-- if no row of two lists is long, no row of either is
 short-append : (a b : List Row) → allShort (a ++ b) ≡ true → (allShort a ≡ true) × (allShort b ≡ true)
 unfolding allShort
 short-append [] b short = (refl, short)
 short-append (r ∷ a) b short =
     let (own, rest) = both (not (longId (r .kind) (r .whole))) (allShort (a ++ b)) short in
-    let (front, behind) = short-append a b rest in
-    (rw (own, front), behind)
+    let (front, after) = short-append a b rest in
+    (rw (own, front), after)
 
 -- a row of a certReqId that is not long
 short-own : (kind p w up : ℕ) → allShort (rowIf kind p w up) ≡ true → kind ≡ kinds.certReqId → w ≤ 10
@@ -68,14 +68,14 @@ short-only {R} {form} {f} s = by-form (s .one) (s .field)
     by-form : {g : Form} → OneOf g (form ∷ []) → ShortField R g f → ShortField R form f
     by-form OneOf.first field = field
 
--- The first field of a list of elements, and the elements behind it.
+-- The first field of a list of elements, and the elements after it.
 record FirstShort (R : ℕ → Bool) (forms : List Form) (ps : List Part) (t : Tree) : Type 0 where
   item : Field
   rest : Tree
   split : fields t ≡ item ∷ fields rest
   field : ShortOne R forms item
   further : Matches R ps rest
-  behind : NoLong further
+  after : NoLong further
 
 -- an element that is taken from a part
 taken-short : {R : ℕ → Bool} {ps : List Part} {rest : Tree} (f : Form) (g : Field) (within : Within R (f .inside) (g .inside))
@@ -93,10 +93,10 @@ taken-short f g within m n up place whole short =
     let own = rowIf (f .kind) (g .place) (g .whole) above in
     let next = n + length item in
     let inner = rowsIn within (next + length own) (parentIf (f .kind) next above) (g .place) (g .whole) in
-    let behind = rows m (next + length own + length inner) up place whole in
-    let a = short-append item (own ++ (inner ++ behind)) short in
-    let b = short-append own (inner ++ behind) (a .1) in
-    let c = short-append inner behind (b .1) in (
+    let after = rows m (next + length own + length inner) up place whole in
+    let a = short-append item (own ++ (inner ++ after)) short in
+    let b = short-append own (inner ++ after) (a .1) in
+    let c = short-append inner after (b .1) in (
       record {
         own = short-own (f .kind) (g .place) (g .whole) above (b .0);
         within = within;
@@ -114,8 +114,8 @@ unfolding fields rows
 once-short (pass ok m) short = absurd ok
 once-short (take {id = id} {first = p} {whole = w} {c = c} {inside = i} {rest = r} f one fits read kept within m) short =
     let g : Field = record { identifier = id; place = p; whole = w; content = c; inside = i } in
-    let (own, behind) = taken-short f g within m (short .n) (short .up) (short .place) (short .whole) (short .short) in
-    record { item = g; rest = r; split = refl; field = record { form = f; one = one; field = own }; further = m; behind = behind }
+    let (own, after) = taken-short f g within m (short .n) (short .up) (short .place) (short .whole) (short .short) in
+    record { item = g; rest = r; split = refl; field = record { form = f; one = one; field = own }; further = m; after = after }
 
 -- a part that stands any number of times and then nothing
 repeated-short : {R : ℕ → Bool} {forms : List Form} {t : Tree} (m : Matches R (part repeated forms ∷ []) t) → NoLong m
@@ -156,7 +156,7 @@ each-short {R} t s f at =
     by-place : (b : FirstShort R (row kinds.message (holding 0x30 Notation.Message) ∷ []) (part repeated (row kinds.message (holding 0x30 Notation.Message) ∷ []) ∷ []) t)
         → (f ≡ b .item) ⊎ List·Memᴰ f (fields (b .rest)) → ShortInside R Notation.Message (f .inside)
     by-place b (inl e) = rw e (short-inside 2 0x30 Notation.Message (b .item) (short-only (b .field)))
-    by-place b (inr n) = short-inside 2 0x30 Notation.Message f (short-only (repeated-short (b .further) (b .behind) f n))
+    by-place b (inr n) = short-inside 2 0x30 Notation.Message f (short-only (repeated-short (b .further) (b .after) f n))
 
 -- the first field inside a field
 first-nth : (f g : Field) (gs : List Field) → fields (f .inside) ≡ g ∷ gs → nth 0 f ≡ g
@@ -174,7 +174,7 @@ id-short f s =
     ap (nth 0) (first-nth f (a .item) (fields (a .rest)) (a .split)) ∙ first-nth (a .item) (x .item) (fields (x .rest)) (x .split) in
     rw here (short-only (x .field) .own refl)
 
--- Where no row of a batch is a certReqId of more than 8 content octets, no message's certReqId is one: it has at most 10 octets.
+-- If no row of a batch is a certReqId of more than 8 content octets, no message's certReqId is one: it has at most 10 octets.
 pub ids-short : {R : ℕ → Bool} (t : Tree) (top : Matches R (content Top) t) → allShort (batchRows top) ≡ true
     → (m : Message) → List·Memᴰ m (messages t) → m .certReqId .whole ≤ 10
 unfolding content batch batchRows

@@ -63,11 +63,11 @@ identifier-octet kind = rw (identifier-of kind) (go (eqb kind kinds.validity) (e
     go false false false false false = omega arith
 
 implied-octets : (kind : ℕ) → Octets (implied kind)
-implied-octets kind = go (eqb kind kinds.carried) refl
+implied-octets kind = go (eqb kind kinds.regInfoCertReq) refl
   where
-    go : (b : Bool) → eqb kind kinds.carried ≡ b → Octets (implied kind)
-    go true is = rw (eqb-true kind kinds.carried is, implied-type) (all-octets (0x06 ∷ 0x09 ∷ 0x2B ∷ 0x06 ∷ 0x01 ∷ 0x05 ∷ 0x05 ∷ 0x07 ∷ 0x05 ∷ 0x02 ∷ 0x02 ∷ []) refl)
-    go false is = rw (implied-none kind (eqb-false kind kinds.carried is)) octets-none
+    go : (b : Bool) → eqb kind kinds.regInfoCertReq ≡ b → Octets (implied kind)
+    go true is = rw (eqb-true kind kinds.regInfoCertReq is, implied-type) (all-octets (0x06 ∷ 0x09 ∷ 0x2B ∷ 0x06 ∷ 0x01 ∷ 0x05 ∷ 0x05 ∷ 0x07 ∷ 0x05 ∷ 0x02 ∷ 0x02 ∷ []) refl)
+    go false is = rw (implied-none kind (eqb-false kind kinds.regInfoCertReq is)) octets-none
 
 -- the octets of pieces are octets
 abbrev Plain : List Piece → Type 0
@@ -101,7 +101,7 @@ shown-plain s octets (r ∷ rs) = rw (pieces-row s r rs) (go (container (r .kind
     go true = octets-none
     go false = octets-drop (r .first) (take (r .first + r .whole) s) (octets-take (r .first + r .whole) s octets)
 
--- The assembly of what rows show of octets is octets, where nothing is too long.
+-- The assembly of what rows show of octets is octets, if nothing is too long.
 pub pieces-octets : (s : List ℕ) → Octets s → (rs : List Row) → noneLonger longest 0 (piecesOf s rs) ≡ true → Octets (assembled 0 (piecesOf s rs))
 pieces-octets s octets rs fits = assembled-octets 0 (piecesOf s rs) (shown-plain s octets rs) fits
 

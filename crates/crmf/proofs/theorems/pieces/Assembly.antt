@@ -16,7 +16,7 @@ use Rattle.crmf.specs.meaning.Value.{Selector, infoType, typeNumber, sel
 use Rattle.crmf.specs.meaning.Lists.{same}
 use Rattle.crmf.specs.meaning.Notation.{among, named, Name, Top, Inside, Form, Occurs, once, optional, repeated, Part, part}
 use Rattle.crmf.specs.meaning.Grammar.{content}
-use Rattle.crmf.specs.meaning.Language.{passable, behind, Matches, end, pass, take, choose, Within, unseen, parts}
+use Rattle.crmf.specs.meaning.Language.{passable, partsAfter, Matches, end, pass, take, choose, Within, unseen, parts}
 use Rattle.crmf.specs.meaning.Rows.{container, parentIf, batchRows}
 use Rattle.crmf.specs.meaning.Pieces.{Piece, piecesOf}
 use Rattle.crmf.specs.steps.rows.Assembly.{identifierOf, implied, assembled, noneLonger}
@@ -47,14 +47,14 @@ piece-some kind up os is = rw (pieceIf, is)
 parent-some : (kind n up : ℕ) → eqb kind 0 ≡ false → parentIf kind n up ≡ n
 parent-some kind n up is = rw (parentIf, is)
 
--- the pieces that an element gives, those inside it and those behind it
+-- the pieces that an element gives, those inside it and those after it
 module _ (inner : ℕ → ℕ → List Piece) (more : ℕ → List Piece) (n : ℕ) where
   abbrev joined : (item shown : List Piece) (above : ℕ) → List Piece
   joined item shown above =
       let below = inner (n + length item + length shown) above in
       item ++ (shown ++ (below ++ more (n + length item + length shown + length below)))
 
-  -- by the number behind the element's own
+  -- by the number after the element's own
   joined-at : (item shown : List Piece) (above j : ℕ) → n + length item + length shown ≡ j
       → joined item shown above ≡ item ++ (shown ++ (inner j above ++ more (j + length (inner j above))))
   joined-at item shown above j at =
@@ -66,7 +66,7 @@ module _ (inner : ℕ → ℕ → List Piece) (more : ℕ → List Piece) (n : �
       ap (λ (l : List Piece). joined l shown above) a ∙ ap (λ (l : List Piece). joined item' l above) b ∙ ap (joined item' shown') c
 
 module _ (kind given : ℕ) (os : List ℕ) (inner : ℕ → ℕ → List Piece) (more : ℕ → List Piece) (n up : ℕ) (around : List ℕ) where
-  -- the pieces of a derivation's first element and of those behind it
+  -- the pieces of a derivation's first element and of those after it
   abbrev onePieces : List Piece
   onePieces = joined inner more n (pieceIf given up around) (pieceIf kind (parentIf given n up) os) (parentIf kind (n + length (pieceIf given up around)) (parentIf given n up))
 
@@ -129,7 +129,7 @@ mutual
       ∙ ap₂ (λ (a b : List Piece). a ++ b) (quiet-inside d w n up (header id c ++ c) (two .1))
       (quiet-pieces d m _ up around (again o test (both .1)))
     where
-      again : (p : Occurs) → quietParts (quietTo d) (part p fs ∷ ps) ≡ true → quietParts (quietTo d) ps ≡ true → quietParts (quietTo d) (behind p fs ps) ≡ true
+      again : (p : Occurs) → quietParts (quietTo d) (part p fs ∷ ps) ≡ true → quietParts (quietTo d) ps ≡ true → quietParts (quietTo d) (partsAfter p fs ps) ≡ true
       again once whole past = past
       again optional whole past = past
       again repeated whole past = whole
@@ -142,8 +142,8 @@ mutual
   quiet-inside d unseen n up around test = refl
   quiet-inside d (parts {n = name} m) n up around test = let (e, deeper) = quiet-name d name test in quiet-pieces e m n up around deeper
 
--- the octets of a container, where no type is implied
-container-octets : (kind id : ℕ) (c : List ℕ) → id ≡ identifierOf kind → eqb kind kinds.carried ≡ false → front kind (length c) ++ c ≡ header id c ++ c
+-- the octets of a container, if no type is implied
+container-octets : (kind id : ℕ) (c : List ℕ) → id ≡ identifierOf kind → eqb kind kinds.regInfoCertReq ≡ false → front kind (length c) ++ c ≡ header id c ++ c
 unfolding implied
 container-octets kind id c is no-type =
     let none : implied kind ≡ [] = rw (implied, no-type) in
@@ -157,11 +157,11 @@ three-bears : container kinds.certReq ≡ true
 unfolding container among
 three-bears = refl
 
-carried-bears : container kinds.carried ≡ true
+carried-bears : container kinds.regInfoCertReq ≡ true
 unfolding container among
 carried-bears = refl
 
--- an element has two octets at least
+-- an element has at least two octets
 element-two : (id : ℕ) (c : List ℕ) → 2 ≤ length (header id c ++ c)
 element-two id c = omega (arith, length-append (header id c) c, ap length (header-octets id c), length-some (length c))
 
@@ -173,7 +173,7 @@ piece-leaf : (kind up : ℕ) (os : List ℕ) → container kind ≡ false → pi
 piece-leaf kind up os is = ap (λ (b : Bool). record { kind = kind; parent = up; octets = elim b as (λ x. List ℕ) [ true ↦ [] | false ↦ os ] }) is
 
 -- a container's element, from what is inside it
-bearing-tiled : (kind id : ℕ) (c : List ℕ) (inside : Tree) (xs : List Piece) (n up : ℕ) → up < n → container kind ≡ true → eqb kind kinds.carried ≡ false
+bearing-tiled : (kind id : ℕ) (c : List ℕ) (inside : Tree) (xs : List Piece) (n up : ℕ) → up < n → container kind ≡ true → eqb kind kinds.regInfoCertReq ≡ false
     → id ≡ identifierOf kind → c ≡ encode inside → Tiled (suc n) n xs (encode inside) → Tiled n up (pieceAt kind up (header id c ++ c) ∷ xs) (header id c ++ c)
 bearing-tiled kind id c inside xs n up below is no-type octet filled noneLonger =
     let whole : front kind (length (encode inside)) ++ encode inside ≡ header id c ++ c =
@@ -181,7 +181,7 @@ bearing-tiled kind id c inside xs n up below is no-type octet filled noneLonger 
     subst (λ (x : Piece). Tiled n up (x ∷ xs) (header id c ++ c)) (sym (piece-container kind up (header id c ++ c) is))
     (subst (Tiled n up (record { kind = kind; parent = up; octets = [] } ∷ xs)) whole (tiled-container n up kind xs (encode inside) is noneLonger below))
 
--- An element of a container whose elements are all shown, with those behind it.
+-- An element of a container whose elements are all shown, with those after it.
 module _ (f : Form) (id : ℕ) (c : List ℕ) (inside : Tree) (inner : ℕ → ℕ → List Piece) (n up : ℕ) (around : List ℕ)
     (fits : T (named (f .identifiers) id))
     (filled : constructed id ≡ true → c ≡ encode inside)
@@ -213,7 +213,7 @@ module _ (f : Form) (id : ℕ) (c : List ℕ) (inside : Tree) (inner : ℕ → �
       rw (one-shown (f .kind) (f .item) octets inner more n up around no-item is-kind)
       (joined-tiled (pieceAt (f .kind) up octets ∷ inner (suc n) n) (suc n + length (inner (suc n) n)) (omega arith) first)
 
--- behind the last part there is nothing
+-- after the last part there is nothing
 nothing-left : {R : ℕ → Bool} {ps : List Part} {t : Tree} (m : Matches R ps t) → ps ≡ [] → (t ≡ none) × ((n up : ℕ) (around : List ℕ) → pieces m n up around ≡ [])
 unfolding pieces
 nothing-left end is = (refl, λ n up around. refl)
@@ -223,7 +223,7 @@ nothing-left (choose name way m) is = let z : _≡_ {A = ℕ} 0 1 = cc in absurd
 
 -- an item has one value
 value-alone : (s : Selector) (i : ℕ) (o : Occurs) (fs : List Form) (ps : List Part) → valueParts s i (part o fs ∷ ps) ≡ true
-    → (passable o ≡ false) × (behind o fs ps ≡ []) × (allForms (valueForm s i) fs ≡ true)
+    → (passable o ≡ false) × (partsAfter o fs ps ≡ []) × (allForms (valueForm s i) fs ≡ true)
 unfolding valueParts
 value-alone s i once fs [] test = (refl, refl, test)
 value-alone s i once fs (p ∷ ps) test = never-both false test refl
@@ -233,17 +233,17 @@ value-alone s i repeated fs ps test = never-both false test refl
 -- The pieces of an item's value are together the item: a leaf's, or the carried certReq's with its implied type.
 module _ (f : Form) (id : ℕ) (c : List ℕ) (inside rest : Tree) (inner : ℕ → ℕ → List Piece) (more : ℕ → List Piece) (n up : ℕ) (around : List ℕ)
     (s : Selector) (i p size : ℕ) (below : up < n) (two : 2 ≤ length around) (fits : T (named (f .identifiers) id)) (last : rest ≡ none)
-    (behind-none : (j : ℕ) → more j ≡ []) (filled : constructed id ≡ true → c ≡ encode inside)
+    (no-more : (j : ℕ) → more j ≡ []) (filled : constructed id ≡ true → c ≡ encode inside)
     (shown : showingIn (f .inside) ≡ true → constructed id ≡ true → Tiled (suc (suc n)) (suc n) (inner (suc (suc n)) (suc n)) (encode inside))
     (quieted : quietIn quiet (f .inside) ≡ true → inner (suc n) n ≡ [])
     (carries : s ≡ infoType → i ≡ 2
-    → around ≡ front kinds.carried (length (encode (element id p size c inside rest))) ++ encode (element id p size c inside rest)) where
+    → around ≡ front kinds.regInfoCertReq (length (encode (element id p size c inside rest))) ++ encode (element id p size c inside rest)) where
   value-form : Valued s i f → Tiled n up (onePieces (f .kind) (f .item) (header id c ++ c) inner more n up around) around
   value-form (aValue is-item is no-kind silent) =
       rw (
         one-given (f .kind) (f .item) (header id c ++ c) inner more n up around is-item no-kind,
         quieted silent,
-        behind-none (suc n + length {A = Piece} []),
+        no-more (suc n + length {A = Piece} []),
         piece-leaf (f .item) up around is,
       )
       (tiled-leaf n up (f .item) around below is two)
@@ -255,16 +255,16 @@ module _ (f : Form) (id : ℕ) (c : List ℕ) (inside rest : Tree) (inner : ℕ 
       let value = bearing-tiled kinds.certReq id c inside xs (suc n) n (omega arith) three-bears refl same (filled con) (shown (b .inside) con) in
       let whole : encode (element id p size c inside rest) ≡ octets =
       encode-element id p size c inside rest ∙ ap (λ (l : List ℕ). octets ++ l) (ap encode last ∙ encode-none) ∙ append-nil octets in
-      let item = tiled-container n up kinds.carried (pieceAt kinds.certReq n octets ∷ xs) octets carried-bears value below in
-      let all : around ≡ front kinds.carried (length octets) ++ octets = rw whole at (carries info way) in
+      let item = tiled-container n up kinds.regInfoCertReq (pieceAt kinds.certReq n octets ∷ xs) octets carried-bears value below in
+      let all : around ≡ front kinds.regInfoCertReq (length octets) ++ octets = rw whole at (carries info way) in
       rw (
         is-kind,
         is-item,
-        one-carried kinds.certReq kinds.carried octets inner more n up around refl refl,
-        behind-none (suc (suc n) + length xs),
+        one-carried kinds.certReq kinds.regInfoCertReq octets inner more n up around refl refl,
+        no-more (suc (suc n) + length xs),
         append-nil xs,
-        piece-container kinds.carried up around carried-bears,
-      ) (subst (Tiled n up (record { kind = kinds.carried; parent = up; octets = [] } ∷ (pieceAt kinds.certReq n octets ∷ xs))) (sym all) item)
+        piece-container kinds.regInfoCertReq up around carried-bears,
+      ) (subst (Tiled n up (record { kind = kinds.regInfoCertReq; parent = up; octets = [] } ∷ (pieceAt kinds.certReq n octets ∷ xs))) (sym all) item)
 
 -- the nine octets of the carried certReq's type
 abbrev carriedType : List ℕ
@@ -287,17 +287,17 @@ carried-type c is = go (same c (known n) && leb n 2) refl is
 
 -- the octets of an item that carries a certReq
 carried-octets : (c d : List ℕ) (p w : ℕ) (i rest : Tree) → selected infoType c ≡ 2 → d ≡ encode (element 0x06 p w c i rest)
-    → header 0x30 d ++ d ≡ front kinds.carried (length (encode rest)) ++ encode rest
+    → header 0x30 d ++ d ≡ front kinds.regInfoCertReq (length (encode rest)) ++ encode rest
 unfolding implied identifierOf
 carried-octets c d p w i rest is filled =
     let e = encode rest in
-    let type : header 0x06 c ++ c ≡ implied kinds.carried =
+    let type : header 0x06 c ++ c ≡ implied kinds.regInfoCertReq =
     ap (λ (l : List ℕ). header 0x06 l ++ l) (carried-type c is)
     ∙ ap (λ (l : List ℕ). l ++ carriedType) (header-octets 0x06 carriedType ∙ ap (λ (l : List ℕ). 0x06 ∷ l) (shortest-small 9 (omega arith))) in
-    let octets : d ≡ implied kinds.carried ++ e = filled ∙ encode-element 0x06 p w c i rest ∙ ap (λ (l : List ℕ). l ++ e) type in
-    let size : length d ≡ length (implied kinds.carried) + length e = ap length octets ∙ length-append (implied kinds.carried) e in
+    let octets : d ≡ implied kinds.regInfoCertReq ++ e = filled ∙ encode-element 0x06 p w c i rest ∙ ap (λ (l : List ℕ). l ++ e) type in
+    let size : length d ≡ length (implied kinds.regInfoCertReq) + length e = ap length octets ∙ length-append (implied kinds.regInfoCertReq) e in
     ap (λ (l : List ℕ). l ++ d) (header-octets 0x30 d) ∙ ap₂ (λ (k : ℕ) (l : List ℕ). (0x30 ∷ lengthOctets k) ++ l) size octets
-    ∙ sym (append-assoc (0x30 ∷ lengthOctets (length (implied kinds.carried) + length e)) (implied kinds.carried) e)
+    ∙ sym (append-assoc (0x30 ∷ lengthOctets (length (implied kinds.regInfoCertReq) + length e)) (implied kinds.regInfoCertReq) e)
 
 mutual
   unfolding pieces piecesIn itemParts itemIn showingIn shows valueParts quiet
@@ -319,7 +319,7 @@ mutual
       (λ silent. quiet-inside 8 w (suc n) n octets silent)
       (λ on con same. rw same (items-in w left deeper (formed .0 .filled con .1) n up c on (formed .0 .filled con .0) below))
       (λ j. pieces m j up around) (encode rest)
-      (λ j low. tiled m (suc left) (q + size) (formed .1) j up around (shown .behind-form) low) below (shown .form among))
+      (λ j low. tiled m (suc left) (q + size) (formed .1) j up around (shown .after-form) low) below (shown .form among))
   tiled (choose name way m) left q wf n up around test below = never-both false test refl
 
   tiled-in : {R : ℕ → Bool} {i : Inside} {t : Tree} (w : Within R i t) (left q : ℕ) → WellFormed left q t → (n up : ℕ) (around : List ℕ)
@@ -327,7 +327,7 @@ mutual
   tiled-in unseen left q wf n up around test below = never-both false test refl
   tiled-in (parts {n = name} m) left q wf n up around test below = tiled m left q wf n up around (showing-parts name test) below
 
-  -- So are an item's the item.
+  -- The pieces of an item's elements are together the item.
   items-in : {R : ℕ → Bool} {i : Inside} {t : Tree} (w : Within R i t) (left q : ℕ) → WellFormed left q t → (n up : ℕ) (c : List ℕ)
       → itemIn i ≡ true → c ≡ encode t → up < n → Tiled n up (piecesIn w n up (header 0x30 c ++ c)) (header 0x30 c ++ c)
   items-in unseen left q wf n up c test filled below = never-both false test refl
@@ -346,7 +346,7 @@ mutual
 
   value-tiled : {R : ℕ → Bool} {ps : List Part} {t : Tree} (m : Matches R ps t) (left q : ℕ) → WellFormed left q t → (n up : ℕ) (around : List ℕ)
       (s : Selector) (i : ℕ) → valueParts s i ps ≡ true → up < n → 2 ≤ length around
-      → (s ≡ infoType → i ≡ 2 → around ≡ front kinds.carried (length (encode t)) ++ encode t) → Tiled n up (pieces m n up around) around
+      → (s ≡ infoType → i ≡ 2 → around ≡ front kinds.regInfoCertReq (length (encode t)) ++ encode t) → Tiled n up (pieces m n up around) around
   value-tiled end left q wf n up around s i test below two carries = never-both false test refl
   value-tiled (pass {o = o} {fs = fs} {ps = ps} ok m) left q wf n up around s i test below two carries =
       let no-pass : passable o ≡ false = value-alone s i o fs ps test .0 in

@@ -17,7 +17,7 @@ use Rattle.crmf.specs.steps.rows.Assembly.{identifierOf, implied, own, w
 -- a container's kind is one of these
 pub container-kinds : (k : ℕ)
     → container k
-    ≡ (eqb k kinds.batch || (eqb k kinds.message || (eqb k kinds.certReq || (eqb k kinds.template || (eqb k kinds.validity || (eqb k kinds.extensions || (eqb k kinds.controls || (eqb k kinds.signature || (eqb k kinds.keyEncipherment || (eqb k kinds.keyAgreement || (eqb k kinds.regInfo || (eqb k kinds.carried || false))))))))))))
+    ≡ (eqb k kinds.batch || (eqb k kinds.message || (eqb k kinds.certReq || (eqb k kinds.certTemplate || (eqb k kinds.validity || (eqb k kinds.extensions || (eqb k kinds.controls || (eqb k kinds.signature || (eqb k kinds.keyEncipherment || (eqb k kinds.keyAgreement || (eqb k kinds.regInfo || (eqb k kinds.regInfoCertReq || false))))))))))))
 unfolding container among
 container-kinds k = refl
 
@@ -55,13 +55,13 @@ unfolding identifierOf
 identifier-of k = refl
 
 -- a type is implied in a carried certReq item and in no other
-pub implied-type : implied kinds.carried ≡ 0x06 ∷ 0x09 ∷ 0x2B ∷ 0x06 ∷ 0x01 ∷ 0x05 ∷ 0x05 ∷ 0x07 ∷ 0x05 ∷ 0x02 ∷ 0x02 ∷ []
+pub implied-type : implied kinds.regInfoCertReq ≡ 0x06 ∷ 0x09 ∷ 0x2B ∷ 0x06 ∷ 0x01 ∷ 0x05 ∷ 0x05 ∷ 0x07 ∷ 0x05 ∷ 0x02 ∷ 0x02 ∷ []
 unfolding implied
 implied-type = refl
 
-pub implied-none : (k : ℕ) → (k ≡ kinds.carried → ⊥) → implied k ≡ []
+pub implied-none : (k : ℕ) → (k ≡ kinds.regInfoCertReq → ⊥) → implied k ≡ []
 unfolding implied
-implied-none k other = rw (implied, ne-eqb k kinds.carried other)
+implied-none k other = rw (implied, ne-eqb k kinds.regInfoCertReq other)
 
 module _ (x : Piece) (inner : ℕ) where
   -- a container's own octets, and a leaf's
@@ -86,7 +86,7 @@ module _ (x : Piece) (inner : ℕ) where
   unfolding wholeOf
   whole-leaf is = rw (wholeOf, own-leaf is, is) (omega arith)
 
--- the children among no pieces, and among a piece and those behind it
+-- the children among no pieces, and among a piece and those after it
 pub children-none : (k n : ℕ) → childrenOf k n [] ≡ 0
 unfolding childrenOf
 children-none k n = refl
@@ -96,7 +96,7 @@ pub children-piece : (k n : ℕ) (x : Piece) (xs : List Piece)
 unfolding childrenOf
 children-piece k n x xs = refl
 
--- the octets of no pieces, and of a piece and those behind it
+-- the octets of no pieces, and of a piece and those after it
 pub assembled-none : (n : ℕ) → assembled n [] ≡ []
 unfolding assembled
 assembled-none n = refl
@@ -105,7 +105,7 @@ pub assembled-piece : (n : ℕ) (x : Piece) (xs : List Piece) → assembled n (x
 unfolding assembled
 assembled-piece n x xs = refl
 
--- the limit on no pieces, and on a piece and those behind it
+-- the limit on no pieces, and on a piece and those after it
 pub within-none : (limit n : ℕ) → noneLonger limit n [] ≡ true
 unfolding noneLonger
 within-none limit n = refl
@@ -115,7 +115,7 @@ pub within-piece : (limit n : ℕ) (x : Piece) (xs : List Piece)
 unfolding noneLonger
 within-piece limit n x xs = refl
 
--- where no piece is longer than a limit, the children of one have together at most so much for each piece
+-- if no piece is longer than a limit, the children of one have together at most the limit for each piece
 pub children-bound : (limit k n : ℕ) (xs : List Piece) → noneLonger limit n xs ≡ true → childrenOf k n xs ≤ limit * length xs
 unfolding childrenOf noneLonger
 children-bound limit k n [] fit = omega arith

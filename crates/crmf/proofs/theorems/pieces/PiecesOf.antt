@@ -1,4 +1,4 @@
--- The pieces of an accepted element tree's fields, on the meaning of the grammar alone: as its rows, with no places. Assumes nothing.
+-- The pieces of an accepted element tree's fields, on the meaning of the grammar alone: like its rows, but without places. Assumes nothing.
 use Prim.Native.Nat.{ℕ, _+_}
 use mathlib.Core.Bool.{Bool, true, false}
 use mathlib.Core.List.{List, [], _∷_, _++_}
@@ -18,7 +18,7 @@ pieceIf kind parent octets =
       | false ↦ record { kind = kind; parent = parent; octets = elim (container kind) [ true ↦ [] | false ↦ octets ] } ∷ []
     ]
 
--- The pieces of the elements of a container, where n is the number of the next piece, up the number of the piece around them, and around are
+-- The pieces of the elements of a container: n is the number of the next piece, up the number of the piece around them, and around holds
 -- the container's own octets, header and content.
 unfoldable mutual
   pub pieces : {R : ℕ → Bool} {ps : List Part} {t : Tree} → Matches R ps t → (n up : ℕ) (around : List ℕ) → List Piece

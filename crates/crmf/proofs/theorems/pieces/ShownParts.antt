@@ -13,7 +13,7 @@ use Rattle.crmf.specs.meaning.Kinds as kinds
 use Rattle.crmf.specs.meaning.Value.{Selector, action, method, controlType, infoType}
 use Rattle.crmf.specs.meaning.Notation.{Identifiers, octet, generalName, anything, nothing, among, named, Name, names, Batch, order, Inside, free, holds, Form, Occurs, once, optional, repeated, Part, part, select, Message, CertReq, Template, Validity, Extensions, Signature, KeyProof, Controls, RegInfo}
 use Rattle.crmf.specs.meaning.Grammar.{content}
-use Rattle.crmf.specs.meaning.Language.{behind, OneOf}
+use Rattle.crmf.specs.meaning.Language.{partsAfter, OneOf}
 use Rattle.crmf.specs.meaning.Rows.{container}
 use Rattle.crmf.specs.steps.rows.Assembly.{identifierOf}
 use Rattle.crmf.proofs.theorems.grammar.Names.{at-each, not-there}
@@ -73,7 +73,7 @@ unfoldable pub valueForm : Selector → ℕ → Form → Bool
 valueForm s i f =
     not (eqb (f .item) 0) && elim (container (f .item)) [
       | false ↦ eqb (f .kind) 0 && quietIn quiet (f .inside)
-      | true ↦ isInfo s && (eqb i 2 && (eqb (f .item) kinds.carried && (eqb (f .kind) kinds.certReq && bears kinds.certReq f)))
+      | true ↦ isInfo s && (eqb i 2 && (eqb (f .item) kinds.regInfoCertReq && (eqb (f .kind) kinds.certReq && bears kinds.certReq f)))
     ]
 
 unfoldable pub valueParts : Selector → ℕ → List Part → Bool
@@ -104,7 +104,7 @@ showsForm f =
     eqb (f .item) 0 && elim (eqb (f .kind) 0) [
       | true ↦ isOctet (f .identifiers) 0x30 && itemIn (f .inside)
       | false ↦ elim (container (f .kind)) [
-        | true ↦ not (eqb (f .kind) kinds.carried) && bears (f .kind) f
+        | true ↦ not (eqb (f .kind) kinds.regInfoCertReq) && bears (f .kind) f
         | false ↦ quietIn quiet (f .inside)
       ]
     ]
@@ -119,7 +119,7 @@ all-shown : all (λ n. not (showing n) || shows (content n)) names ≡ true
 unfolding content shows showsForm allForms showing showingIn itemIn itemParts valuesFrom valueParts valueForm bears isOctet isInfo identifierOf quietIn quietParts quietTo quiet container among order
 all-shown = refl
 
--- so what stands in one passes
+-- so the parts of one pass
 pub showing-parts : (n : Name) → showing n ≡ true → shows (content n) ≡ true
 showing-parts n is = go (showing n) is (at-each (λ m. not (showing m) || shows (content m)) all-shown n)
   where
@@ -143,7 +143,7 @@ bears-says kind f test =
 -- How a form of such a container is shown.
 pub data Shown (f : Form) : Type 0 where
   anItem : eqb (f .item) 0 ≡ true → eqb (f .kind) 0 ≡ true → isOctet (f .identifiers) 0x30 ≡ true → itemIn (f .inside) ≡ true → Shown f
-  aContainer : eqb (f .item) 0 ≡ true → eqb (f .kind) 0 ≡ false → container (f .kind) ≡ true → eqb (f .kind) kinds.carried ≡ false → Bears (f .kind) f → Shown f
+  aContainer : eqb (f .item) 0 ≡ true → eqb (f .kind) 0 ≡ false → container (f .kind) ≡ true → eqb (f .kind) kinds.regInfoCertReq ≡ false → Bears (f .kind) f → Shown f
   aLeaf : eqb (f .item) 0 ≡ true → eqb (f .kind) 0 ≡ false → container (f .kind) ≡ false → quietIn quiet (f .inside) ≡ true → Shown f
 
 form-shown : (f : Form) → showsForm f ≡ true → Shown f
@@ -152,39 +152,39 @@ form-shown f test = by-kind (eqb (f .kind) 0) refl (both .1)
   where
     both : (eqb (f .item) 0 ≡ true) × (elim (eqb (f .kind) 0) as (λ b. Bool) [
       | true ↦ isOctet (f .identifiers) 0x30 && itemIn (f .inside)
-      | false ↦ elim (container (f .kind)) [ true ↦ not (eqb (f .kind) kinds.carried) && bears (f .kind) f | false ↦ quietIn quiet (f .inside) ]
+      | false ↦ elim (container (f .kind)) [ true ↦ not (eqb (f .kind) kinds.regInfoCertReq) && bears (f .kind) f | false ↦ quietIn quiet (f .inside) ]
     ] ≡ true)
     both = and-eq-true-iff (eqb (f .item) 0) _ .0 test
 
     by-container : eqb (f .kind) 0 ≡ false → (b : Bool) → container (f .kind) ≡ b
-        → elim b as (λ b. Bool) [ true ↦ not (eqb (f .kind) kinds.carried) && bears (f .kind) f | false ↦ quietIn quiet (f .inside) ] ≡ true → Shown f
+        → elim b as (λ b. Bool) [ true ↦ not (eqb (f .kind) kinds.regInfoCertReq) && bears (f .kind) f | false ↦ quietIn quiet (f .inside) ] ≡ true → Shown f
     by-container kept true is more =
-        let two = and-eq-true-iff (not (eqb (f .kind) kinds.carried)) (bears (f .kind) f) .0 more in
-        aContainer (both .0) kept is (not-true (eqb (f .kind) kinds.carried) (two .0)) (bears-says (f .kind) f (two .1))
+        let two = and-eq-true-iff (not (eqb (f .kind) kinds.regInfoCertReq)) (bears (f .kind) f) .0 more in
+        aContainer (both .0) kept is (not-true (eqb (f .kind) kinds.regInfoCertReq) (two .0)) (bears-says (f .kind) f (two .1))
     by-container kept false is more = aLeaf (both .0) kept is more
 
     by-kind : (b : Bool) → eqb (f .kind) 0 ≡ b → elim b as (λ b. Bool) [
       | true ↦ isOctet (f .identifiers) 0x30 && itemIn (f .inside)
-      | false ↦ elim (container (f .kind)) [ true ↦ not (eqb (f .kind) kinds.carried) && bears (f .kind) f | false ↦ quietIn quiet (f .inside) ]
+      | false ↦ elim (container (f .kind)) [ true ↦ not (eqb (f .kind) kinds.regInfoCertReq) && bears (f .kind) f | false ↦ quietIn quiet (f .inside) ]
     ] ≡ true → Shown f
     by-kind true none more =
         let two = and-eq-true-iff (isOctet (f .identifiers) 0x30) (itemIn (f .inside)) .0 more in
         anItem (both .0) none (two .0) (two .1)
     by-kind false kept more = by-container kept (container (f .kind)) refl more
 
--- What parts that are shown say: of each form, of the parts behind one, and of the parts behind the first.
+-- What parts that are shown say: of each form, of the parts after one, and of the parts after the first.
 pub record ShownPart (o : Occurs) (fs : List Form) (ps : List Part) : Type 0 where
   pub form : {f : Form} → OneOf f fs → Shown f
-  pub behind-form : shows (behind o fs ps) ≡ true
+  pub after-form : shows (partsAfter o fs ps) ≡ true
   pub past : shows ps ≡ true
 
 pub shown-part : (o : Occurs) (fs : List Form) (ps : List Part) → shows (part o fs ∷ ps) ≡ true → ShownPart o fs ps
 unfolding shows
 shown-part o fs ps test =
     let both = and-eq-true-iff (allForms showsForm fs) (shows ps) .0 test in
-    record { form = λ {f} m. form-shown f (forms-at showsForm m (both .0)); behind-form = again o test (both .1); past = both .1 }
+    record { form = λ {f} m. form-shown f (forms-at showsForm m (both .0)); after-form = again o test (both .1); past = both .1 }
   where
-    again : (p : Occurs) → shows (part p fs ∷ ps) ≡ true → shows ps ≡ true → shows (behind p fs ps) ≡ true
+    again : (p : Occurs) → shows (part p fs ∷ ps) ≡ true → shows ps ≡ true → shows (partsAfter p fs ps) ≡ true
     again once whole past = past
     again optional whole past = past
     again repeated whole past = whole
@@ -192,7 +192,7 @@ shown-part o fs ps test =
 -- How a value gives its item a row.
 pub data Valued (s : Selector) (i : ℕ) (f : Form) : Type 0 where
   aValue : eqb (f .item) 0 ≡ false → container (f .item) ≡ false → eqb (f .kind) 0 ≡ true → quietIn quiet (f .inside) ≡ true → Valued s i f
-  carriedRequest : s ≡ infoType → i ≡ 2 → f .item ≡ kinds.carried → f .kind ≡ kinds.certReq → Bears kinds.certReq f → Valued s i f
+  carriedRequest : s ≡ infoType → i ≡ 2 → f .item ≡ kinds.regInfoCertReq → f .kind ≡ kinds.certReq → Bears kinds.certReq f → Valued s i f
 
 info-type : (s : Selector) → isInfo s ≡ true → s ≡ infoType
 unfolding isInfo
@@ -207,21 +207,21 @@ form-valued s i f test = by-container (container (f .item)) refl (both .1)
   where
     both : (not (eqb (f .item) 0) ≡ true) × (elim (container (f .item)) as (λ b. Bool) [
       | false ↦ eqb (f .kind) 0 && quietIn quiet (f .inside)
-      | true ↦ isInfo s && (eqb i 2 && (eqb (f .item) kinds.carried && (eqb (f .kind) kinds.certReq && bears kinds.certReq f)))
+      | true ↦ isInfo s && (eqb i 2 && (eqb (f .item) kinds.regInfoCertReq && (eqb (f .kind) kinds.certReq && bears kinds.certReq f)))
     ] ≡ true)
     both = and-eq-true-iff (not (eqb (f .item) 0)) _ .0 test
 
     by-container : (b : Bool) → container (f .item) ≡ b → elim b as (λ b. Bool) [
       | false ↦ eqb (f .kind) 0 && quietIn quiet (f .inside)
-      | true ↦ isInfo s && (eqb i 2 && (eqb (f .item) kinds.carried && (eqb (f .kind) kinds.certReq && bears kinds.certReq f)))
+      | true ↦ isInfo s && (eqb i 2 && (eqb (f .item) kinds.regInfoCertReq && (eqb (f .kind) kinds.certReq && bears kinds.certReq f)))
     ] ≡ true → Valued s i f
     by-container false is more =
         let two = and-eq-true-iff (eqb (f .kind) 0) (quietIn quiet (f .inside)) .0 more in
         aValue (not-true (eqb (f .item) 0) (both .0)) is (two .0) (two .1)
     by-container true is more =
-        let one = and-eq-true-iff (isInfo s) (eqb i 2 && (eqb (f .item) kinds.carried && (eqb (f .kind) kinds.certReq && bears kinds.certReq f))) .0 more in
-        let two = and-eq-true-iff (eqb i 2) (eqb (f .item) kinds.carried && (eqb (f .kind) kinds.certReq && bears kinds.certReq f)) .0 (one .1) in
-        let three = and-eq-true-iff (eqb (f .item) kinds.carried) (eqb (f .kind) kinds.certReq && bears kinds.certReq f) .0 (two .1) in
+        let one = and-eq-true-iff (isInfo s) (eqb i 2 && (eqb (f .item) kinds.regInfoCertReq && (eqb (f .kind) kinds.certReq && bears kinds.certReq f))) .0 more in
+        let two = and-eq-true-iff (eqb i 2) (eqb (f .item) kinds.regInfoCertReq && (eqb (f .kind) kinds.certReq && bears kinds.certReq f)) .0 (one .1) in
+        let three = and-eq-true-iff (eqb (f .item) kinds.regInfoCertReq) (eqb (f .kind) kinds.certReq && bears kinds.certReq f) .0 (two .1) in
         let four = and-eq-true-iff (eqb (f .kind) kinds.certReq) (bears kinds.certReq f) .0 (three .1) in
         carriedRequest (info-type s (one .0)) (eqb-true _ _ (two .0)) (eqb-true _ _ (three .0)) (eqb-true _ _ (four .0)) (bears-says 3 f (four .1))
 

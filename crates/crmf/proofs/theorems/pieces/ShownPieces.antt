@@ -1,5 +1,5 @@
--- The rows of a derivation show the derivation's pieces: what stands at a row's place in the octets of the elements is the element's own
--- header and content. Assumes nothing.
+-- The rows of a derivation show the derivation's pieces: the octets at a row's place are the element's own header and content.
+-- Assumes nothing.
 use Prim.Native.Nat.{ℕ, suc, _+_}
 use mathlib.Core.Path.{_≡_, refl, sym, _∙_, ap, subst}
 use mathlib.Core.Bool.{Bool, true, false}
@@ -20,18 +20,18 @@ use Rattle.crmf.proofs.theorems.rows.RowsOfLines.{rowsOne, row-none, ro
 use Rattle.crmf.proofs.theorems.rows.RowLaws.{Standing, standing}
 use Rattle.crmf.proofs.theorems.pieces.PiecesOf.{pieceIf, pieces, piecesIn}
 
--- The pieces of an element with the kinds of its own piece and of the piece that it gives the element around it, and of the elements behind
--- it: inner makes the pieces inside it from their first number and their parent, behind those behind it from their first number.
+-- The pieces of an element with the kinds of its own piece and of the piece that it gives the element around it, and of the elements after
+-- it: inner makes the pieces inside it from their first number and their parent, and later those after it from their first number.
 unfoldable piecesOne : (kind item : ℕ) (octets : List ℕ) → (ℕ → ℕ → List Piece) → (ℕ → List Piece) → (n up : ℕ) (around : List ℕ) → List Piece
-piecesOne kind item octets inner behind n up around =
+piecesOne kind item octets inner later n up around =
     let first = pieceIf item up around in
     let above = parentIf item n up in
     let own = pieceIf kind above octets in
     let next = n + length first in
     let within = inner (next + length own) (parentIf kind next above) in
-    first ++ (own ++ (within ++ behind (next + length own + length within)))
+    first ++ (own ++ (within ++ later (next + length own + length within)))
 
--- Where an element's octets stand: its own, those of the elements inside it and those of the elements behind it.
+-- Where an element's octets stand: its own, those of the elements inside it and those of the elements after it.
 record Shown (s : List ℕ) (id p w : ℕ) (c : List ℕ) (inside rest : Tree) : Type 0 where
   own : slice p (p + w) s ≡ header id c ++ c
   within : StandsAt s (p + length (header id c)) (encode inside)
@@ -44,7 +44,7 @@ module _ (s : List ℕ) where
   pieces-length [] = refl
   pieces-length (r ∷ rs) = ap suc (pieces-length rs)
 
-  -- rows and rows behind them
+  -- rows and rows after them
   pub pieces-append : (a b : List Row) → piecesOf s (a ++ b) ≡ piecesOf s a ++ piecesOf s b
   unfolding piecesOf
   pieces-append [] b = refl
@@ -59,13 +59,13 @@ module _ (s : List ℕ) where
       go true z = ap (piecesOf s) (row-none kind p w up z) ∙ rw (z, pieceIf)
       go false z = ap (piecesOf s) (row-own kind p w up z) ∙ rw (z, pieceIf)
 
-  -- an element's rows show its piece and the pieces inside it and behind it
+  -- an element's rows show its piece and the pieces inside it and after it
   one-shown : (kind item p w : ℕ) (octets around : List ℕ) (f : ℕ → ℕ → List Row) (g : ℕ → ℕ → List Piece) (h : ℕ → List Row)
       (i : ℕ → List Piece) (n up place whole : ℕ) → slice p (p + w) s ≡ octets → slice place (place + whole) s ≡ around
       → ((j u : ℕ) → piecesOf s (f j u) ≡ g j u) → ((j : ℕ) → piecesOf s (h j) ≡ i j)
       → piecesOf s (rowsOne kind item p w f h n up place whole) ≡ piecesOne kind item octets g i n up around
   unfolding rowsOne piecesOne
-  one-shown kind item p w octets around f g h i n up place whole own outer inner behind =
+  one-shown kind item p w octets around f g h i n up place whole own outer inner later =
       let item-shown = piece-shown item place whole around outer in
       let own-shown = piece-shown kind p w octets own in
       let item-one : (u : ℕ) → length (rowIf item place whole u) ≡ length (pieceIf item u around) =
@@ -73,7 +73,7 @@ module _ (s : List ℕ) where
       let own-one : (u : ℕ) → length (rowIf kind p w u) ≡ length (pieceIf kind u octets) =
       λ u. sym (pieces-length (rowIf kind p w u)) ∙ ap length (own-shown u) in
       let inner-count : (j u : ℕ) → length (f j u) ≡ length (g j u) = λ j u. sym (pieces-length (f j u)) ∙ ap length (inner j u) in
-      simp (pieces-append, item-shown, own-shown, item-one, own-one, inner-count, inner, behind)
+      simp (pieces-append, item-shown, own-shown, item-one, own-one, inner-count, inner, later)
 
   -- a well-formed element that stands at its place shows them
   shown : (left q id p w : ℕ) (c : List ℕ) (inside rest : Tree) → Standing left q id p w c inside rest

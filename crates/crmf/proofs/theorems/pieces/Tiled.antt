@@ -1,5 +1,5 @@
 -- Pieces that are together some octets: a leaf is its own, a container puts its header before those of its children, and pieces with the same
--- parent stand one behind the other. Assumes nothing.
+-- parent stand one after the other. Assumes nothing.
 use Prim.Native.Nat.{ℕ, suc, _+_, _*_, _≤_, _<_}
 use native.Mathlib.Omega.{arith}
 use mathlib.Core.Path.{_≡_, refl, sym, ap, ap₂, _∙_}
@@ -25,7 +25,7 @@ pub record Tiled (n up : ℕ) (xs : List Piece) (os : List ℕ) : Type 0 where
   pub few : 2 * length xs ≤ length os
   pub short : (limit : ℕ) → length os ≤ limit → noneLonger limit n xs ≡ true
 
--- what a piece adds to the children of piece k, where its own children have so many octets
+-- what a piece adds to the children of piece k, by how many octets its own children have
 abbrev share : Piece → ℕ → ℕ → ℕ
 share x k inner = elim (eqb (x .parent) k) [ true ↦ wholeOf x inner | false ↦ 0 ]
 
@@ -39,7 +39,7 @@ share-other x k inner other = rw (share, ne-eqb (x .parent) k other)
 abbrev Clear : ℕ → ℕ → List Piece → Type 0
 Clear n e ys = (j : ℕ) → n ≤ j → j < e → childrenOf j e ys ≡ 0
 
--- Pieces with others behind them, where none of the first has a child among the others.
+-- Pieces with others after them, if none of the first has a child among the others.
 module _ (ys : List Piece) (e : ℕ) where
   -- the children of a piece are those among the first and those among the others
   children-append : (xs : List Piece) (k n : ℕ) → e ≡ n + length xs → Clear n e ys → childrenOf k n (xs ++ ys) ≡ childrenOf k n xs + childrenOf k e ys
@@ -86,7 +86,7 @@ tiled-none n up = record {
   short = λ limit fits. within-none limit n;
 }
 
--- Pieces with the same parent stand one behind the other.
+-- Pieces with the same parent stand one after the other.
 pub tiled-both : (n up e : ℕ) (xs ys : List Piece) (os ps : List ℕ) → up < n → e ≡ n + length xs → Tiled n up xs os → Tiled e up ys ps
     → Tiled n up (xs ++ ys) (os ++ ps)
 tiled-both n up e xs ys os ps below ends a b =

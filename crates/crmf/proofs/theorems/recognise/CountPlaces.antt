@@ -29,7 +29,7 @@ use Rattle.crmf.proofs.theorems.recognise.CountWays.{at-nowhere, at-bre
 stop-is-no-past : {A : Type 0} {next end count : ℕ} → Stop ≡ Past next end count → A
 stop-is-no-past same = let z : _≡_ {A = ℕ} 0 1 = cc in absurd (omega arith)
 
--- where nothing is recognised from a place on, the advance stops
+-- if nothing is recognised from a place on, the advance stops
 pub stops : (e left k before at : ℕ) (bytes : List ℕ) → ((p : ℕ) → countsAt e left k before p (drop at bytes) ≡ Unrecognised)
     → ElementCounted e left k before at bytes Stop
 stops e left k before at bytes nothing =
@@ -92,7 +92,7 @@ module _ (e left k before at : ℕ) (bytes : List ℕ) (x : Span) (short : lengt
   measured : spanOf (drop at bytes) .octets ≡ 0 → ⊥
   measured none = some (ap (λ (y : Span). y .octets) is ∙ none)
 
-  -- it has two octets at least, and it lies within the bytes
+  -- it has at least two octets, and it lies within the bytes
   pub place-fits : (2 ≤ x .octets) × (at + whole ≤ length bytes)
   place-fits =
       let f = subst (λ (y : Span). (2 ≤ y .octets) × (y .octets + y .length ≤ length (drop at bytes))) (sym is) (span-fits (drop at bytes) measured) in

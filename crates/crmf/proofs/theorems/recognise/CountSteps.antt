@@ -1,5 +1,5 @@
--- The recogniser's count over elements, a law for each way of its first: at a container's end, where no line fits, where the element may not
--- stand or its inside isn't recognised, where its value breaks its rule, and where the count goes on. Assumes nothing.
+-- The recogniser's count over elements, a law for each way it may go at the first: a container's end, an element that fits no line, may not
+-- stand there or has an inside that isn't recognised, a value that breaks its rule, and a count that goes on. Assumes nothing.
 use Prim.Native.Nat.{ℕ, _+_}
 use native.Mathlib.Omega.{arith}
 use mathlib.Core.Path.{_≡_, refl}
@@ -15,7 +15,7 @@ use Rattle.crmf.specs.declared.grammar.table.FoundLine.the-variants.{At,
 use Rattle.crmf.specs.steps.explain.Walk.{line, findLine, closed, judged, rowsBy}
 use Rattle.crmf.specs.steps.recognise.Count.{mayStand, counts}
 
--- rows are an answer that the unrecognised doesn't have
+-- an answer with rows is not the answer for what isn't recognised
 pub not-recognised : {A : Type 0} {n : ℕ} → Unrecognised ≡ Rows n → A
 not-recognised same = let z : _≡_ {A = ℕ} 0 1 = cc in absurd (omega arith)
 
@@ -23,16 +23,16 @@ not-recognised same = let z : _≡_ {A = ℕ} 0 1 = cc in absurd (omega arith)
 pub same-rows : {n m : ℕ} → Rows n ≡ Rows m → n ≡ m
 same-rows same = cc
 
--- the count inside an element whose inside starts at a line: a free inside, where that is 0, has no rows
+-- the count inside an element whose inside starts at a line; 0 stands for a free inside, which has no rows
 abbrev pub countsIn : ℕ → ℕ → ℕ → Tree → Recognition
 countsIn e i n inside = elim (eqb i 0) [ true ↦ Rows n | false ↦ counts e i n inside ]
 
--- the count at a container's end, where it may end
+-- the count at a container's end, if it may end
 pub counts-closed : (e k n : ℕ) → closed k ≡ true → counts e k n none ≡ Rows n
 unfolding counts
 counts-closed e k n shut = rw (shut, counts)
 
--- and where a part is missing
+-- and if a part is missing
 pub counts-open : (e k n : ℕ) → closed k ≡ false → counts e k n none ≡ Unrecognised
 unfolding counts
 counts-open e k n gap = rw (gap, counts)

@@ -1,5 +1,5 @@
--- The recogniser's count at the first element of octets, a law for each way of it: no line fits, its content isn't recognised, its value
--- breaks its rule, or the count goes on after it. An element has a sound nest where its content has, since the octets are read as a tree.
+-- The recogniser's count at the first element of octets, a law for each way it may go: no line fits, its content isn't recognised, its value
+-- breaks its rule, or the count goes on after it. An element has a sound nest if its content has one, since the octets are read as a tree.
 -- Assumes nothing.
 use Prim.Native.Nat.{ℕ, suc, _+_, _≤_, _<_}
 use mathlib.Core.Path.{_≡_, refl, sym, ap, _∙_}
@@ -81,7 +81,7 @@ module _ (e left k n p : ℕ) (bs : List ℕ) (short : length bs ≤ longest) (m
   abbrev inside : Tree
   inside = elim (constructed id) [ true ↦ tree (p + from) content | false ↦ none ]
 
-  -- What octets without a fault say: the element has none, nor have those after it, and the tree is read from them.
+  -- What octets without a fault say: the first element has none, nor have those after it, and the tree is read from them.
   record Parts : Type 0 where
     whole : isElement id left content ≡ true
     after : isList (suc left) (drop to bs) ≡ true
@@ -100,7 +100,7 @@ module _ (e left k n p : ℕ) (bs : List ℕ) (short : length bs ≤ longest) (m
       let both = and-eq-true-iff _ _ .0 (sym (is-list-step left bs short measured) ∙ sound) in
       record { whole = both .0; after = both .1; read = span-tree p bs short measured (permitted (both .0)) }
 
-  -- what isn't recognised of octets without a fault isn't recognised
+  -- octets aren't recognised if, without a fault, their tree isn't
   unrecognised-if : (Parts → counts e k n (element id p to content inside (tree (p + to) (drop to bs))) ≡ Unrecognised)
       → countsAt e (suc left) k n p bs ≡ Unrecognised
   unfolding countsAt
@@ -172,7 +172,7 @@ pub at-open : (e left k n p : ℕ) → closed k ≡ false → countsAt e left k 
 unfolding countsAt
 at-open e left k n p stays = rw (countsAt, is-list-none left, tree-end p) (counts-open e k n stays)
 
--- where no length is read, and where no level is left, there is no element
+-- if no length is read, or no level is left, there is no element
 pub at-lost : (e left k n p : ℕ) (bs : List ℕ) → 0 < length bs → spanOf bs .octets ≡ 0 → countsAt e left k n p bs ≡ Unrecognised
 unfolding countsAt
 at-lost e left k n p bs more nothing = rw (countsAt, is-list-lost left bs more nothing)
@@ -190,7 +190,7 @@ too-long e s over = go (isList depth s) refl
     go false fault = rw (recognised, countsAt, fault)
     go true sound = absurd (omega (arith, is-list-short depth s sound))
 
--- the table that a reading leaves: as it was where the input isn't recognised, and else filled
+-- the table that a reading leaves: as it was if the input isn't recognised, and otherwise filled
 pub unrecognised-stays : (e : ℕ) (s old : List ℕ) → recognised e s ≡ Unrecognised → old ≡ recognisedTable e s old
 unfolding recognisedTable
 unrecognised-stays e s old nothing = rw (recognisedTable, nothing)

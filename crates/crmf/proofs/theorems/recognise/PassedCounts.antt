@@ -29,7 +29,7 @@ use Rattle.crmf.proofs.theorems.explain.WholeInput.{rows-whole}
 abbrev own : ℕ → ℕ → Bool
 own e x = eqb x e
 
--- whether elements that an edition's walk passes are recognised, where no long certReqId is met
+-- whether elements that an edition's walk passes are recognised, if no long certReqId is met
 abbrev Counts : ℕ → Tree → Type 0
 Counts e t =
     (s r : Tally) (k around n : ℕ) → walk (own e) s k around t ≡ Passed r → r .long .whole ≡ 0 → (m : ℕ) × (counts e k n t ≡ Rows m)
@@ -65,13 +65,13 @@ counts-element e id first whole c inside rest inner later s r k around n passed 
         let (j, after) = later (f .seen) r (f .next) around i (f .further) short in
         (j, counts-next e k n id first whole c inside rest (f .at) (f .found) (f .next) i (and-eq-true-iff _ _ .1 (f .read, own-short)) (f .onward) within ∙ after)
 
--- Elements that an edition's own walk passes are recognised, where no long certReqId is met.
+-- Elements that an edition's own walk passes are recognised, if no long certReqId is met.
 walk-counted : (e : ℕ) (t : Tree) → Counts e t
 walk-counted e none = counts-end e
 walk-counted e (element id first whole c inside rest) =
     counts-element e id first whole c inside rest (walk-counted e inside) (walk-counted e rest)
 
--- An input is recognised, where it is one element without a fault, the edition's own walk passes, and none of its rows is a long certReqId.
+-- An input is recognised if it is one element without a fault, the edition's own walk passes, and none of its rows is a long certReqId.
 pub walk-recognised : (e : ℕ) (s : List ℕ) → walkAt s 0 (length s) ≡ End (length s) → (r : Tally)
     → walk (λ x. eqb x e) emptyTally (start Top) 0 (tree 0 s) ≡ Passed r → firstLong (0, 0) (rowsOfInput s) .0 ≡ 0 → (n : ℕ) × (recognised e s ≡ Rows n)
 unfolding recognised countsAt emptyTally

@@ -101,13 +101,13 @@ own-after {e} ed h (alone f d) p read = rw (eqb-true f e read) (go ed (eqb (h .0
     go first-edition true unknown = after-unknown 2 h _ unknown
     go second-edition true unknown = after-unknown 1 h _ unknown
 
--- How what was met goes on from s to r, where n rows and then m are counted: with as many rows more, and with nothing that the edition refuses.
+-- How what was met goes on from s to r, as the count goes from n rows to m: by as many rows, and with nothing that the edition refuses.
 record Adds (e n m : ℕ) (s r : Tally) : Type 0 where
   rows : r .count + n ≡ s .count + m
   short : r .long .whole ≡ s .long .whole
   clear : firstSeen (other e) r ≡ firstSeen (other e) s
 
--- how a walk passes that goes on so
+-- how a walk passes if it goes on so
 abbrev Goes : ℕ → ℕ → ℕ → Tally → Walked → Type 0
 Goes e n m s w = (r : Tally) × (w ≡ Passed r) × Adds e n m s r
 
@@ -142,7 +142,7 @@ goes-within e s i place n inside r inner some = go (eqb i 0) some
     go true free = (s, refl, subst (λ (m : ℕ). Adds e n m s s) (same-rows free) (adds-none e n s))
     go false starts = inner starts
 
--- whether elements that are recognised the walk that reads every form passes so
+-- whether the walk that reads every form passes so over elements that are recognised
 abbrev Walks : ℕ → Tree → Type 0
 Walks e t = (s : Tally) (k around n r : ℕ) → counts e k n t ≡ Rows r → Goes e n r s (walk all s k around t)
 
@@ -176,8 +176,8 @@ walks-element {e} ed id first whole c inside rest inner later s k around n total
           adds-on (adds-on (adds-met ed x first whole n s (f .standing)) within) after-it,
         )
 
--- Elements that are recognised the walk that reads every form passes, with as many rows; it meets no long certReqId and no form of the other
--- edition.
+-- The walk that reads every form passes over elements that are recognised, with as many rows; it meets no long certReqId and no form of the
+-- other edition.
 counts-walk : {e : ℕ} → Edition e → (t : Tree) → Walks e t
 counts-walk {e} ed none = walks-none e
 counts-walk ed (element id first whole c inside rest) =

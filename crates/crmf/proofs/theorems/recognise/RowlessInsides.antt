@@ -1,5 +1,5 @@
--- Octets that are recognised without a row: at their end, and with a first element whose content is. Then the small containers of the grammar,
--- by what their bytes start with (`Leading`) or are (`Sole`). Assumes nothing.
+-- Octets that are recognised without a row: the empty list, and a list whose first element has such a content. Then the small containers of
+-- the grammar, by what their bytes start with (`Leading`) or are (`Sole`). Assumes nothing.
 use Prim.Native.Nat.{ℕ, zero, suc, _+_, _-_, _≤_}
 use mathlib.Core.Path.{_≡_, refl, sym, ap, _∙_}
 use mathlib.Core.Bool.{true, false}
@@ -38,7 +38,7 @@ record RowlessLine (k id j within next : ℕ) : Type 0 where
   inside : line j .inside ≡ within
   goes : (c : List ℕ) → judged (line j .judge) (line j .next) c ≡ To next
 
--- no octets are recognised where a container may end
+-- the empty list of octets is recognised if the container may end there
 rowless-end : (k levels : ℕ) → closed k ≡ true → RowlessFrom k levels []
 rowless-end k levels ends = λ e left n p deep. at-end e left k n p ends
 
@@ -78,43 +78,47 @@ module _ (bs : List ℕ) (short : length bs ≤ longest) (some-octets : spanOf b
         rw (contentCount, found .stood e end-of, found .inside, lined)
         (ap (λ (i : ℕ). countsAt e left i n p content) (found .inside) ∙ inner e left n p deep))
 
+-- the line at a container's end
+abbrev ending : Name → ℕ
+ending n = start n + size (grammar.content n) - 1
+
 -- The lines of the small containers, by the identifiers of their elements. An AlgorithmIdentifier's OBJECT IDENTIFIER and value.
-alg-id-type : RowlessLine (start AlgId) 0x06 34 0 (suc (start AlgId))
+alg-id-type : RowlessLine (start AlgId) 0x06 (start AlgId) 0 (suc (start AlgId))
 unfolding computed line findLine findLineIn named judged keeps
 alg-id-type = record { found = refl; stood = λ e whole. refl; rowless = refl; inside = refl; goes = λ c. refl }
 
-alg-id-value : (id : ℕ) → RowlessLine (suc (start AlgId)) id 35 0 36
+alg-id-value : (id : ℕ) → RowlessLine (suc (start AlgId)) id (suc (start AlgId)) 0 (ending AlgId)
 unfolding computed line findLine findLineIn named judged keeps
 alg-id-value id = record { found = refl; stood = λ e whole. refl; rowless = refl; inside = refl; goes = λ c. refl }
 
 -- an AttributeTypeAndValue's OBJECT IDENTIFIER and value
-attribute-type : RowlessLine (start Attribute) 0x06 47 0 (suc (start Attribute))
+attribute-type : RowlessLine (start Attribute) 0x06 (start Attribute) 0 (suc (start Attribute))
 unfolding computed line findLine findLineIn named judged keeps
 attribute-type = record { found = refl; stood = λ e whole. refl; rowless = refl; inside = refl; goes = λ c. refl }
 
-attribute-value : (id : ℕ) → RowlessLine (suc (start Attribute)) id 48 0 49
+attribute-value : (id : ℕ) → RowlessLine (suc (start Attribute)) id (suc (start Attribute)) 0 (ending Attribute)
 unfolding computed line findLine findLineIn named judged keeps
 attribute-value id = record { found = refl; stood = λ e whole. refl; rowless = refl; inside = refl; goes = λ c. refl }
 
 -- an AttributeTypeAndValue in a RelativeDistinguishedName, that in an RDNSequence, and that in a Name
-rdn-attribute : RowlessLine (start Rdn) 0x30 44 (start Attribute) 45
+rdn-attribute : RowlessLine (start Rdn) 0x30 (start Rdn) (start Attribute) (suc (start Rdn))
 unfolding computed line findLine findLineIn named judged keeps
 rdn-attribute = record { found = refl; stood = λ e whole. refl; rowless = refl; inside = refl; goes = λ c. refl }
 
-sequence-rdn : RowlessLine (start RdnSequence) 0x31 42 (start Rdn) (start RdnSequence)
+sequence-rdn : RowlessLine (start RdnSequence) 0x31 (start RdnSequence) (start Rdn) (start RdnSequence)
 unfolding computed line findLine findLineIn named judged keeps
 sequence-rdn = record { found = refl; stood = λ e whole. refl; rowless = refl; inside = refl; goes = λ c. refl }
 
-name-sequence : RowlessLine (start OneName) 0x30 40 (start RdnSequence) 41
+name-sequence : RowlessLine (start OneName) 0x30 (start OneName) (start RdnSequence) (ending OneName)
 unfolding computed line findLine findLineIn named judged keeps
 name-sequence = record { found = refl; stood = λ e whole. refl; rowless = refl; inside = refl; goes = λ c. refl }
 
 -- a SubjectPublicKeyInfo's AlgorithmIdentifier and BIT STRING
-key-alg-id : RowlessLine (start Spki) 0x30 37 (start AlgId) (suc (start Spki))
+key-alg-id : RowlessLine (start Spki) 0x30 (start Spki) (start AlgId) (suc (start Spki))
 unfolding computed line findLine findLineIn named judged keeps
 key-alg-id = record { found = refl; stood = λ e whole. refl; rowless = refl; inside = refl; goes = λ c. refl }
 
-key-bits : RowlessLine (suc (start Spki)) 0x03 38 0 39
+key-bits : RowlessLine (suc (start Spki)) 0x03 (suc (start Spki)) 0 (ending Spki)
 unfolding computed line findLine findLineIn named judged keeps
 key-bits = record { found = refl; stood = λ e whole. refl; rowless = refl; inside = refl; goes = λ c. refl }
 

@@ -1,4 +1,4 @@
--- How the recogniser may visit an element, a law for each shape of a line: any of a mark, a value, a certReqId, and one with lines inside.
+-- How the recogniser may visit an element, a law for each shape of a line: one with a mark, a value, a certReqId, and one with lines inside.
 -- Assumes nothing.
 use Prim.Native.Nat.{ℕ, _+_, _/_, _≤_, _<_}
 use mathlib.Core.Path.{_≡_, refl, sym, ap, ap₂, subst, _∙_}
@@ -57,15 +57,15 @@ by-code (alone x d) code e good coded =
 pub reads : (k code e : ℕ) → markCode (line k .mark) ≡ code → readable (λ y. eqb y e) (line k .mark) ≡ not (not (eqb code 0) && not (eqb (code / codes.edition) e))
 reads k code e coded = by-code (line k .mark) code e (sure-at k) coded
 
--- an element of a line that isn't a certReqId's stands there where the line's mark is read
+-- an element of a line that isn't a certReqId's may stand there if the line's mark is read
 pub stands-by : (e k whole : ℕ) → eqb (line k .kind) kinds.certReqId ≡ false → mayStand e (line k) whole ≡ readable (λ y. eqb y e) (line k .mark)
 stands-by e k whole short = rw short (and-true _)
 
--- and of a line of both editions by its kind and its length
+-- and an element of a line of both editions by its kind and its length
 stands-common : (e k whole : ℕ) → line k .mark ≡ both → (b : Bool) → longId (line k .kind) whole ≡ b → mayStand e (line k) whole ≡ not b
 stands-common e k whole common b long = ap₂ _&&_ (ap (readable (λ y. eqb y e)) common) (ap not long)
 
--- so it stands in a line of both editions whose action isn't a certReqId's
+-- so it may stand there if the line is of both editions and its action isn't a certReqId's
 pub stands-at : (e k whole a : ℕ) → line k .mark ≡ both → actionOf (line k) ≡ a → eqb a codes.takeCertReqId ≡ false → mayStand e (line k) whole ≡ true
 stands-at e k whole a common is other =
     stands-by e k whole (id-kind k ∙ ap (λ (x : ℕ). eqb x codes.takeCertReqId) is ∙ other) ∙ ap (readable (λ y. eqb y e)) common
@@ -106,7 +106,7 @@ module _ (e k whole left id : ℕ) (c : List ℕ) where
     unfolding contentCount
     descend on lined = (on, λ n p. rw (contentCount, good, lined))
 
-    -- the same that was checked
+    -- the same, if it was checked
     skip-inside : says ≡ To next → eqb (line k .inside) 0 ≡ false → ((n p : ℕ) → countsAt e left (line k .inside) n p c ≡ Rows n)
         → VisitJustified e k whole left id c (Skip next)
     unfolding contentCount
@@ -126,7 +126,7 @@ module _ (e k whole left id : ℕ) (c : List ℕ) where
       said r is true kept = rw (is, judged, kept, to)
       said r is false kept = rw (is, judged, kept)
 
-      -- no rule says to go on
+      -- without a rule it says to go on
       said-always : line k .judge ≡ keep always → says ≡ To next
       unfolding keeps
       said-always is = said always is true refl
@@ -180,7 +180,7 @@ module _ (e k whole left id : ℕ) (c : List ℕ) where
       pub descend-lines : {i : ℕ} → Plain k i always true → VisitJustified e k whole left id c (Descend next)
       descend-lines x = descend (said-always (x .judge)) (x .free)
 
-      -- the same where the inside may have been checked, with levels enough
+      -- the same, if the inside may have been checked and there are enough levels
       pub skip-small : (n : Name) (levels least : ℕ) → Opens k n → levels ≤ least + 1 → (r : Bool) → (r ≡ true → RowlessFrom (start n) levels c)
           → VisitJustified e k whole left id c (elim (ltb least left && r) [ true ↦ Skip next | false ↦ Descend next ])
       skip-small n levels least (i, x, is) enough r checked = go (ltb least left && r) refl
@@ -193,7 +193,7 @@ module _ (e k whole left id : ℕ) (c : List ℕ) where
               skip-inside (said-always (x .judge)) (x .free)
               (λ m p. ap (λ (j : ℕ). countsAt e left j m p c) is ∙ checked seen e left m p room)
 
--- A certReqId: its content has 8 octets at most, and is an INTEGER's.
+-- A certReqId: its content has at most 8 octets, and is an INTEGER's.
 pub skip-id : (e k whole left id : ℕ) (c : List ℕ) (next : ℕ) → next ≡ line k .next → actionOf (line k) ≡ codes.takeCertReqId → Plain k 0x02 always false
     → named (line k .identifiers) id ≡ true → Sized whole c → (s t : Bool) → leb (length c) 8 ≡ s → integer c ≡ t
     → VisitJustified e k whole left id c (elim (s && t) [ true ↦ Skip next | false ↦ Refuse ])

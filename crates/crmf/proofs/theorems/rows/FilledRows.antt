@@ -1,5 +1,5 @@
--- Filling the table of an accepted batch by its count writes the batch's rows into the first numbers and leaves the others, and where the
--- table has no room for them it stays as it is. Assumes nothing.
+-- Filling the table of an accepted batch by its count writes the batch's rows into the first numbers and leaves the others. If the table
+-- has no room for them, it stays as it is. Assumes nothing.
 use Prim.Native.Nat.{ℕ, _+_, _-_, _*_, _≤_}
 use native.Mathlib.Omega.{arith}
 use mathlib.Core.Path.{_≡_, refl, sym, ap, subst, _∙_}
@@ -23,12 +23,12 @@ use Rattle.crmf.specs.meaning.Lists.{over}
 use Rattle.crmf.proofs.theorems.rows.RowsOfLines.{rows-lines, walk-counts}
 use Rattle.crmf.proofs.theorems.rows.Writing.{numbers-length, length-over}
 
--- there is room for rows where the table has `width` numbers for each
+-- there is room for rows if the table has `width` numbers for each
 pub fits-room : (count : ℕ) (old : List ℕ) → fits count old ≡ leb (width * count) (length old)
 unfolding fits
 fits-room count old = refl
 
--- A table with so many rows written into its first numbers, and its other numbers as they were.
+-- A table with some rows written into its first numbers, and its other numbers as they were.
 pub record Holds (rs : List Row) (count : ℕ) (old new : List ℕ) : Type 0 where
   pub counted : length rs ≡ count
   pub whole : new ≡ over old 0 (numbers rs)
@@ -55,7 +55,7 @@ written-all old count rs counted room =
       sized = ap length whole ∙ length-over old 0 (numbers rs) (omega arith);
     }
 
--- Rows written over a table's first numbers, where there is room for them.
+-- Rows written over a table's first numbers, if there is room for them.
 pub over-holds : (old : List ℕ) (rs : List Row) → width * length rs ≤ length old → Holds rs (length rs) old (over old 0 (numbers rs))
 over-holds old rs room =
     let all = written-all old (length rs) rs refl room in
@@ -84,7 +84,7 @@ module _ (s : List ℕ) (short : length s ≤ longest) {R : ℕ → Bool} (m : M
         rw (filled, room) (ap (written old 0 (r .count)) rows-of) in
         subst (Holds (batchRows m) (r .count) old) (sym same) all
 
--- With no room for so many rows the table stays as it is.
+-- Without room for them the table stays as it is.
 pub filled-short : (s : List ℕ) (count : ℕ) (old : List ℕ) → fits count old ≡ false → filled s count old ≡ old
 unfolding filled
 filled-short s count old few = rw (filled, few)

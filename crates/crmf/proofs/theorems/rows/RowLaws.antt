@@ -14,25 +14,25 @@ use Rattle.crmf.specs.meaning.Kinds as kinds
 use Rattle.crmf.specs.meaning.Value.{selected}
 use Rattle.crmf.specs.meaning.Notation.{among, Top, Batch, Inside, Form, once, Part, part, holding, row}
 use Rattle.crmf.specs.meaning.Grammar.{content}
-use Rattle.crmf.specs.meaning.Language.{behind, OneOf, first, Matches, end, pass, take, choose, Within, unseen, parts}
+use Rattle.crmf.specs.meaning.Language.{partsAfter, OneOf, first, Matches, end, pass, take, choose, Within, unseen, parts}
 use Rattle.crmf.specs.meaning.Rows.{Row, container, rows, rowsIn, batchRows}
 use Rattle.crmf.proofs.theorems.grammar.Choices.{never-both}
 use Rattle.crmf.proofs.theorems.rows.RowsOfLines.{rowsOne}
 use Rattle.crmf.proofs.theorems.grammar.Containers.{bearsIf, early, earlyIn, givesItem, right, rightIn, item-given, right-content, right-way, right-part}
 use Rattle.crmf.proofs.theorems.rows.RowsInPlace.{noRow, before-at, Fit, Fits, fits-at, Laid, Room, room-less, Early, early-less, one-laid}
 
--- one of two holds where the second does
+-- one of two holds if the second does
 or-true : (a b : Bool) → b ≡ true → (a || b) ≡ true
 or-true true b e = refl
 or-true false b e = e
 
--- and where the first does
+-- and if the first does
 or-first : (a b : Bool) → a ≡ true → (a || b) ≡ true
 or-first true b e = refl
 or-first false b e = never-both false e refl
 
--- What a well-formed element says of its places: where it stands, where its inside starts and ends, and the elements behind it. Its content
--- begins with the elements inside: nothing is beyond them where it is constructed, and there are none where it is primitive.
+-- What a well-formed element says of its places: where it stands, where its inside starts and ends, and the elements after it. Its content
+-- begins with the elements inside: nothing is beyond them if it is constructed, and there are none if it is primitive.
 pub record Standing (left q id p w : ℕ) (c : List ℕ) (inside rest : Tree) : Type 0 where
   pub at : p ≡ q
   pub sized : w ≡ length (header id c ++ c)
@@ -46,7 +46,7 @@ pub record Standing (left q id p w : ℕ) (c : List ℕ) (inside rest : Tree) : 
   pub ends : p + w + length (encode rest) ≡ q + length (encode (element id p w c inside rest))
 
 module _ (q id p w : ℕ) (c : List ℕ) (inside rest : Tree) where
-  -- it does where its inside is well-formed and its content begins with that
+  -- an element says so if its inside is well-formed and its content begins with that
   stands-at : (left deeper : ℕ) → p ≡ q → w ≡ length (header id c ++ c) → WellFormed deeper (q + length (header id c)) inside
       → (beyond : List ℕ) → c ≡ encode inside ++ beyond → WellFormed left (q + w) rest → Standing left q id p w c inside rest
   stands-at left deeper at sized within beyond filled further =
@@ -63,7 +63,7 @@ module _ (q id p w : ℕ) (c : List ℕ) (inside rest : Tree) where
         ends = omega (arith, encode-length id p w c inside rest);
       }
 
-  -- so any well-formed element does
+  -- so any well-formed element says so
   pub standing : (left : ℕ) → WellFormed left q (element id p w c inside rest) → Standing left q id p w c inside rest
   standing zero wf = absurd (well-formed-deep q id p w c inside rest wf)
   standing (suc left) wf = go (constructed id) refl
@@ -87,7 +87,7 @@ module _ (q id p w : ℕ) (c : List ℕ) (inside rest : Tree) where
 mutual
   unfolding rows rowsIn rowsOne early earlyIn rightIn
 
-  -- The rows of a derivation are in place below a row that leaves room for them, behind any others, where the grammar's parts are right there.
+  -- The rows of a derivation are in place below a row that leaves room for them, after any others, if the grammar's parts are right there.
   laid : {R : ℕ → Bool} {ps : List Part} {t : Tree} (m : Matches R ps t) (left q : ℕ) → WellFormed left q t → (pre : List Row)
       (n up place whole : ℕ) (b : Bool) → length pre ≡ n → right b ps ≡ true → Room pre up b q (q + length (encode t))
       → (early ps ≡ true → Early pre up b place whole q (q + length (encode t)))
@@ -112,9 +112,9 @@ mutual
       (λ z. y (form-right .late z)))
       (λ new j long r.
       subst (λ (x : ℕ). Laid new (rows m j up place whole) x) (s .ends)
-      (laid m left (p + w) (s .further) new j up place whole b long (parts-right .behind-form)
+      (laid m left (p + w) (s .further) new j up place whole b long (parts-right .after-form)
       (room-less new up b (p + w) e (p + w) (p + w + length (encode rest)) r (omega arith) (omega (arith, s .ends)))
-      (λ y. never-both (early (behind o fs ps)) y (parts-right .late))))
+      (λ y. never-both (early (partsAfter o fs ps)) y (parts-right .late))))
   laid (choose {s = s} {names = ns} {ps = ps} {id = id} {first = p} {whole = w} {c = c} {inside = inside} {rest = rest} name way m)
       left q wf pre n up place whole b sized ok room given =
       let stand = standing q id p w c inside rest left wf in
@@ -138,7 +138,7 @@ mutual
 abbrev pub batchRow : ℕ → Row
 batchRow w = record { kind = kinds.batch; first = 0; whole = w; parent = 0 }
 
--- Rows that begin with the batch's, of so many bytes, with the others in place behind it.
+-- Rows that begin with the batch's, which is w bytes long, and the others in place after it.
 record Batched (rs : List Row) (w : ℕ) : Type 0 where
   more : List Row
   table : rs ≡ batchRow w ∷ more
@@ -173,8 +173,8 @@ batch-first {inside = inside} {rest = rest} id p w c f same within m left wf =
     let kind : f .kind ≡ kinds.batch = ap (λ (g : Form). g .kind) same in
     let item : f .item ≡ 0 = ap (λ (g : Form). g .item) same in
     let in-form = ap (λ (g : Form). g .inside) same in
-    let behind = nothing-left m (1 + length inner) 0 0 0 in
-    let ended : length (encode rest) ≡ 0 = ap (λ (x : Tree). length (encode x)) (behind .0) ∙ ap length encode-none in
+    let after = nothing-left m (1 + length inner) 0 0 0 in
+    let ended : length (encode rest) ≡ 0 = ap (λ (x : Tree). length (encode x)) (after .0) ∙ ap length encode-none in
     let here : own ≡ batchRow size =
     ap₂ (λ (x y : ℕ). record { kind = kinds.batch; first = x; whole = y; parent = 0 }) (s .at) (omega (arith, s .at, s .ends)) in
     let room : Room (own ∷ []) 0 true h a =
@@ -183,7 +183,7 @@ batch-first {inside = inside} {rest = rest} id p w c f same within m left wf =
     (λ y. never-both (earlyIn (f .inside)) y (rw in-form)) in
     record {
       more = inner;
-      table = rw (kind, item) (rw (behind .1, append-nil) (ap (λ (r : Row). r ∷ inner) here));
+      table = rw (kind, item) (rw (after .1, append-nil) (ap (λ (r : Row). r ∷ inner) here));
       fits = subst (λ (r : Row). Fits (r ∷ []) inner) here (in-place .fits);
     }
 
@@ -218,7 +218,7 @@ module _ {R : ℕ → Bool} {t : Tree} (m : Matches R (content Top) t) (left : �
   own-parent : getD (batchRows m) (getD (batchRows m) 0 noRow .parent) noRow ≡ getD (batchRows m) 0 noRow
   own-parent = ap (λ (r : Row). getD (batchRows m) (r .parent) noRow) row-zero
 
-  -- each other row is in place behind the rows before it
+  -- each other row is in place after the rows before it
   pub row-fits : (i : ℕ) → 0 < i → i < length (batchRows m) → Fit (upto i (batchRows m)) (getD (batchRows m) i noRow)
   row-fits zero l there = absurd (omega arith)
   row-fits (suc i) l there =

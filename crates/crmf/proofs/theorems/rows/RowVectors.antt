@@ -32,7 +32,7 @@ batch bs = base256 128 bs
 abbrev Shows : Example → Type 0
 Shows e = numbers (rowsOfInput (batch (e .octets))) ≡ e .table
 
--- the rows of a message at 2 with an empty template, where it and the batch have such whole lengths
+-- the rows of a message at 2 with an empty template, by its whole length and the batch's
 abbrev first : ℕ → ℕ → List ℕ
 first w v = 1 ∷ 0 ∷ w ∷ 0 ∷ 2 ∷ 2 ∷ v ∷ 0 ∷ 3 ∷ 4 ∷ 7 ∷ 1 ∷ 4 ∷ 6 ∷ 3 ∷ 2 ∷ 5 ∷ 9 ∷ 2 ∷ 2 ∷ []
 
@@ -73,11 +73,11 @@ unfolding tagNumber constructed allowed valueFrom shortest longForm lengthOf bas
     line findLineIn findLine goes rowsFrom rowsOfInput numbers
 worked = (refl, (refl, (refl, (refl, (refl, (refl, (refl, (refl, tt))))))))
 
--- a table of one number, so many times, and behind it others
+-- a table of 19 equal numbers, and others after them
 abbrev before : List ℕ → List ℕ
 before more = 7 ∷ 7 ∷ 7 ∷ 7 ∷ 7 ∷ 7 ∷ 7 ∷ 7 ∷ 7 ∷ 7 ∷ 7 ∷ 7 ∷ 7 ∷ 7 ∷ 7 ∷ 7 ∷ 7 ∷ 7 ∷ 7 ∷ more
 
--- "19 and 20 numbers of table for S": one number short the table stays; with room it holds the rows, and the number behind them stays
+-- "19 and 20 numbers of table for S": one number short the table stays; with room it holds the rows, and the number after them stays
 tables : map (filled (batch 0x3009300730050201003000) 5) (before [] ∷ before (7 ∷ []) ∷ before (7 ∷ 8 ∷ []) ∷ [])
     ≡ before [] ∷ first 11 9 ∷ (first 11 9 ++ (8 ∷ [])) ∷ []
 unfolding tagNumber constructed allowed valueFrom shortest longForm lengthOf base256 sizedBy headOf

@@ -24,7 +24,7 @@ use Rattle.crmf.proofs.theorems.lines.Search.{found-kept}
 use Rattle.crmf.proofs.theorems.lines.Judging.{goes-on}
 use Rattle.crmf.proofs.theorems.rows.RowsOfLines.{rowsOne, rowsWithin, inner-no-rows, inner-rows, rows-nowhere, rows-found, rows-one-none}
 
--- so many numbers from one on, and a container's lines
+-- the n numbers from a on, and a container's lines
 unfoldable run : ℕ → ℕ → List ℕ
 run a zero = []
 run a (suc n) = a ∷ run (suc a) n
@@ -45,7 +45,7 @@ quiet =
     ++ lines-of Attribute
     ++ lines-of Extension)
 
--- the test of a line that it gives no row, and that the lines inside it, behind it and after it are such lines
+-- the test that a line gives no row, and that the line inside it, the line it goes on with and the next of the table are such lines
 abbrev calm : ℕ → Bool
 calm k =
     (eqb (line k .item) 0 && eqb (line k .kind) 0)
@@ -70,8 +70,8 @@ calm-line k q =
     let (rows, more) = and-eq-true-iff _ _ .0 (all-among calm quiet calm-all k q) in
     let (i, o) = and-eq-true-iff _ _ .0 rows in
     let (lines, passed) = and-eq-true-iff _ _ .0 more in
-    let (inner, behind) = and-eq-true-iff _ _ .0 lines in
-    let (j, n) = and-eq-true-iff _ _ .0 behind in
+    let (inner, later) = and-eq-true-iff _ _ .0 lines in
+    let (j, n) = and-eq-true-iff _ _ .0 later in
     record {
       item = eqb-true _ _ i;
       kind = eqb-true _ _ o;
@@ -94,8 +94,8 @@ quiet-rows (element id p w c inside rest) k n up place whole q =
 
     go : (r : FoundLine) → findLine k id ≡ r → ((j m u : ℕ) → among quiet j ≡ true → rowsFrom j inside m u p w ≡ [])
         → ((j m : ℕ) → among quiet j ≡ true → rowsFrom j rest m up place whole ≡ []) → rowsFrom k (element id p w c inside rest) n up place whole ≡ []
-    go Nowhere e inner behind = rows-nowhere k id p w c inside rest n up place whole e
-    go (At m) e inner behind =
+    go Nowhere e inner later = rows-nowhere k id p w c inside rest n up place whole e
+    go (At m) e inner later =
         let x = calm-line m (found-kept (λ j. among quiet j ≡ true) (λ j s g. calm-line j s .after g) id m k q e) in
         let o = goes (line m .judge) (line m .next) c in
         let f : ℕ → ℕ → List Row = λ j u. rowsWithin (line m .inside) inside j u p w in
@@ -104,14 +104,14 @@ quiet-rows (element id p w c inside rest) k n up place whole q =
         ∙ ap (λ (j : ℕ). rowsOne j (line m .item) p w f h n up place whole) (x .kind)
         ∙ ap (λ (j : ℕ). rowsOne 0 j p w f h n up place whole) (x .item)
         ∙ rows-one-none p w f h n up place whole (within (line m .inside) (x .inside) inner (eqb (line m .inside) 0) refl)
-        ∙ behind o n (x .onward c)
+        ∙ later o n (x .onward c)
 
 -- an inside without rows is one of these
 rowless-quiet : (k : ℕ) → rowless k ≡ true → among quiet k ≡ true
 unfolding computed rowless quiet run among
 rowless-quiet = all-among (among quiet) (0 ∷ start Time ∷ start AlgId ∷ start Spki ∷ start OneName ∷ start Extension ∷ []) refl
 
--- No row comes from inside an element in the form of a line whose inside has none; of another line the inside is not free.
+-- No row comes from inside an element in the form of a line whose inside has none; any other line's inside is not free.
 pub inner-none : (k : ℕ) (s : List ℕ) (p e row : ℕ) (a : Around) → rowless (line k .inside) ≡ true → innerRows k s p e row a ≡ []
 inner-none k s p e row a h = go (eqb (line k .inside) 0) refl
   where

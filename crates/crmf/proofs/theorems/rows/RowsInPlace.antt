@@ -1,5 +1,5 @@
--- Rows in place: what each row of a table says of the rows before it, kept while rows are added behind: an element's rows stand in the room
--- that the row above leaves, between the rows before and the bytes behind. Assumes nothing.
+-- Rows in place: what each row of a table says of the rows before it, kept while rows are added at the end. An element's rows stand in the
+-- room that the row above leaves, between the rows before and the bytes after. Assumes nothing.
 use Prim.Native.Nat.{ℕ, zero, suc, _+_, _≤_, _<_}
 use native.Mathlib.Nat.{le-of-suc-le-suc}
 use native.Mathlib.Omega.{arith}
@@ -14,7 +14,7 @@ use Rattle.crmf.specs.meaning.Rows.{Row, container, rowIf, parentIf}
 use Rattle.crmf.proofs.theorems.rows.RowsOfLines.{rowsOne, row-none, row-own, parent-none, parent-own}
 use Rattle.crmf.proofs.theorems.grammar.Containers.{bearsIf, bears-none, bears-own, or-second}
 
--- where there is no row
+-- the row given for a number that has none
 abbrev pub noRow : Row
 noRow = record { kind = kinds.none; first = 0; whole = 0; parent = 0 }
 
@@ -28,7 +28,7 @@ before-later : (q e : ℕ) (rs : List Row) → q ≤ e → Before q rs → Befor
 before-later q e [] l b = tt
 before-later q e (r ∷ rs) l b = (omega (arith, b .0), before-later q e rs l (b .1))
 
--- and rows behind them that are
+-- and rows after them that are
 before-append : (q : ℕ) (rs more : List Row) → Before q rs → Before q more → Before q (rs ++ more)
 before-append q [] more b c = c
 before-append q (r ∷ rs) more b c = (b .0, before-append q rs more (b .1) c)
@@ -39,7 +39,7 @@ before-at q [] b i l = absurd (omega arith)
 before-at q (r ∷ rs) b zero l = b .0
 before-at q (r ∷ rs) b (suc i) l = before-at q rs (b .1) i (le-of-suc-le-suc l)
 
--- A row in place behind others: its parent is one of them, a container's, around its bytes; and they all start before it.
+-- A row in place after others: its parent is one of them, a container's, around its bytes; and they all start before it.
 pub record Fit (pre : List Row) (r : Row) : Type 0 where
   pub parented : r .parent < length pre
   pub held : container (getD pre (r .parent) noRow .kind) ≡ true
@@ -47,18 +47,18 @@ pub record Fit (pre : List Row) (r : Row) : Type 0 where
   pub high : r .first + r .whole ≤ getD pre (r .parent) noRow .first + getD pre (r .parent) noRow .whole
   pub ordered : Before (r .first) pre
 
--- rows in place behind others
+-- rows in place after others
 abbrev pub Fits : List Row → List Row → Type 0
 Fits pre [] = Unit {0}
 Fits pre (r ∷ rs) = Fit pre r × Fits (pre ++ (r ∷ [])) rs
 
--- rows in place, and rows in place behind them
+-- rows in place, and rows in place after them
 fits-append : (pre rs more : List Row) → Fits pre rs → Fits (pre ++ rs) more → Fits pre (rs ++ more)
 fits-append pre [] more f g = rw append-nil at g
 fits-append pre (r ∷ rs) more f g =
     (f .0, fits-append (pre ++ (r ∷ [])) rs more (f .1) (subst (λ (l : List Row). Fits l more) (sym (append-assoc pre (r ∷ []) rs)) g))
 
--- each of them is in place behind those before it
+-- each of them is in place after those before it
 pub fits-at : (pre rs : List Row) → Fits pre rs → (i : ℕ) → i < length rs → Fit (pre ++ take i rs) (getD rs i noRow)
 fits-at pre [] f i l = absurd (omega arith)
 fits-at pre (r ∷ rs) f zero l = subst (λ (p : List Row). Fit p r) (sym (append-nil pre)) (f .0)
@@ -66,12 +66,12 @@ fits-at pre (r ∷ rs) f (suc i) l =
     subst (λ (p : List Row). Fit p (getD rs i noRow)) (append-assoc pre (r ∷ []) (take i rs))
     (fits-at (pre ++ (r ∷ [])) rs (f .1) i (le-of-suc-le-suc l))
 
--- rows in place behind others, before a place
+-- rows in place after others, before a place
 pub record Laid (pre rs : List Row) (e : ℕ) : Type 0 where
   pub fits : Fits pre rs
   pub before : Before e rs
 
--- rows in place, and rows in place behind them
+-- rows in place, and rows in place after them
 laid-append : (pre rs more : List Row) (q e : ℕ) → q ≤ e → Laid pre rs q → Laid (pre ++ rs) more e → Laid pre (rs ++ more) e
 laid-append pre rs more q e l a b =
     record {
@@ -79,8 +79,8 @@ laid-append pre rs more q e l a b =
       before = before-append e rs more (before-later q e rs l (a .before)) (b .before);
     }
 
--- The room below a row behind others, for elements from one place to another: b says whether the row is a container's, its bytes are around
--- theirs, and the rows there are start before them.
+-- The room below a row, after other rows, for elements from one place to another: b says whether the row is a container's, its bytes are
+-- around theirs, and the rows there are start before them.
 pub record Room (pre : List Row) (up : ℕ) (b : Bool) (q e : ℕ) : Type 0 where
   pub there : up < length pre
   pub bears : b ≡ true → container (getD pre up noRow .kind) ≡ true
@@ -88,10 +88,10 @@ pub record Room (pre : List Row) (up : ℕ) (b : Bool) (q e : ℕ) : Type 0 wher
   pub high : e ≤ getD pre up noRow .first + getD pre up noRow .whole
   pub before : Before q pre
 
--- less room, behind more rows
-room-behind : (pre rs : List Row) (up : ℕ) (b : Bool) (q e p f : ℕ) → Room pre up b q e → Before p rs → q ≤ p → f ≤ e
+-- less room, after more rows
+room-after : (pre rs : List Row) (up : ℕ) (b : Bool) (q e p f : ℕ) → Room pre up b q e → Before p rs → q ≤ p → f ≤ e
     → Room (pre ++ rs) up b p f
-room-behind pre rs up b q e p f r later l m =
+room-after pre rs up b q e p f r later l m =
     let same : getD (pre ++ rs) up noRow ≡ getD pre up noRow = List·getD-append pre rs noRow up (r .there) in
     record {
       there = omega (arith, length-append pre rs, r .there);
@@ -104,7 +104,7 @@ room-behind pre rs up b q e p f r later l m =
 -- less room
 pub room-less : (pre : List Row) (up : ℕ) (b : Bool) (q e p f : ℕ) → Room pre up b q e → q ≤ p → f ≤ e → Room pre up b p f
 room-less pre up b q e p f r l m =
-    subst (λ (l : List Row). Room l up b p f) (append-nil pre) (room-behind pre [] up b q e p f r tt l m)
+    subst (λ (l : List Row). Room l up b p f) (append-nil pre) (room-after pre [] up b q e p f r tt l m)
 
 -- The room for a row that an element gives the element around it, whose place and length are the row's.
 pub record Early (pre : List Row) (up : ℕ) (b : Bool) (place whole q e : ℕ) : Type 0 where
@@ -144,7 +144,7 @@ module _ (pre : List Row) (n : ℕ) (sized : length pre ≡ n) (kind p w up : �
       go : (c : Bool) → eqb kind 0 ≡ c → Room (pre ++ rowIf kind p w up) (parentIf kind n up) (bearsIf kind b) q f
       go true z =
           rw (row-none kind p w up z, parent-none kind n up z, bears-none kind b z)
-          (room-behind pre [] up b p e q f room tt (omega arith) (omega arith))
+          (room-after pre [] up b p e q f room tt (omega arith) (omega arith))
       go false z =
           let r : Row = record { kind = kind; first = p; whole = w; parent = up } in
           let same : getD (pre ++ (r ∷ [])) n noRow ≡ r = getD-at pre r [] noRow n sized in
@@ -158,12 +158,12 @@ module _ (pre : List Row) (n : ℕ) (sized : length pre ≡ n) (kind p w up : �
           } in
           rw (row-own kind p w up z, parent-own kind n up z, bears-own kind b z) new
 
-  -- where it has none, there is room inside it for a row that the elements there give it
+  -- if it has none, there is room inside it for a row that the elements there give it
   row-early : (q f : ℕ) → p < q → f ≤ p + w → eqb kind 0 ≡ true
       → Early (pre ++ rowIf kind p w up) (parentIf kind n up) (bearsIf kind b) p w q f
   row-early q f l m z =
       rw (row-none kind p w up z, parent-none kind n up z, bears-none kind b z)
-      (record { room = room-behind pre [] up b p e p (p + w) room tt (omega arith) fits; after = l; ends = m })
+      (record { room = room-after pre [] up b p e p (p + w) room tt (omega arith) fits; after = l; ends = m })
 
 module _ (pre : List Row) (n : ℕ) (sized : length pre ≡ n) (item place whole up : ℕ) (b : Bool) (p e : ℕ) (room : Room pre up b p e)
     (given : eqb item 0 ≡ false → Early pre up b place whole p e) (right : (eqb item 0 || b) ≡ true) where
@@ -184,22 +184,22 @@ module _ (pre : List Row) (n : ℕ) (sized : length pre ≡ n) (item place whole
       go : (c : Bool) → eqb item 0 ≡ c → Room (pre ++ rowIf item place whole up) (parentIf item n up) (bearsIf item b) p e
       go true z =
           rw (row-none item place whole up z, parent-none item n up z, bears-none item b z)
-          (room-behind pre [] up b p e p e room tt (omega arith) (omega arith))
+          (room-after pre [] up b p e p e room tt (omega arith) (omega arith))
       go false z =
           let y = given z in
           row-room pre n sized item place whole up b (place + whole) (y .room) (omega arith) right p e (y .after) (y .ends)
 
--- An element's rows, those inside it and those behind it are in place, where there is room for them: h is where its inside starts and a where
+-- An element's rows, those inside it and those after it are in place, if there is room for them: h is where its inside starts and a where
 -- that ends.
-pub one-laid : (kind item p w : ℕ) (inner : ℕ → ℕ → List Row) (behind : ℕ → List Row) (pre : List Row) (n up place whole : ℕ) (b : Bool)
+pub one-laid : (kind item p w : ℕ) (inner : ℕ → ℕ → List Row) (later : ℕ → List Row) (pre : List Row) (n up place whole : ℕ) (b : Bool)
     (e h a : ℕ) → length pre ≡ n → Room pre up b p e → p + w ≤ e → p < h → h ≤ a → a ≤ p + w → (eqb item 0 || b) ≡ true
     → (eqb kind 0 || bearsIf item b) ≡ true → (eqb item 0 ≡ false → Early pre up b place whole p e)
     → ((new : List Row) (j u : ℕ) → length new ≡ j → Room new u (bearsIf kind (bearsIf item b)) h a
     → (eqb kind 0 ≡ true → Early new u (bearsIf kind (bearsIf item b)) p w h a) → Laid new (inner j u) a)
-    → ((new : List Row) (j : ℕ) → length new ≡ j → Room new up b (p + w) e → Laid new (behind j) e)
-    → Laid pre (rowsOne kind item p w inner behind n up place whole) e
+    → ((new : List Row) (j : ℕ) → length new ≡ j → Room new up b (p + w) e → Laid new (later j) e)
+    → Laid pre (rowsOne kind item p w inner later n up place whole) e
 unfolding rowsOne
-one-laid kind item p w inner behind pre n up place whole b e h a sized room ends starts goes holds item-right own-right given each further =
+one-laid kind item p w inner later pre n up place whole b e h a sized room ends starts goes holds item-right own-right given each further =
     let around = rowIf item place whole up in
     let above = parentIf item n up in
     let below = bearsIf item b in
@@ -219,11 +219,11 @@ one-laid kind item p w inner behind pre n up place whole b e h a sized room ends
     let laid-inner = each second (next + length own) u second-sized room-own early-own in
     let third = second ++ within in
     let third-sized : length third ≡ next + length own + length within = omega (arith, length-append second within) in
-    let room-first = room-behind pre around up b p e p e room (laid-item .before) (omega arith) (omega arith) in
-    let room-second = room-behind first own up b p e h e room-first (laid-own .before) (omega arith) (omega arith) in
+    let room-first = room-after pre around up b p e p e room (laid-item .before) (omega arith) (omega arith) in
+    let room-second = room-after first own up b p e h e room-first (laid-own .before) (omega arith) (omega arith) in
     let room-third : Room third up b (p + w) e =
-    room-behind second within up b h e (p + w) e room-second (before-later a (p + w) within holds (laid-inner .before)) (omega arith) (omega arith) in
-    let rest = behind (next + length own + length within) in
+    room-after second within up b h e (p + w) e room-second (before-later a (p + w) within holds (laid-inner .before)) (omega arith) (omega arith) in
+    let rest = later (next + length own + length within) in
     let laid-rest = further third (next + length own + length within) third-sized room-third in
     laid-append pre around (own ++ (within ++ rest)) p e (omega arith) laid-item
     (laid-append first own (within ++ rest) h e (omega arith) laid-own (laid-append second within rest a e (omega arith) laid-inner laid-rest))

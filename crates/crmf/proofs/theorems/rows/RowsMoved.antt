@@ -18,7 +18,7 @@ use Rattle.crmf.specs.meaning.Rows.{Row, rowIf, rows}
 use Rattle.crmf.specs.steps.rows.Fill.{goes, rowsFrom}
 use Rattle.crmf.proofs.theorems.rows.RowsOfLines.{rowsOne, rowsWithin, inner-no-rows, inner-rows, rows-nowhere, rows-found, row-none, row-own, rows-lines}
 
--- a row so many bytes further on
+-- a row moved by some bytes
 abbrev pub shift : ℕ → Row → Row
 shift d r = record { kind = r .kind; first = d + r .first; whole = r .whole; parent = r .parent }
 
@@ -30,13 +30,13 @@ row-moved d kind p w up = go (eqb kind 0) refl
     go true e = row-none kind (d + p) w up e ∙ sym (ap (map (shift d)) (row-none kind p w up e))
     go false e = row-own kind (d + p) w up e ∙ sym (ap (map (shift d)) (row-own kind p w up e))
 
--- an element's rows move with those inside it and behind it
+-- an element's rows move with those inside it and after it
 rows-one-moved : (d kind item p w : ℕ) (f g : ℕ → ℕ → List Row) (h i : ℕ → List Row) (n up place whole : ℕ)
     → ((j u : ℕ) → g j u ≡ map (shift d) (f j u)) → ((j : ℕ) → i j ≡ map (shift d) (h j))
     → rowsOne kind item (d + p) w g i n up (d + place) whole ≡ map (shift d) (rowsOne kind item p w f h n up place whole)
 unfolding rowsOne
-rows-one-moved d kind item p w f g h i n up place whole inner behind =
-    simp (row-moved d, length-map, inner, behind, map-append)
+rows-one-moved d kind item p w f g h i n up place whole inner later =
+    simp (row-moved d, length-map, inner, later, map-append)
 
 -- the rows inside an element move with it
 inner-moved : (d i : ℕ) (inside : Tree) (n up place whole : ℕ)
@@ -50,7 +50,7 @@ inner-moved d i inside n up place whole each = go (eqb i 0) refl
     go false e =
         inner-rows i (moved d inside) n up (d + place) whole e ∙ each ∙ sym (ap (map (shift d)) (inner-rows i inside n up place whole e))
 
--- The rows from a line on of elements so many bytes further on are their rows, moved.
+-- The rows from a line on of elements moved by some bytes are their rows, moved.
 pub rows-from-moved : (d : ℕ) (t : Tree) (k n up place whole : ℕ)
     → rowsFrom k (moved d t) n up (d + place) whole ≡ map (shift d) (rowsFrom k t n up place whole)
 unfolding rowsFrom
@@ -79,7 +79,7 @@ rows-from-moved d (element id p w c inside rest) k n up place whole =
         ∙ sym (ap (map (shift d)) (rows-found k id p w c inside rest n up place whole m e))
 
 mutual
-  -- What some parts describe they describe so many bytes further on.
+  -- Some parts describe elements that are moved by some bytes, if they describe the elements.
   pub matches-moved : {R : ℕ → Bool} {ps : List Part} {t : Tree} (m : Matches R ps t) (d : ℕ) → Matches R ps (moved d t)
   matches-moved {R} end d = subst (Matches R []) (sym (moved-none d)) end
   matches-moved (pass ok m) d = pass ok (matches-moved m d)
@@ -89,12 +89,12 @@ mutual
   matches-moved {R} (choose {s} {names} {ps} {id} {first = p} {whole = w} {c} {inside} {rest} name way m) d =
       subst (Matches R (select id s names ∷ ps)) (sym (moved-element d id p w c inside rest)) (choose name way (matches-moved m d))
 
-  -- so are the elements inside an element
+  -- so it is with the elements inside an element
   pub within-moved : {R : ℕ → Bool} {i : Inside} {t : Tree} (w : Within R i t) (d : ℕ) → Within R i (moved d t)
   within-moved unseen d = unseen
   within-moved (parts m) d = parts (matches-moved m d)
 
--- Rows move with the bytes: a derivation of the elements so many bytes further on has the rows of a derivation of the elements, moved.
+-- Rows move with the bytes: a derivation of the moved elements has the rows of a derivation of the elements, moved.
 pub rows-moved : {R Q : ℕ → Bool} (name : Name) (d : ℕ) (t : Tree) (m : Matches R (content name) t) (e : Matches Q (content name) (moved d t))
     (n up place whole : ℕ) → rows e n up (d + place) whole ≡ map (shift d) (rows m n up place whole)
 rows-moved name d t m e n up place whole =

@@ -1,5 +1,5 @@
 -- The rows that the walk over the lines finds are the rows of the grammar's meaning: an element's rows are made in one way from its line's
--- kinds, the rows inside it and the rows behind it, and the line shows what the derivation took. So the rows hang on the tree alone, and
+-- kinds, the rows inside it and the rows after it, and the line shows what the derivation took. So the rows depend on the tree alone, and
 -- the counting walk counts them. Assumes nothing.
 use Prim.Native.Nat.{ℕ, _+_}
 use native.Mathlib.Omega.{arith}
@@ -31,18 +31,18 @@ use Rattle.crmf.proofs.theorems.grammar.ChoicesMatch.{holds-true, Keeps
 use Rattle.crmf.proofs.theorems.explain.Accepts.{name-below}
 use Rattle.crmf.proofs.theorems.rows.Writing.{rows-given}
 
--- The rows of an element with the kinds of its own row and of the row that it gives the element around it, and of the elements behind it:
--- inner makes the rows inside it from their first number and their parent, behind those behind it from their first number.
+-- The rows of an element with the kinds of its own row and of the row that it gives the element around it, and of the elements after it:
+-- inner makes the rows inside it from their first number and their parent, and later those after it from their first number.
 unfoldable pub rowsOne : (kind item p w : ℕ) → (ℕ → ℕ → List Row) → (ℕ → List Row) → (n up place whole : ℕ) → List Row
-rowsOne kind item p w inner behind n up place whole =
+rowsOne kind item p w inner later n up place whole =
     let around = rowIf item place whole up in
     let above = parentIf item n up in
     let own = rowIf kind p w above in
     let next = n + length around in
     let within = inner (next + length own) (parentIf kind next above) in
-    around ++ (own ++ (within ++ behind (next + length own + length within)))
+    around ++ (own ++ (within ++ later (next + length own + length within)))
 
--- the rows inside an element whose inside starts at a line: none where that is 0
+-- the rows inside an element whose inside starts at a line: none if that is 0
 unfoldable pub rowsWithin : ℕ → Tree → (n up place whole : ℕ) → List Row
 rowsWithin i inside n up place whole = elim (eqb i 0) [ true ↦ [] | false ↦ rowsFrom i inside n up place whole ]
 
@@ -77,7 +77,7 @@ unfolding goes
 judged-goes (keep r) next c onward e = kept-onward r next onward c e .1
 judged-goes (Lines.choose s) next c onward e = way-onward s next onward c e .1
 
--- the rows from a line on, where the element's line and the line behind it are known
+-- the rows from a line on, if the element's line and the line after it are known
 pub rows-from-element : (k id p w : ℕ) (c : List ℕ) (inside rest : Tree) (n up place whole m onward : ℕ) → findLine k id ≡ At m
     → judged (line m .judge) (line m .next) c ≡ To onward
     → rowsFrom k (element id p w c inside rest) n up place whole
@@ -88,12 +88,12 @@ rows-from-element k id p w c inside rest n up place whole m onward e j =
     ∙ ap (λ (o : ℕ). rowsOne (line m .kind) (line m .item) p w (λ j u. rowsWithin (line m .inside) inside j u p w)
     (λ j. rowsFrom o rest j up place whole) n up place whole) (judged-goes (line m .judge) (line m .next) c onward j)
 
--- an element's rows hang only on the rows inside it and behind it
+-- an element's rows depend only on the rows inside it and after it
 pub rows-one-same : (kind item p w : ℕ) (f g : ℕ → ℕ → List Row) (h i : ℕ → List Row) (n up place whole : ℕ)
     → ((j u : ℕ) → f j u ≡ g j u) → ((j : ℕ) → h j ≡ i j) → rowsOne kind item p w f h n up place whole ≡ rowsOne kind item p w g i n up place whole
-rows-one-same kind item p w f g h i n up place whole inner behind =
+rows-one-same kind item p w f g h i n up place whole inner later =
     ap₂ (λ (x : ℕ → ℕ → List Row) (y : ℕ → List Row). rowsOne kind item p w x y n up place whole)
-    (fun-ext (λ j. fun-ext (λ u. inner j u))) (fun-ext behind)
+    (fun-ext (λ j. fun-ext (λ u. inner j u))) (fun-ext later)
 
 -- an element with no row, whose inside has none
 pub rows-one-none : (p w : ℕ) (f : ℕ → ℕ → List Row) (h : ℕ → List Row) (n up place whole : ℕ) → ((j u : ℕ) → f j u ≡ [])
@@ -104,7 +104,7 @@ rows-one-none p w f h n up place whole inner =
     rw (inner (n + 0 + 0) up) (ap h count)
 
 module _ (R : ℕ → Bool) where
-  -- the rows of an element that keeps a choice, and of the elements behind it
+  -- the rows of an element that keeps a choice, and of the elements after it
   rowsKept : (h : Choice) (p w : ℕ) (c : List ℕ) (inside rest : Tree) → Keeps R h c inside rest → (n up place whole : ℕ) → List Row
   rowsKept (taking f ps) p w c inside rest k n up place whole =
       rowsOne (f .kind) (f .item) p w (λ j u. rowsIn (k .within) j u p w) (λ j. rows (k .further) j up place whole) n up place whole
@@ -208,11 +208,11 @@ pub row-own : (kind first whole parent : ℕ) → eqb kind 0 ≡ false
     → rowIf kind first whole parent ≡ record { kind = kind; first = first; whole = whole; parent = parent } ∷ []
 row-own kind first whole parent e = rw (e, rowIf)
 
--- which is the parent behind it
+-- which is the parent of the rows inside
 pub parent-own : (kind n up : ℕ) → eqb kind 0 ≡ false → parentIf kind n up ≡ n
 parent-own kind n up e = rw (e, parentIf)
 
--- what is noted leaves the count
+-- noting a form leaves the count
 noted-count : (m : Mark) (p : ℕ) (s : Tally) → withForm m p s .count ≡ s .count
 unfolding withForm
 noted-count both p s = refl
@@ -241,18 +241,18 @@ unfolding withElement
 met-count x p w s =
     ap (λ (n : ℕ). n + (rowsOfKind (x .item) + rowsOfKind (x .kind))) (lengthy-count (x .kind) p w (withForm (x .mark) p s) ∙ noted-count (x .mark) p s)
 
--- an element's rows are as many as its kinds have, with those inside it and those behind it, counted up from a to d
-rows-one-count : (kind item p w : ℕ) (inner : ℕ → ℕ → List Row) (behind : ℕ → List Row) (n up place whole a b d : ℕ)
-    → ((j u : ℕ) → length (inner j u) + (a + (rowsOfKind item + rowsOfKind kind)) ≡ b) → ((j : ℕ) → length (behind j) + b ≡ d)
-    → length (rowsOne kind item p w inner behind n up place whole) + a ≡ d
+-- an element's rows are as many as its kinds have, with those inside it and those after it, counted up from a to d
+rows-one-count : (kind item p w : ℕ) (inner : ℕ → ℕ → List Row) (later : ℕ → List Row) (n up place whole a b d : ℕ)
+    → ((j u : ℕ) → length (inner j u) + (a + (rowsOfKind item + rowsOfKind kind)) ≡ b) → ((j : ℕ) → length (later j) + b ≡ d)
+    → length (rowsOne kind item p w inner later n up place whole) + a ≡ d
 unfolding rowsOne
-rows-one-count kind item p w inner behind n up place whole a b d within further =
+rows-one-count kind item p w inner later n up place whole a b d within further =
     let around = rowIf item place whole up in
     let above = parentIf item n up in
     let own = rowIf kind p w above in
     let next = n + length around in
     let inside = inner (next + length own) (parentIf kind next above) in
-    let rest = behind (next + length own + length inside) in
+    let rest = later (next + length own + length inside) in
     omega (
       arith,
       length-append around (own ++ (inside ++ rest)),
@@ -287,13 +287,13 @@ rows-count R (element id p w c inside rest) s r k around n up place whole passed
     let x = line (e .at) in
     let m = withElement x p w s in
     let inner : ℕ → ℕ → List Row = λ j u. rowsWithin (x .inside) inside j u p w in
-    let behind : ℕ → List Row = λ j. rowsFrom (e .next) rest j up place whole in
+    let later : ℕ → List Row = λ j. rowsFrom (e .next) rest j up place whole in
     let within : (j u : ℕ) → length (rowsWithin (x .inside) inside j u p w) + m .count ≡ e .seen .count =
     λ j u. inner-count R m (e .seen) (x .inside) p inside j u p w (rows-count R inside m (e .seen) (x .inside) p j u p w) (e .inner) in
     let further : (j : ℕ) → length (rowsFrom (e .next) rest j up place whole) + e .seen .count ≡ r .count =
     λ j. rows-count R rest (e .seen) r (e .next) around j up place whole (e .further) in
     ap (λ (l : List Row). length l + s .count) (rows-from-element k id p w c inside rest n up place whole (e .at) (e .next) (e .found) (e .onward))
-    ∙ rows-one-count (x .kind) (x .item) p w inner behind n up place whole (s .count) (e .seen .count) (r .count)
+    ∙ rows-one-count (x .kind) (x .item) p w inner later n up place whole (s .count) (e .seen .count) (r .count)
     (λ j u. ap (λ (a : ℕ). length (inner j u) + a) (sym (met-count x p w s)) ∙ within j u) further
 
 -- The count of a walk over a container's elements is the number of any derivation's rows.

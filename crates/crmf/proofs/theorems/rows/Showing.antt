@@ -34,7 +34,7 @@ use Rattle.crmf.proofs.theorems.rows.Writing.{rows-given, wrote-none, w
 abbrev here : ℕ → ℕ → ℕ → ℕ → Around → Around
 here n p w row a = record { up = rowAbove (line n) row (a .up); place = p; whole = w }
 
--- The rows of one element of a tree: its own, those inside it, and those behind it, from a number on and below a row.
+-- The rows of one element of a tree: its own, those inside it, and those after it, from a number on and below a row.
 module _ (k id p w : ℕ) (c : List ℕ) (inside rest : Tree) (row : ℕ) (a : Around) (n : ℕ) where
   tail : ℕ → ℕ → List Row
   tail i u =

@@ -35,10 +35,10 @@ over-over old a p q fits =
     let head : length (take a old ++ p) ≡ a + length p = rw (length-append (take a old) p, start) in
     let split : over old a p ≡ (take a old ++ p) ++ drop (a + length p) old = sym (append-assoc (take a old) p (drop (a + length p) old)) in
     let first : take (a + length p) (over old a p) ≡ take a old ++ p = rw split (take-at (take a old ++ p) (drop (a + length p) old) (a + length p) head) in
-    let behind : drop (a + length p) (over old a p) ≡ drop (a + length p) old = rw split (drop-at (take a old ++ p) (drop (a + length p) old) (a + length p) head) in
+    let after : drop (a + length p) (over old a p) ≡ drop (a + length p) old = rw split (drop-at (take a old ++ p) (drop (a + length p) old) (a + length p) head) in
     let both : a + length p + length q ≡ a + length (p ++ q) = omega (arith, length-append p q) in
     let rest : drop (a + length p + length q) (over old a p) ≡ drop (a + length (p ++ q)) old =
-    sym (drop-drop (length q) (a + length p) (over old a p)) ∙ ap (drop (length q)) behind ∙ drop-drop (length q) (a + length p) old ∙ ap (λ (k : ℕ). drop k old) both in
+    sym (drop-drop (length q) (a + length p) (over old a p)) ∙ ap (drop (length q)) after ∙ drop-drop (length q) (a + length p) old ∙ ap (λ (k : ℕ). drop k old) both in
     ap₂ (λ (l r : List ℕ). l ++ (q ++ r)) first rest
     ∙ append-assoc (take a old) p (q ++ drop (a + length (p ++ q)) old)
     ∙ ap (λ (l : List ℕ). take a old ++ l) (sym (append-assoc p q (drop (a + length (p ++ q)) old)))

@@ -88,12 +88,12 @@ pub same-none : same [] [] ≡ true
 unfolding same
 same-none = refl
 
--- the octet at i is compared, and then those behind it
+-- the octet at i is compared, and then those after it
 same-next : (c : List ℕ) (i b : ℕ) (bs : List ℕ) → i < length c → same (drop i c) (b ∷ bs) ≡ eqb (getD c i 0) b && same (drop (suc i) c) bs
 unfolding same
 same-next c i b bs h = rw (drop-cons c i 0)
 
--- where no octet is left, nothing is to be compared
+-- if no octet is left, there is nothing to compare
 same-over : (c : List ℕ) (i : ℕ) → length c ≤ i → same (drop i c) [] ≡ true
 unfolding same
 same-over c i h = rw (drop-of-length-le c h)
@@ -128,7 +128,7 @@ module _ (c : List ℕ) (h : length c ≡ 9) where
       )
       (simp (and-assoc, and-true))
 
--- Lists are compared as the same exactly where they are.
+-- Lists compare as the same exactly when they are.
 pub same-octets : (a b : List ℕ) → same a b ≡ true → a ≡ b
 unfolding same
 same-octets [] [] is = refl

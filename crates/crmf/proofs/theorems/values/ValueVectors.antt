@@ -12,7 +12,7 @@ use Rattle.crmf.specs.meaning.Value.{empty, zeroOrOne, true-only, some, 
 abbrev gives : {A : Type 0} → (List ℕ → A) → A → List (List ℕ) → Type 0
 gives f a cs = map f cs ≡ map (λ _. a) cs
 
--- numbers written with two digits each, and Z behind them
+-- numbers written with two digits each, and Z after them
 abbrev written : List ℕ → List ℕ
 written [] = 0x5A ∷ []
 written (n ∷ ns) = (0x30 + n / 10) ∷ (0x30 + n % 10) ∷ written ns
@@ -50,7 +50,7 @@ no-utc-days : gives isUtcTime false
 unfolding isUtcTime century isMoment daysIn leap pairAt
 no-utc-days = refl
 
--- no octets, 12 and 14 octets, 15 of a GeneralizedTime, a small z, and the octets before and behind the digits
+-- no octets, 12 and 14 octets, 15 of a GeneralizedTime, a small z, and the octets before and after the digits
 no-utc-octets : gives isUtcTime false
     ([]
     ∷ take 12 whole
@@ -85,7 +85,7 @@ generalized-times : gives isGeneralizedTime true
 unfolding isGeneralizedTime isMoment daysIn leap pairAt
 generalized-times = refl
 
--- 29 February of 1900, 2100 and 2001, the day behind each other month of 2001, hour 24, minute and second 60, and 13 octets
+-- 29 February of 1900, 2100 and 2001, the day after the last of each other month of 2001, hour 24, minute and second 60, and 13 octets
 no-generalized-times : gives isGeneralizedTime false
     (written (19 ∷ 0 ∷ 2 ∷ 29 ∷ 0 ∷ 0 ∷ 0 ∷ [])
     ∷ written (21 ∷ 0 ∷ 2 ∷ 29 ∷ 0 ∷ 0 ∷ 0 ∷ [])

@@ -1,4 +1,4 @@
--- What the inner functions of the walk are lent and answer. Assumes nothing.
+-- What the inner functions of the walk require and answer. Assumes nothing.
 use Prim.Native.Nat.{ℕ, _*_, _≤_, _<_}
 use mathlib.Core.Path.{_≡_}
 use mathlib.Core.Bool.{true, false}
@@ -20,7 +20,7 @@ use Rattle.crmf.specs.declared.explain.Walked.the-variants.{Passed, Brok
 use Rattle.crmf.specs.steps.grammar.Packed.{packed}
 use Rattle.crmf.specs.steps.explain.Walk.{line, walk, every}
 
--- A part of an input from a place to an end, no more rows than two for each place before it, and the table.
+-- What they are lent: a part of an input from a place to an end, at most two rows for each byte before it, and the table.
 pub record Lent (bytes : List ℕ) (at end count : ℕ) (table : List ℕ) : Type 0 where
   pub short : length bytes ≤ longest
   pub order : at ≤ end
@@ -28,11 +28,11 @@ pub record Lent (bytes : List ℕ) (at end count : ℕ) (table : List ℕ) : Typ
   pub few : count ≤ 2 * at
   pub right : table ≡ packed
 
--- the inside of an element in a line's form
+-- the walk over the inside of an element in a line's form
 abbrev pub insideWalk : ℕ → Tally → ℕ → Tree → Walked
 insideWalk k s around t = elim (eqb (line k .inside) 0) [ true ↦ Passed s | false ↦ walk every s (line k .inside) around t ]
 
--- no more rows than two for each place up to an end
+-- A walk that passes counts at most two rows for each byte up to an end.
 abbrev pub Passing : ℕ → Walked → Type 0
 Passing end (Passed s) = s .count ≤ 2 * end
 Passing end (Broken p d s) = Unit {0}
@@ -51,12 +51,12 @@ abbrev pub continued : List ℕ → ℕ → ℕ → WalkStep → Walked
 continued bytes end around (On c) = walkFrom bytes c end around
 continued bytes end around (Stop p d s) = Broken p d s
 
--- a step goes forward and stays within the end, with no more rows than two for each place
+-- A step goes forward and stays within the end, with at most two rows for each byte.
 abbrev pub Forward : ℕ → ℕ → WalkStep → Type 0
 Forward at end (On c) = (at < c .at) × (c .at ≤ end) × (c .tally .count ≤ 2 * c .at)
 Forward at end (Stop p d s) = Unit {0}
 
--- the step over the element at a cursor
+-- The step over the element at a cursor: the walk after it is the walk from the cursor.
 pub record Stepped (bytes : List ℕ) (c : Cursor) (end : ℕ) (r : WalkStep) : Type 0 where
   pub same : (around : ℕ) → continued bytes end around r ≡ walkFrom bytes c end around
   pub forward : Forward (c .at) end r

@@ -1,4 +1,5 @@
--- The walk of document 01 over an element tree: parts left to right, insides first, a part chosen by identifier alone. Assumes nothing.
+-- The walk of document 01 over an element tree (SPECIFICATION 3.1): parts left to right, insides first, a part chosen by identifier alone.
+-- Assumes nothing.
 use Prim.Native.Nat.{ℕ, suc, _+_}
 use mathlib.Core.Bool.{Bool, true, false, _&&_}
 use mathlib.Core.List.{List, [], _∷_, _++_}
@@ -26,7 +27,7 @@ use Rattle.crmf.specs.steps.grammar.Lines.{Judge, keep, choose, Pass, en
 unfoldable pub line : ℕ → Line
 line k = getD lines k endLine
 
--- whether the search goes on behind a line whose form the element isn't in
+-- whether the search goes on after a line whose form the element isn't in
 abbrev pub goesOn : Pass → Bool
 goesOn ends = false
 goesOn needed = false
@@ -50,7 +51,7 @@ closedIn (x ∷ xs) = elim (x .pass) [ ends ↦ true | needed ↦ false | anothe
 unfoldable pub closed : ℕ → Bool
 closed k = closedIn (drop k lines)
 
--- request A9's detail of a broken rule: 2 where a part is missing, 4 for control 3's list, else 3
+-- request A9's detail of a broken rule: 2 if a part is missing, 4 for control 3's list, else 3
 abbrev pub ruleDetail : Rule → ℕ
 ruleDetail always = 3
 ruleDetail integer = 3
@@ -64,14 +65,14 @@ ruleDetail generalizedTime = 3
 ruleDetail some = 2
 ruleDetail never = 4
 
--- how many ways a value may select
+-- how many ways a selector has
 abbrev pub ways : Selector → ℕ
 ways action = 2
 ways method = 4
 ways controlType = 7
 ways infoType = 3
 
--- behind an element's inside: the line to go on with, or the detail of the rule that its value breaks
+-- what is judged after an element's inside: the line to go on with, or the detail of the rule that its value breaks
 unfoldable pub judged : Judge → ℕ → List ℕ → Onward
 judged (keep r) next c = elim (keeps r c) [ true ↦ To next | false ↦ Breaks (ruleDetail r) ]
 judged (choose s) next c =
@@ -83,15 +84,15 @@ abbrev pub unreadDetail : Mark → ℕ
 unreadDetail both = 1
 unreadDetail (alone e d) = elim (eqb d 3) [ true ↦ 4 | false ↦ 1 ]
 
--- one row for each kind but none
+-- how many rows a kind gives: 0 for none, 1 for any other
 abbrev pub rowsOfKind : ℕ → ℕ
 rowsOfKind k = elim (eqb k kinds.none) [ true ↦ 0 | false ↦ 1 ]
 
--- the rows that an element of a line's form gives by itself: an item's, and its own
+-- how many rows an element in a line's form gives by itself: its item's and its own
 abbrev pub rowsBy : Line → ℕ
 rowsBy x = rowsOfKind (x .item) + rowsOfKind (x .kind)
 
--- the tally with an element at a place in a form of a mark: the first of each edition stays
+-- the tally after an element at a place in a form with a mark: the first of each edition stays
 unfoldable pub withForm : Mark → ℕ → Tally → Tally
 withForm both p s = s
 withForm (alone e d) p s =
@@ -103,7 +104,7 @@ withForm (alone e d) p s =
       ]
     ]
 
--- the tally with an element of a kind at a place that has a whole length: the first long certReqId stays
+-- the tally after an element with a kind, a place and a whole length: the first long certReqId stays
 unfoldable pub withLongId : ℕ → ℕ → ℕ → Tally → Tally
 withLongId kind p whole s =
     elim (longId kind whole && eqb (s .long .whole) 0) [
@@ -111,16 +112,16 @@ withLongId kind p whole s =
       | false ↦ s
     ]
 
--- the tally with some rows more
+-- the tally with n more rows
 abbrev pub withRows : ℕ → Tally → Tally
 withRows n s = record { count = s .count + n; one = s .one; two = s .two; long = s .long }
 
--- the tally with an element at a place and of a whole length that a line is chosen for
+-- the tally after an element with a place and a whole length, in a line's form
 unfoldable pub withElement : Line → ℕ → ℕ → Tally → Tally
 withElement x p whole s = withRows (rowsBy x) (withLongId (x .kind) p whole (withForm (x .mark) p s))
 
--- The walk over the elements of a container from a line on, where the container's own place is `around`, and R says which editions' own
--- forms may be read: an element's line is chosen by its identifier alone, its inside is walked first, then its value is judged.
+-- The walk over the elements of a container from a line on (SPECIFICATION 3.1). The container's own place is `around`, and R says which
+-- editions' own forms may be read. An element's line is chosen by its identifier alone, its inside is walked first, then its value is judged.
 unfoldable pub walk : (ℕ → Bool) → Tally → ℕ → ℕ → Tree → Walked
 walk R s k around none = elim (closed k) [ true ↦ Passed s | false ↦ Broken around 2 s ]
 walk R s k around (element id first whole c inside rest) =
@@ -175,6 +176,6 @@ unfoldable pub emptyTally : Tally
 emptyTally =
     record { count = 0; one = record { number = 0; place = 0 }; two = record { number = 0; place = 0 }; long = record { whole = 0; place = 0 } }
 
--- The walk over a whole input, which is to be one batch, where every form is read; in a longer input no element stands.
+-- The walk over a whole input as one batch, in which every form is read. An input that is too long breaks at 0.
 unfoldable pub countOf : List ℕ → Walked
 countOf s = elim (leb (length s) longest) [ true ↦ walk every emptyTally (start Top) 0 (tree 0 s) | false ↦ Broken 0 1 emptyTally ]

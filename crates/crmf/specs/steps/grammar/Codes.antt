@@ -1,8 +1,8 @@
--- The codes of a packed line, by name: how many each field has room for, its weight, and what an action is. src/grammar/codes.rt has the same
--- names. Assumes nothing.
+-- The codes of a packed line, by name: the room of each field, its weight, and the actions. src/grammar/codes.rt has the same names. Assumes
+-- nothing.
 use Prim.Native.Nat.{ℕ, _*_}
 
--- the room of the fields
+-- the room of each field: its codes are below this
 abbrev pub passes : ℕ
 passes = 4
 
@@ -55,7 +55,7 @@ action = next * lineNumbers
 abbrev pub rows : ℕ
 rows = action * actions
 
--- an octet's code is this and the octet; below it are those of all other identifiers
+-- an octet's code is this plus the octet; the codes of all other identifiers are below it
 abbrev pub octet : ℕ
 octet = 3
 
@@ -67,9 +67,9 @@ selectors = 16
 abbrev pub edition : ℕ
 edition = 8
 
--- The actions of the quick count: nothing has the line's identifiers; the content isn't looked at; primitive values by their type, of which a
--- certReqId is short, too; an element of any identifier, with the whole nest inside it; lines inside, the commonest containers by actions
--- of their own; and every other line
+-- The recogniser's actions: no element has the line's identifiers; the content isn't looked at; primitive values by their type (a certReqId
+-- has at most 8 content octets, too); an element with any identifier and the whole nest inside it; a container, the commonest by actions of
+-- their own; and every other line
 abbrev pub takeNothing : ℕ
 takeNothing = 0
 

@@ -1,4 +1,4 @@
--- The line that an element fits, which is found by its identifier alone. Assumes nothing.
+-- The line that an element fits. It is found by the element's identifier alone. Assumes nothing.
 use Prim.Native.Nat.{ℕ}
 use mathlib.Core.Path.{_≡_}
 use lib.ListN.{getD}
@@ -10,7 +10,7 @@ use Rattle.crmf.specs.declared.grammar.table.FoundLine.the-variants.{At,
 use Rattle.crmf.specs.steps.grammar.Packed.{packed}
 use Rattle.crmf.specs.steps.explain.Walk.{findLine}
 
--- An element with its first byte at p fits the line of a number, which the search from the line k on finds.
+-- An element with its first byte at p fits a line: the search from line k on finds that line's number.
 pub record FitsAt (x : Element) (p k : ℕ) (f : Fit) : Type 0 where
   pub number : ℕ
   pub found : findLine k (x .identifier) ≡ At number
@@ -19,7 +19,7 @@ pub record FitsAt (x : Element) (p k : ℕ) (f : Fit) : Type 0 where
   pub content : f .content ≡ x .content
   pub end : f .end ≡ x .end
 
--- it fits a line, or none
+-- An element fits a line, or none.
 abbrev pub Fitted : Element → ℕ → ℕ → Fitting → Type 0
 Fitted x p k Misfit = findLine k (x .identifier) ≡ Nowhere
 Fitted x p k (Fits f) = FitsAt x p k f

@@ -14,12 +14,12 @@ pub data Judge : Type 0 where
   keep : Rule → Judge
   choose : Selector → Judge
 
--- What may be done at a line where an element isn't in its form: nothing (the part is needed), go on to the part's next form, or pass the
--- part over; and where the container ends.
+-- How the search goes on at a line if the element isn't in its form: not at all, since the container ends or the part is needed; to the part's
+-- next form; or over the part.
 pub data Pass : Type 0 where
   ends needed another over : Pass
 
--- A line: an element's form, where the lines of its inside start (0: it is free), and the line to go on with behind it.
+-- A line: an element's form, the line at which its inside starts (0: it is free), and the line to go on with after it.
 pub record Line : Type 0 where
   pub identifiers : Identifiers
   pub inside : ℕ
@@ -43,34 +43,35 @@ unfoldable pub size : List Part → ℕ
 size [] = 1
 size (p ∷ ps) = partSize p + size ps
 
--- where the containers start that stand from a line on, one behind the other
+-- the starts of some containers, which come one after the other from a line on
 unfoldable pub startsFrom : ℕ → List Name → List ℕ
 startsFrom at [] = []
 startsFrom at (n ∷ ns) = at ∷ startsFrom (at + size (content n)) ns
 
--- the line where a container starts: they stand in the order of the names, behind one end line
+-- the line at which a container starts: containers come in the order of their names, after one end line
 unfoldable pub start : Name → ℕ
 start n = getD (startsFrom 1 names) (order n) 0
 
+-- the line at which an inside starts; 0 if it is free
 unfoldable pub insideLine : Inside → ℕ
 insideLine free = 0
 insideLine (holds n) = start n
 
--- whether a form is followed by another of its part
+-- the pass of a form, by how often its part occurs and the forms after it
 unfoldable pub passOf : Occurs → List Form → Pass
 passOf once [] = needed
 passOf once (f ∷ fs) = another
 passOf optional fs = over
 passOf repeated fs = over
 
--- the lines of a part's forms, where the container goes on with the line next
+-- the lines of a part's forms; the container goes on with the line `next`
 unfoldable pub formLines : Occurs → ℕ → List Form → List Line
 formLines o next [] = []
 formLines o next (f ∷ fs) =
     record { identifiers = f .identifiers; inside = insideLine (f .inside); judge = keep (f .rule); kind = f .kind; item = f .item; mark = f .mark; next = next; pass = passOf o fs }
     ∷ formLines o next fs
 
--- the line to go on with behind an element of a part that stands at a line and takes so many: the part again, or the part behind it
+-- the line to go on with after an element of a part that has `size` lines from a line on: the part's own, or that of the part after it
 unfoldable pub nextLine : Occurs → ℕ → ℕ → ℕ
 nextLine once at size = at + size
 nextLine optional at size = at + size
@@ -80,6 +81,7 @@ nextLine repeated at size = at
 unfoldable pub wayLine : Name → Line
 wayLine n = record { identifiers = nothing; inside = 0; judge = keep always; kind = kinds.none; item = kinds.none; mark = both; next = start n; pass = needed }
 
+-- a part's lines, from a line on
 unfoldable pub partLines : ℕ → Part → List Line
 partLines at (part o fs) = formLines o (nextLine o at (length fs)) fs
 partLines at (select id s ns) =
@@ -90,6 +92,7 @@ unfoldable pub containerLines : ℕ → List Part → List Line
 containerLines at [] = endLine ∷ []
 containerLines at (p ∷ ps) = partLines at p ++ containerLines (at + partSize p) ps
 
+-- the lines of some containers, from a line on
 unfoldable pub linesFrom : ℕ → List Name → List Line
 linesFrom at [] = []
 linesFrom at (n ∷ ns) = containerLines at (content n) ++ linesFrom (at + size (content n)) ns

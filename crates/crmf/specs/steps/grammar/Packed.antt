@@ -1,4 +1,4 @@
--- A line as one number, for the table that code holds: the fields one above the other, and back. Assumes nothing.
+-- A line as one number, for the table that code holds: its fields added up by weight, and each field read back. Assumes nothing.
 use Prim.Native.Nat.{ℕ, _+_, _*_, _/_, _%_}
 use mathlib.Core.Bool.{Bool, true, false, not, _&&_}
 use mathlib.Core.List.{List, [], _∷_, map}
@@ -11,6 +11,7 @@ use Rattle.crmf.specs.steps.explain.Walk.{rowsBy}
 use Rattle.crmf.specs.meaning.Kinds as kinds
 use Rattle.crmf.specs.steps.grammar.Codes as codes
 
+-- the codes of a line's fields
 unfoldable pub passCode : Pass → ℕ
 passCode ends = 0
 passCode needed = 1
@@ -40,18 +41,18 @@ judgeCode (choose method) = 17
 judgeCode (choose controlType) = 18
 judgeCode (choose infoType) = 19
 
--- the edition alone and the difference's number; 0 where both editions allow the form
+-- the edition that alone allows the form, and the difference's number; 0 if both editions allow it
 unfoldable pub markCode : Mark → ℕ
 markCode both = 0
 markCode (alone e d) = e * codes.edition + d
 
--- the number that stands beside the first entry that is i, and another where there is none
+-- the number beside the first entry i in a list of pairs; `other` if there is none
 unfoldable pub beside : List (ℕ × ℕ) → ℕ → ℕ → ℕ
 beside [] i other = other
 beside ((a, n) ∷ more) i other = elim (eqb i a) [ true ↦ n | false ↦ beside more i other ]
 
--- what a primitive value asks by its identifier alone: BOOLEAN, INTEGER, BIT STRING, NULL, OBJECT IDENTIFIER, ENUMERATED, UTF8String, and
--- another type nothing
+-- the action for a primitive value by its identifier alone: BOOLEAN, INTEGER, BIT STRING, NULL, OBJECT IDENTIFIER, ENUMERATED, UTF8String; the
+-- content of any other type isn't looked at
 abbrev pub ownAction : ℕ → ℕ
 ownAction i =
     beside
@@ -66,7 +67,7 @@ ownAction i =
     i
     codes.takeUnseen
 
--- and what it asks by its line's judge: an INTEGER or a BIT STRING under an identifier that asks nothing is one of these too
+-- the action for a primitive value by its line's judge, too: an INTEGER or a BIT STRING under an implicit tag has that type's action
 abbrev pub valueAction : Judge → ℕ → ℕ
 valueAction j i =
     beside
@@ -77,7 +78,7 @@ valueAction j i =
     (judgeCode j)
     codes.takeByLine
 
--- what an inside asks by where its lines start: the commonest have an action of their own
+-- the action for an inside, by the line at which it starts: the commonest containers have an action of their own
 abbrev pub insideAction : ℕ → ℕ
 insideAction j =
     beside
@@ -91,12 +92,12 @@ insideAction j =
     j
     codes.takeInside
 
--- bit 6 of an identifier: the content is a list of elements
+-- whether bit 6 of an identifier is set: the content is a list of elements
 abbrev pub constructedBit : ℕ → Bool
 constructedBit i = eqb (i / 32 % 2) 1
 
--- What the recogniser does with an element in a line's form: by the line's identifiers, and where they are one octet by its inside or its
--- value. Every line of which no more is known is read as it stands.
+-- What the recogniser does with an element in a line's form: by the line's identifiers and, if they are one octet, by its inside or its value.
+-- For any line without an action of its own, the recogniser reads the line's fields.
 unfoldable pub actionOf : Line → ℕ
 actionOf x =
     let free = eqb (x .inside) 0 in
@@ -122,6 +123,7 @@ actionOf x =
           ]
     ]
 
+-- a line as one number
 unfoldable pub pack : Line → ℕ
 pack x =
     passCode (x .pass)

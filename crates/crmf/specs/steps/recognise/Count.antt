@@ -1,5 +1,5 @@
--- What the recogniser answers: a batch with a sound nest, in an edition's grammar and with short certReqIds only, by one count of its rows.
--- Assumes nothing.
+-- What the recogniser answers: how many rows a batch has, if its nest has no fault, it is in an edition's grammar, and its certReqIds are
+-- short. Assumes nothing.
 use Prim.Native.Nat.{ℕ, _+_}
 use mathlib.Core.Bool.{Bool, true, false, _&&_, not}
 use mathlib.Core.List.{List}
@@ -19,12 +19,12 @@ use Rattle.crmf.specs.steps.grammar.Lines.{Line, start}
 use Rattle.crmf.specs.steps.rows.Fill.{filled}
 use Rattle.crmf.specs.steps.explain.Walk.{line, findLine, closed, judged, rowsBy}
 
--- whether an element of a whole length may stand in a line's form, in an edition: the form is this edition's, and no certReqId is too long
+-- whether an edition allows an element of a whole length in a line's form: the form is this edition's, and it is no certReqId that is too long
 abbrev pub mayStand : ℕ → Line → ℕ → Bool
 mayStand e x whole = readable (λ y. eqb y e) (x .mark) && not (longId (x .kind) whole)
 
--- The elements of a container from a line on, after n rows: the rows up to their end, where the elements are what the lines say. A free inside,
--- where no line starts, has no rows.
+-- The elements of a container from a line on, after n rows: how many rows there are up to their end, if the elements are what the lines say. A
+-- free inside has no rows.
 unfoldable pub counts : ℕ → ℕ → ℕ → Tree → Recognition
 counts e k n none = elim (closed k) [ true ↦ Rows n | false ↦ Unrecognised ]
 counts e k n (element id first whole c inside rest) =
@@ -43,14 +43,14 @@ counts e k n (element id first whole c inside rest) =
           ]
     ]
 
--- The same of octets at a place, where `left` levels of depth are left: octets that are no list of elements are not recognised.
+-- The same for octets at a place, with `left` levels of depth left. Octets that are no list of elements are not recognised.
 unfoldable pub countsAt : ℕ → ℕ → ℕ → ℕ → ℕ → List ℕ → Recognition
 countsAt e left k n p bs = elim (isList left bs) [ true ↦ counts e k n (tree p bs) | false ↦ Unrecognised ]
 
--- the rows of an input that is a batch of an edition, with no certReqId too long; any other input is not recognised
+-- how many rows an input has that is a batch of an edition, without a certReqId that is too long; any other input is not recognised
 unfoldable pub recognised : ℕ → List ℕ → Recognition
 recognised e s = countsAt e depth (start Top) 0 0 s
 
--- a table with the rows of such a batch written into it where it has room for them; it stays where it has none, and for any other input
+-- a table with the rows of such a batch written into it, if it has room for them; without room, and for any other input, it stays as it is
 unfoldable pub recognisedTable : ℕ → List ℕ → List ℕ → List ℕ
 recognisedTable e s old = elim (recognised e s) [ Rows n ↦ filled s n old | Unrecognised ↦ old ]

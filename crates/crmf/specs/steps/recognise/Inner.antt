@@ -20,8 +20,8 @@ use Rattle.crmf.specs.steps.grammar.Packed.{packed}
 use Rattle.crmf.specs.steps.explain.Walk.{line, judged}
 use Rattle.crmf.specs.steps.recognise.Count.{mayStand, countsAt}
 
--- The count over an element's content, after n rows: for an element of a whole length in the form of line k, by its identifier and its content
--- at a place.
+-- The count over an element's content, after n rows. The element has a whole length, an identifier and its content at a place, and is in the
+-- form of line k.
 unfoldable pub contentCount : (e k whole left n p id : ℕ) → List ℕ → Recognition
 contentCount e k whole left n p id c =
     elim (mayStand e (line k) whole) [
@@ -37,13 +37,13 @@ unfoldable pub ruledCount : (e k whole left n p id : ℕ) → List ℕ → Recog
 ruledCount e k whole left n p id c =
     elim (judged (line k .judge) (line k .next) c) [ Breaks d ↦ Unrecognised | To next ↦ contentCount e k whole left n p id c ]
 
--- an element's whole length, as far as a certReqId's is asked for: two octets stand before a content of 8 at most
+-- What matters of an element's whole length for a certReqId: there are two octets before a content of at most 8.
 pub record Sized (whole : ℕ) (c : List ℕ) : Type 0 where
   pub small : length c ≤ 8 → whole ≤ 10
   pub large : 8 < length c → 10 < whole
 
--- Why the recogniser may visit an element in the form of line k so: it isn't recognised, whatever was counted before it; its content is
--- recognised and has no rows; or its content is what the lines inside say.
+-- Why the recogniser may go on as it does at an element in the form of line k. Refuse: the element isn't recognised, whatever was counted
+-- before it. Skip: its content is recognised and has no rows. Descend: its content is what the lines inside say.
 abbrev pub VisitJustified : (e k whole left id : ℕ) → List ℕ → Visit → Type 0
 VisitJustified e k whole left id c Refuse = (n p : ℕ) → ruledCount e k whole left n p id c ≡ Unrecognised
 VisitJustified e k whole left id c (Skip next) =
@@ -52,24 +52,24 @@ VisitJustified e k whole left id c (Descend next) =
     (judged (line k .judge) (line k .next) c ≡ To next)
     × ((n p : ℕ) → contentCount e k whole left n p id c ≡ countsAt e left (line k .inside) n p c)
 
--- the octets are recognised from line k on in every edition, wherever at least `levels` levels of depth are left, and have no rows
+-- The octets are recognised from line k on in every edition if at least `levels` levels of depth are left, and have no rows.
 abbrev pub RowlessFrom : ℕ → ℕ → List ℕ → Type 0
 RowlessFrom k levels c = (e left n p : ℕ) → levels ≤ left → countsAt e left k n p c ≡ Rows n
 
--- the octets start with an element of an identifier, which has a span
+-- The octets start with an element that has an identifier and a span.
 pub record Leading (bytes : List ℕ) (id : ℕ) (x : Span) : Type 0 where
   pub measured : x ≡ spanOf bytes
   pub identified : getD bytes 0 0 ≡ id
   pub fits : (2 ≤ x .octets) × (x .octets + x .length ≤ length bytes)
 
--- the octets are exactly one element of an identifier, with its content from a place on
+-- The octets are exactly one element, which has an identifier and its content from a place on.
 pub record Sole (bytes : List ℕ) (id from : ℕ) : Type 0 where
   pub span : Span
   pub leads : Leading bytes id span
   pub starts : from ≡ span .octets
   pub ends : span .octets + span .length ≡ length bytes
 
--- what a count over octets requires: a number for each octet after the rows before them, and the table of lines
+-- What a count over octets requires: the rows before them and one for each octet stay within a bound, and the table of lines is right.
 pub record Countable (bytes : List ℕ) (before : ℕ) (table : List ℕ) : Type 0 where
   pub room : before + length bytes ≤ longest
   pub right : table ≡ packed
@@ -78,7 +78,7 @@ pub record Countable (bytes : List ℕ) (before : ℕ) (table : List ℕ) : Type
 abbrev pub decode : ℕ → Recognition
 decode r = elim (eqb r 0) [ true ↦ Unrecognised | false ↦ Rows (r - 1) ]
 
--- the number that holds the answer for the elements that octets are, from line k on
+-- The number that holds the answer for the elements that octets are, from line k on.
 pub record ListCounted (e left k before : ℕ) (bytes : List ℕ) (r : ℕ) : Type 0 where
   pub same : (p : ℕ) → decode r ≡ countsAt e left k before p bytes
   pub few : r ≤ suc (before + length bytes)
@@ -88,8 +88,7 @@ abbrev pub countAfter : (e left p : ℕ) → List ℕ → Advance → Recognitio
 countAfter e left p bytes (Past line at count) = countsAt e left line count (p + at) (drop at bytes)
 countAfter e left p bytes Stop = Unrecognised
 
--- The advance over the element at a place, from line k on: the count goes on with the same answer, further on, and with a number left for each
--- octet.
+-- The advance over the element at a place, from line k on: the count goes on further on, with the same answer, and within the same bound.
 pub record ElementCounted (e left k before at : ℕ) (bytes : List ℕ) (r : Advance) : Type 0 where
   pub same : (p : ℕ) → countsAt e left k before (p + at) (drop at bytes) ≡ countAfter e left p bytes r
   pub forward : (next end count : ℕ) → r ≡ Past next end count

@@ -1,4 +1,4 @@
--- The octets that pieces are together: how a batch is assembled from what its rows show. Assumes nothing.
+-- The octets that pieces are together: how a batch is assembled from what its rows show (SPECIFICATION 6). Assumes nothing.
 use Prim.Native.Nat.{ℕ, suc, _+_}
 use mathlib.Core.Bool.{Bool, true, false, _&&_}
 use mathlib.Core.List.{List, [], _∷_, _++_}
@@ -9,7 +9,7 @@ use Rattle.crmf.specs.meaning.Kinds as kinds
 use Rattle.crmf.specs.meaning.Rows.{container}
 use Rattle.crmf.specs.meaning.Pieces.{Piece}
 
--- the identifier of a container: "validity A4", "extensions A9", "signature A1", "keyEncipherment A2 or keyAgreement A3", and 30 of the others
+-- the identifier of a container: "validity A4", "extensions A9", "signature A1", "keyEncipherment A2 or keyAgreement A3", and 30 for all others
 unfoldable pub identifierOf : ℕ → ℕ
 identifierOf kind =
     elim (eqb kind kinds.validity) [
@@ -26,13 +26,13 @@ identifierOf kind =
 -- "its type is implied": the octets before the child of a carried certReq item
 unfoldable pub implied : ℕ → List ℕ
 implied kind =
-    elim (eqb kind kinds.carried) [
+    elim (eqb kind kinds.regInfoCertReq) [
       | true ↦ 0x06 ∷ 0x09 ∷ 0x2B ∷ 0x06 ∷ 0x01 ∷ 0x05 ∷ 0x05 ∷ 0x07 ∷ 0x05 ∷ 0x02 ∷ 0x02 ∷ []
       | false ↦ []
     ]
 
--- The octets that a piece adds where its children have so many together: a leaf's are its own; a container's are its identifier, the shortest
--- length and the implied type, and its children's stand behind them.
+-- The octets that a piece adds if its children have `inner` octets together. A leaf adds its own octets. A container adds its identifier, the
+-- shortest length and the implied type; its children's octets come after them.
 unfoldable pub own : Piece → ℕ → List ℕ
 own x inner =
     elim (container (x .kind)) [
@@ -40,7 +40,7 @@ own x inner =
       | false ↦ x .octets
     ]
 
--- its whole length
+-- the whole length of a piece, its children's octets included
 unfoldable pub wholeOf : Piece → ℕ → ℕ
 wholeOf x inner = length (own x inner) + elim (container (x .kind)) [ true ↦ inner | false ↦ 0 ]
 
@@ -50,12 +50,12 @@ childrenOf k n [] = 0
 childrenOf k n (x ∷ xs) =
     elim (eqb (x .parent) k) [ true ↦ wholeOf x (childrenOf n (suc n) xs) | false ↦ 0 ] + childrenOf k (suc n) xs
 
--- The octets of pieces, the first of them number n, one behind the other.
+-- The octets of pieces, the first of them number n, one after the other.
 unfoldable pub assembled : ℕ → List Piece → List ℕ
 assembled n [] = []
 assembled n (x ∷ xs) = own x (childrenOf n (suc n) xs) ++ assembled (suc n) xs
 
--- whether none of them is longer than a limit
+-- whether no piece is longer than a limit
 unfoldable pub noneLonger : ℕ → ℕ → List Piece → Bool
 noneLonger limit n [] = true
 noneLonger limit n (x ∷ xs) = leb (wholeOf x (childrenOf n (suc n) xs)) limit && noneLonger limit (suc n) xs

@@ -60,16 +60,16 @@ written old n limit rs = over old (width * n) (numbers (take (limit - n) rs))
 unfoldable pub fits : ℕ → List ℕ → Bool
 fits count old = leb (width * count) (length old)
 
--- the rows of a whole input, which is to be one batch; a longer input has none
+-- the rows of a whole input as one batch; an input that is too long has none
 unfoldable pub rowsOfInput : List ℕ → List Row
 rowsOfInput s = elim (leb (length s) longest) [ true ↦ rowsFrom (start Top) (tree 0 s) 0 0 0 0 | false ↦ [] ]
 
--- a table with the rows of an input written into it as far as their numbers are below a count; with no room for that many it stays
+-- a table with the rows of an input written into it, as far as their numbers are below a count; without room for the count it stays as it is
 unfoldable pub filled : List ℕ → ℕ → List ℕ → List ℕ
 filled s count old = elim (fits count old) [ true ↦ written old 0 count (rowsOfInput s) | false ↦ old ]
 
--- What the inner functions are lent: a part of an input, the number of the next row, no more than two for each place before it, the lines,
--- and a table with room up to the limit.
+-- What the inner functions are lent: a part of an input, the number of the next row, at most two for each byte before it, the lines, and a
+-- table with room up to the limit.
 pub record Room (bytes : List ℕ) (at end row limit : ℕ) (lines out : List ℕ) : Type 0 where
   pub short : length bytes ≤ longest
   pub order : at ≤ end
@@ -87,12 +87,12 @@ rowsAt bytes spot end around =
 abbrev pub rowOf : Entry → List Row
 rowOf new = rowIf (new .kind) (new .first) (new .whole) (new .parent)
 
--- Rows are written, and the next number is after theirs.
+-- Rows are written, and the number of the next row is the one after theirs.
 pub record Wrote (rs : List Row) (row limit : ℕ) (old : List ℕ) (next : ℕ) (new : List ℕ) : Type 0 where
   pub next-row : next ≡ row + length rs
   pub kept : new ≡ written old row limit rs
 
--- the rows of a list of elements
+-- The rows of a list of elements are written.
 pub record Listed (bytes : List ℕ) (spot : Spot) (bounds : Bounds) (around : Around) (old : List ℕ) (next : ℕ) (new : List ℕ) : Type 0 where
   pub wrote : Wrote (rowsAt bytes spot (bounds .end) around) (spot .row) (bounds .limit) old next new
   pub few : next ≤ 2 * bounds .end
@@ -105,7 +105,7 @@ ownRows x p w row around =
 abbrev pub rowAbove : Line → ℕ → ℕ → ℕ
 rowAbove x row up = parentIf (x .kind) (row + rowsGiven (x .item)) (parentIf (x .item) row up)
 
--- what is around the rows inside an element in a line's form
+-- what surrounds the rows inside an element in a line's form
 abbrev pub aroundInside : Line → Fit → Numbers → Around
 aroundInside x fit n = record { up = rowAbove x (n .row) (n .up); place = fit .first; whole = fit .end - fit .first }
 
@@ -114,6 +114,7 @@ abbrev pub innerRows : ℕ → List ℕ → ℕ → ℕ → ℕ → Around → L
 innerRows k bytes at end row around =
     elim (eqb (line k .inside) 0) [ true ↦ [] | false ↦ rowsAt bytes (record { state = line k .inside; at = at; row = row }) end around ]
 
+-- The rows inside an element in a line's form are written.
 abbrev pub Inner : ℕ → List ℕ → Fit → Numbers → ℕ → List ℕ → ℕ → List ℕ → Type 0
 Inner k bytes fit n limit old next new =
     Wrote (innerRows k bytes (fit .content) (fit .end) (n .next) (aroundInside (line k) fit n)) (n .next) limit old next new
@@ -127,7 +128,7 @@ pub record Going (bytes : List ℕ) (spot : Spot) (bounds : Bounds) (around : Ar
   pub within : r .at ≤ bounds .end
   pub few : r .row ≤ 2 * r .at
 
--- the rows of one element
+-- The rows of one element are written.
 pub record Shown (bytes : List ℕ) (spot : Spot) (bounds : Bounds) (around : Around) (old : List ℕ) (r : Spot) (new : List ℕ) : Type 0 where
   pub going : Going bytes spot bounds around old r new
   pub forward : spot .at < r .at

@@ -1,5 +1,5 @@
--- `der::content::are_subidentifiers` meets its contract: the rule for the octets that are left, after the octet before
--- them, answers as that for the whole content. The measure is how many are left. Assumes nothing.
+-- `der::content::are_subidentifiers` meets its contract: the rule for the octets that are left, given the octet before them, answers as that for
+-- the whole content. The measure is how many are left. Assumes nothing.
 use Prim.Native.Nat.{ℕ, _+_, _-_, _≤_, _<_}
 use mathlib.Core.Bool.{Bool, true, false, _&&_}
 use mathlib.Core.List.{List, [], _∷_}

@@ -1,5 +1,5 @@
 -- `der::content::bit_string` meets its contract: the octet at the last place is the definition's last, and has the
--- trailing zero bits exactly where the power of two divides it. Assumes nothing.
+-- trailing zero bits exactly if the power of two divides it. Assumes nothing.
 use Prim.Native.Nat.{ℕ, _-_, _<_}
 use mathlib.Core.Bool.{Bool, true, false, _&&_}
 use mathlib.Core.List.{List, [], _∷_}
@@ -18,10 +18,10 @@ use Rattle.der.proofs.theorems.content.TrailingZeros.{divides}
 use Rattle.der.proofs.content.bit_string.Statement.{statement}
 use Rattle.der.proofs.content.bit_string.Tie as tie
 
--- two tests that are equal where a third passes are equal after it
-behind : (t a b : Bool) → (t ≡ true → a ≡ b) → t && a ≡ t && b
-behind true a b h = h refl
-behind false a b h = refl
+-- two tests that are equal if a third passes are equal after it
+after-test : (t a b : Bool) → (t ≡ true → a ≡ b) → t && a ≡ t && b
+after-test true a b h = h refl
+after-test false a b h = refl
 
 long : (xs : List ℕ) → Octets xs → 1 < length xs
     → leb (getD xs 0 0) 7 && leb (getD xs 0 0) (trailingZeros 8 (getD xs (length xs - 1) 0)) ≡ bitString xs
@@ -29,7 +29,7 @@ unfolding bitString lastOf Octets
 long [] o h = absurd (omega arith)
 long (u ∷ []) o h = absurd (omega arith)
 long (u ∷ b ∷ bs) o h =
-    rw (last 0 (u ∷ b ∷ bs) (omega arith)) (behind (leb u 7) _ _ (λ t. divides u _ (omega (arith, leb-true u 7 t)) (o (length (u ∷ b ∷ bs) - 1))))
+    rw (last 0 (u ∷ b ∷ bs) (omega arith)) (after-test (leb u 7) _ _ (λ t. divides u _ (omega (arith, leb-true u 7 t)) (o (length (u ∷ b ∷ bs) - 1))))
 
 returns : tie.Need-returns
 unfolding bitString

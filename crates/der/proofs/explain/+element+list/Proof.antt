@@ -1,6 +1,6 @@
--- `der::explain::element` and `der::explain::list` meet their contracts, by one induction: a call of the one by the other lowers twice the sum of
--- the octets and the levels left, of which a list has one more. The header picks the element's case; the list's loop keeps the answer
--- from `at` on the whole list's. Assumes nothing.
+-- `der::explain::element` and `der::explain::list` meet their contracts, by one induction. The measure is twice the sum of the octets and the levels
+-- left, and one more for a list: each call of the one by the other lowers it. The header picks the element's case. The list's loop keeps
+-- this invariant: the answer from `at` on is the whole list's. Assumes nothing.
 use Prim.Native.Nat.{ℕ, _+_, _-_, _*_, _≤_, _<_}
 use mathlib.Core.Path.{_≡_, sym, ap, _∙_}
 use native.Mathlib.Nat.{add-zero}
@@ -44,7 +44,7 @@ list-Inv-loop bytes place left at₀ at =
 abbrev list-μ-loop : list-lts.MeasureT-loop
 list-μ-loop bytes place left at₀ at = length bytes - at
 
--- With the measure t: what holds before a call of that measure, and before one of a lower.
+-- With the measure t: what holds before a call of that measure, and before one of a lower measure.
 module _ (t : ℕ) where
   abbrev element-at : In 1 element-kinds.ps
   element-at = and 1 element-kinds.ps (is 1 element-kinds.ps μ-element t) element.Pre
@@ -73,7 +73,7 @@ module _ (t : ℕ) where
     primitive-reads.Learnt,
   )
 
-  -- what `list` knows of the one that it calls
+  -- what `list` knows of the function that it calls
   abbrev list-calls : list-lts.Claims
   list-calls = (element-below, element.Post)
 

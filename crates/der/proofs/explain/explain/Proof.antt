@@ -1,4 +1,4 @@
--- `der::explain::explain` meets its contract: the part that is lent is the octets from the one place to the other. Assumes nothing.
+-- `der::explain::explain` meets its contract: the part that is lent is the octets from one place to the other. Assumes nothing.
 use borrow.Author.Needs.{needs}
 use mathlib.Core.Path.{sym, ap, _∙_}
 use native.Mathlib.Omega.{arith}

@@ -1,5 +1,6 @@
--- `der::recognise::is_list` and `der::recognise::is_element` meet their contracts, by one induction: a call of the one by the other lowers twice the count of
--- the octets, of which an element's content has one more. The list's loop keeps the answer from `at` on the whole list's. Assumes nothing.
+-- `der::recognise::is_list` and `der::recognise::is_element` meet their contracts, by one induction. The measure is twice the count of the octets, and
+-- one more for an element: each call of the one by the other lowers it. The list's loop keeps this invariant: the answer from `at` on is the
+-- whole list's. Assumes nothing.
 use Prim.Native.Nat.{ℕ, _+_, _-_, _*_, _≤_, _<_}
 use mathlib.Core.Path.{_≡_, refl, sym, ap, _∙_}
 use mathlib.Core.Bool.{Bool, true, false, _&&_}
@@ -42,7 +43,7 @@ is-list-Inv-loop bytes left at₀ at = (at ≤ length bytes) × (isList left (dr
 abbrev is-list-μ-loop : is-list-lts.MeasureT-loop
 is-list-μ-loop bytes left at₀ at = length bytes - at
 
--- With the measure t: what holds before a call of that measure, and before one of a lower.
+-- With the measure t: what holds before a call of that measure, and before one of a lower measure.
 module _ (t : ℕ) where
   abbrev is-list-at : In 1 is-list-kinds.ps
   is-list-at = and 1 is-list-kinds.ps (is 1 is-list-kinds.ps μ-is-list t) is-list.Pre
@@ -60,7 +61,7 @@ module _ (t : ℕ) where
   abbrev is-list-calls : is-list-lts.Claims
   is-list-calls = (measure-reads.Asked, measure-reads.Learnt, is-element-below, is-element.Post)
 
-  -- what `is_element` knows of those that it calls
+  -- what `is_element` knows of the functions that it calls
   abbrev is-element-calls : is-element-lts.Claims
   is-element-calls = (
     is-allowed-reads.Asked,
@@ -102,11 +103,11 @@ module _ (t : ℕ) where
     abbrev octets : List ℕ
     octets = start .args .bytes .now
 
-    -- an octet stands there
+    -- there is an octet at `at`
     inside : at < length octets
     inside = d .before .before .loop-test .taken
 
-    -- the answer from there on is the whole list's
+    -- the answer from `at` on is the whole list's too
     kept : isList (start .args .left) (drop at octets) ≡ isList (start .args .left) octets
     kept = d .before .before .before .loop .inv .1
 
@@ -174,7 +175,7 @@ module _ (t : ℕ) where
       let part = length-part (octets d) from (from + d .measure .result .length - from) (omega (arith, within e)) in
       (omega (arith, start d .pre .0, part, within e), tt)
 
-  -- what `is_element` says decides
+  -- the answer of `is_element` decides
   decided : (c : is-list-lts.After-is-element is-list-calls is-list-at is-list.Post is-list-Inv-loop is-list-μ-loop) → let e = c .before .before .before .before .before in
       let d = found e in
       (b : Bool) → c .is-element .result ≡ b
@@ -216,7 +217,7 @@ module _ (t : ℕ) where
   is-element-is-list-requires : is-element-lts.Need-is-list-requires is-element-calls is-element-at is-element.Post
   is-element-is-list-requires c κs = (omega (arith, c .before .before .before .before .before .pre .0), tt)
 
-  -- past the first test the identifier is allowed
+  -- after the first test the identifier is allowed
   known : (c : is-element-lts.Else1 is-element-calls is-element-at is-element.Post) → allowed (c .before .before .before .args .id) ≡ true
   known c = sym (c .before .is-allowed .ensures) ∙ not-false _ (c .if1 .left)
 

@@ -59,7 +59,7 @@ unfolding objectIdentifier lastOf
 identifier-without-80 [] some other = absurd (omega arith)
 identifier-without-80 (b ∷ bs) some other = rw (unpadded-without-80 0 (b ∷ bs) other, ← last 0 (b ∷ bs) some) refl
 
--- an INTEGER has an octet at least
+-- an INTEGER has at least one octet
 pub integer-some : (content : List ℕ) → T (integer content) → 1 ≤ length content
 unfolding integer
 integer-some [] t = absurd t

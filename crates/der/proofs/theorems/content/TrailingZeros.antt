@@ -1,4 +1,4 @@
--- An octet has at least u trailing zero bits exactly where 2 ^ u divides it: computed at every u below 8 and every octet. Assumes nothing.
+-- An octet has at least u trailing zero bits exactly if 2 ^ u divides it: computed at every u below 8 and every octet. Assumes nothing.
 use Prim.Native.Nat.{ℕ, _%_, _^_, _<_}
 use mathlib.Core.Bool.{Bool, true, Bool·beq}
 use mathlib.Core.Path.{_≡_, refl}
@@ -15,7 +15,7 @@ all-right : every 8 (λ u. every 256 (right u)) ≡ true
 unfolding right trailingZeros
 all-right = refl
 
--- as many trailing zero bits as u, exactly where 2 ^ u divides
+-- as many trailing zero bits as u, exactly if 2 ^ u divides
 pub divides : (u b : ℕ) → u < 8 → b < 256 → leb u (trailingZeros 8 b) ≡ eqb (b % 2 ^ u) 0
 unfolding right
 divides u b hu hb = same _ _ (each 256 (right u) (each 8 (λ u. every 256 (right u)) all-right u hu) b hb)

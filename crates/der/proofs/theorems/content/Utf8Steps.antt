@@ -1,6 +1,6 @@
 -- One step of the check by classes, at an octet of a known class: after a lead and after a tail the check goes on, and at any other
--- octet it fails. The class of an octet looked up in a table, with the table itself tested by computing. And octets below 80, of which
--- eight are tested at once. Assumes nothing.
+-- octet it fails. Then the class of an octet that is looked up in a table; the table itself is tested by computing. Then octets below 80,
+-- which are tested eight at once. Assumes nothing.
 use Prim.Native.Nat.{ℕ, zero, suc, _+_, _≤_, _<_}
 use mathlib.Core.Bool.{Bool, true, false, and-eq-true-iff}
 use mathlib.Core.List.{List, [], _∷_}
@@ -25,7 +25,7 @@ inside {lo} {hi} {b} e =
     let p = and-eq-true-iff (leb lo b) (leb b hi) .0 e in
     (leb-true lo b (p .0), leb-true b hi (p .1))
 
--- what does not lie in a range fails its test
+-- a number outside a range fails its test
 outside : (lo hi b : ℕ) → (InRange lo hi b → ⊥) → inRange lo hi b ≡ false
 outside lo hi b h = go (inRange lo hi b) refl
   where
@@ -66,7 +66,7 @@ pub turn : (s table : List ℕ) (i left low high : ℕ) (r : OctetStep) → Clas
     → afterStep r (drop (i + 1) s) ≡ utf8From left low high (drop i s)
 turn s table i left low high r t h o f = rw (add-one, drop-cons s i 0) (f (getD s i 0) (drop (suc i) s) (sym (t .entry (getD s i 0) o)))
 
--- a table is one of the classes if it is so at every octet, which is computed
+-- a table has the classes if it has every octet's, which is computed
 pub classes-right : (table : List ℕ) → every 256 (λ b. eqb (getD table b 0) (classOf b)) ≡ true → Classes table
 classes-right table e = record { entry = λ b h. eqb-true (getD table b 0) (classOf b) (each 256 (λ k. eqb (getD table k 0) (classOf k)) e b h) }
 
@@ -96,7 +96,7 @@ eight-below s i m h =
     below-more P 7 (below-more P 6 (below-more P 5 (below-more P 4 (below-more P 3 (below-more P 2 (below-more P 1 (below-more P 0 (below-none P)
     (rw (add-zero i) (front .0))) (front .1)) (front .2)) (front .3)) (back .0)) (back .1)) (back .2)) (back .3)
 
--- where a character begins, any range of tails will do
+-- at the start of a character the range of tails makes no difference
 any-range : (low high : ℕ) (bs : List ℕ) → utf8From 0 low high bs ≡ utf8From 0 1 3 bs
 unfolding utf8From
 any-range low high [] = refl

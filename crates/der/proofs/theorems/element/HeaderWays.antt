@@ -1,5 +1,5 @@
--- Why no element stands, a law for each way of telling it by the octets that the code looks at. In the long form these are the first two
--- length octets: they decide the form, and a form that is right gives a content that runs past the end. Assumes nothing.
+-- Why there is no element: a law for each case of the code, by the octets that it looks at. In the long form these are the first two length
+-- octets: they decide the form, and a form that is right gives a content that runs past the end. Assumes nothing.
 use Prim.Native.Nat.{ℕ, zero, suc, _+_, _-_, _≤_, _<_}
 use mathlib.Core.Path.{_≡_, refl, sym, ap, _∙_}
 use mathlib.Core.Bool.{Bool, true, false, _&&_, _||_, false≢true}
@@ -68,7 +68,7 @@ asks-some c octet long t = go (eqb c 0x80) refl
 abbrev pub Longer : ℕ → ℕ → Bool
 Longer k b = eqb b 0 || (eqb k 1 && ltb b 0x80)
 
--- it passes where the form is not the shortest
+-- it passes if the form is not the shortest
 longer-form : (k : ℕ) (bs : List ℕ) → 1 ≤ k → k ≤ length bs → Longer k (getD bs 0 0) ≡ true → shortest (take k bs) ≡ false
 unfolding shortest
 longer-form zero bs some fits t = absurd (omega arith)
@@ -85,7 +85,7 @@ longer-form (suc (suc j)) (b ∷ c ∷ bs) some fits t = le-ltb 0 b (zeroed (eqb
     zeroed true e = omega (arith, eqb-true b 0 e)
     zeroed false e = absurd (false≢true (rw (e, ne-eqb (suc (suc j)) 1 (λ z. omega arith)) at t))
 
--- and fails where it is
+-- and fails if it is
 shortest-form : (k : ℕ) (bs : List ℕ) → 1 ≤ k → k ≤ length bs → Longer k (getD bs 0 0) ≡ false → shortest (take k bs) ≡ true
 unfolding shortest
 shortest-form zero bs some fits t = absurd (omega arith)
@@ -148,7 +148,7 @@ module _ (bs : List ℕ) (k : ℕ) (some : 2 ≤ length bs) (known : allowed (ge
   way-longer fits test =
       by-form (long-wrong k (drop 2 bs) (range .0) (range .1) (omega (arith, length-drop 2 bs)) (ap (Longer k) (getD-drop 2 bs 0 0) ∙ test))
 
-  -- the shortest form: since no element stands, it runs past the end
+  -- the shortest form: since there is no element, it runs past the end
   pub way-past : k ≤ length bs - 2 → Longer k (getD bs 2 0) ≡ false → PastEnd ≡ causeOf bs
   unfolding causeBy
   way-past fits test =

@@ -29,7 +29,7 @@ pub passed : (t : Bool) → T t → t ≡ true
 passed true h = refl
 passed false h = absurd h
 
--- What a header's answer says: its parts where it stands, and which rule the element breaks where it does not.
+-- What the answer on a header says: its parts if there is one, and the rule that the element breaks if there is none.
 abbrev Told : List ℕ → Head → Type 0
 Told bs (Stands id h n) = Headed bs id h n
 Told bs (Broken c) = Breaks bs (causeNumber c) (causeDetail c)
@@ -60,7 +60,7 @@ head-parts bs e = rw e at (told bs)
 pub headed-stands : {bs : List ℕ} {id h n : ℕ} → Headed bs id h n → headOf bs ≡ Stands id h n
 headed-stands {bs} {id} {h} {n} x = rw (x .split, x .sized) (head-stands id (x .after) (x .known) (x .measured) (x .fits))
 
--- The code's header stands exactly where the octets begin with one.
+-- The code finds a header exactly if the octets begin with one.
 pub head-exact : (bs : List ℕ) (id h n : ℕ) → headOf bs ≡ Stands id h n ↔ Headed bs id h n
 head-exact bs id h n = (head-parts bs, headed-stands)
 
@@ -68,13 +68,13 @@ head-exact bs id h n = (head-parts bs, headed-stands)
 pub head-breaks : (bs : List ℕ) {c : Cause} → headOf bs ≡ Broken c → Breaks bs (causeNumber c) (causeDetail c)
 head-breaks bs e = rw e at (told bs)
 
--- a header has two octets at least, and it and the content that it gives fit
+-- a header has at least two octets, and it and the content that it gives fit
 pub head-fits : (bs : List ℕ) (id h n : ℕ) → headOf bs ≡ Stands id h n → (2 ≤ h) × (h + n ≤ length bs)
 head-fits bs id h n e =
     let x = head-parts bs e in
     omega (arith, length-counted (x .after) (x .count) n (x .measured), x .sized, x .fits, ap length (x .split))
 
--- the header of an encoding is read back, whatever stands after the element
+-- the header of an encoding is read back, whatever comes after the element
 pub head-encoded : (id : ℕ) (c more : List ℕ) → T (allowed id) → length c ≤ longest → headOf ((header id c ++ c) ++ more) ≡ Stands id (length (header id c)) (length c)
 unfolding header
 head-encoded id c more known high =
@@ -97,7 +97,7 @@ head-octets (b ∷ bs) id h n o high e =
     let c : List ℕ = take n (drop k bs) in
     let long : length c ≡ n = length-part bs k n f in
     let more : List ℕ = drop (suc k + n) (b ∷ bs) in
-    let behind : more ≡ drop n (drop k bs) = sym (drop-drop n (suc k) (b ∷ bs)) in
-    let whole : (take k bs ++ c) ++ more ≡ bs = rw (append-assoc (take k bs) c more, behind, take-append-drop n (drop k bs)) (take-append-drop k bs) in
+    let after : more ≡ drop n (drop k bs) = sym (drop-drop n (suc k) (b ∷ bs)) in
+    let whole : (take k bs ++ c) ++ more ≡ bs = rw (append-assoc (take k bs) c more, after, take-append-drop n (drop k bs)) (take-append-drop k bs) in
     let own : lengthOctets (length c) ≡ take k bs = rw long (sym (s .taken)) in
     rw (x .sized) (rw (x .known) tt, rw (long, s .counted), rw own (ap₂ (λ i l. i ∷ l) (sym first) (sym whole)))

@@ -1,5 +1,4 @@
--- What an identifier octet says, for those who know the octet: bit 6, and whether it is allowed, as a test that tables of identifiers can
--- compute. Assumes nothing.
+-- What a known identifier octet says: bit 6, and whether it is allowed, as a test that tables of identifiers can compute. Assumes nothing.
 use Prim.Native.Nat.{ℕ, _/_, _%_}
 use mathlib.Core.Bool.{Bool, true, false, not, _&&_, _||_, and-eq-true-iff, false≢true}
 use mathlib.Core.Path.{_≡_, refl, _∙_}
@@ -13,7 +12,7 @@ pub constructed-octet : (id : ℕ) → constructed id ≡ eqb (id / 32 % 2) 1
 unfolding constructed
 constructed-octet id = refl
 
--- where it is set, the content is one
+-- if it is set, the content is a list of elements
 pub constructed-bit : (id : ℕ) → id / 32 % 2 ≡ 1 → constructed id ≡ true
 constructed-bit id bit = constructed-octet id ∙ eq-eqb (id / 32 % 2) 1 bit
 
@@ -21,7 +20,7 @@ constructed-bit id bit = constructed-octet id ∙ eq-eqb (id / 32 % 2) 1 bit
 pub sequence-constructed : constructed 0x30 ≡ true
 sequence-constructed = constructed-bit 0x30 refl
 
--- an INTEGER is not
+-- an INTEGER is primitive
 pub integer-primitive : constructed 0x02 ≡ false
 integer-primitive = constructed-octet 0x02
 

@@ -40,7 +40,7 @@ pub shortest-small : (n : ℕ) → n < 128 → lengthOctets n ≡ n ∷ []
 unfolding lengthOctets
 shortest-small n h = rw (lengthOctets, lt-ltb n 128 h)
 
--- the shortest length octets where the octets to the base 256 are known
+-- the shortest length octets if the octets to the base 256 are known
 long-octets : (n : ℕ) (bs : List ℕ) → 128 ≤ n → base256 n n ≡ bs → lengthOctets n ≡ (0x80 + length bs) ∷ bs
 unfolding lengthOctets
 long-octets n bs h e = rw (lengthOctets, le-ltb n 128 h, e)
@@ -124,7 +124,7 @@ form-read more (two {n} low high) =
     let v : (0 * 256 + n / 256) * 256 + n % 256 ≡ n = omega arith in
     rw (longForm, le-leb 2 (suc (suc (length more))) (omega arith), lt-ltb 0 (n / 256) (omega arith), v)
 
--- the shortest length octets are read back, whatever stands after them
+-- the shortest length octets are read back, whatever comes after them
 pub length-encoded : (n : ℕ) (more : List ℕ) → n ≤ 65535 → lengthOf (lengthOctets n ++ more) ≡ octets (length (lengthOctets n)) n
 length-encoded n more high = form-read more (form n high)
 
@@ -136,7 +136,7 @@ never-missing e = let z : _≡_ {A = ℕ} 0 1 = cc in absurd (omega arith)
 never-wrong : {A : Type 0} {m n : ℕ} → wrong ≡ octets m n → A
 never-wrong e = let z : _≡_ {A = ℕ} 0 1 = cc in absurd (omega arith)
 
--- What a long form of k octets after the first says where it is read as m octets in all that give n.
+-- What a long form of k octets after the first says if it is read as m octets in all that give n.
 pub record Long (k : ℕ) (bs : List ℕ) (m n : ℕ) : Type 0 where
   pub fits : k ≤ length bs
   pub brief : shortest (take k bs) ≡ true

@@ -1,4 +1,4 @@
--- An element's length octets by themselves, a law for each way of judging them by the octets that the code looks at. Assumes nothing.
+-- An element's length octets by themselves: a law for each case of the code, by the octets that it looks at. Assumes nothing.
 use Prim.Native.Nat.{ℕ, zero, suc, _+_, _-_, _*_, _≤_, _<_}
 use mathlib.Core.Path.{_≡_, refl, sym, ap, _∙_}
 use mathlib.Core.Bool.{Bool, true, false, _&&_, not, false≢true, and-eq-true-iff}
@@ -11,7 +11,7 @@ use Rattle.der.specs.meaning.Length.{Length, missing, wrong, octets, val
 use Rattle.der.specs.steps.Span.{noSpan, fitted, spanBy, spanOf}
 use Rattle.der.proofs.theorems.element.Length.{Long, long-read}
 
--- a length that is read in more octets, or does not fit, is none
+-- a length in more than three octets, or one that does not fit, gives no span
 pub span-unfit : (room k n : ℕ) → (k ≤ 3 → k + n ≤ room → ⊥) → noSpan ≡ spanBy room (octets k n)
 unfolding spanBy
 span-unfit room k n off = go (leb k 3) (leb (k + n) room) refl refl
@@ -21,12 +21,12 @@ span-unfit room k n off = go (leb k 3) (leb (k + n) room) refl refl
     go true false d e = simp (spanBy, d, e)
     go false t d e = simp (spanBy, d)
 
--- a length that is read in three octets or fewer and fits is there
+-- a length in three octets or fewer that fits gives a span
 pub span-there : (room k n : ℕ) → k ≤ 3 → k + n ≤ room → spanBy room (octets k n) ≡ record { octets = suc k; length = n }
 unfolding spanBy
 span-there room k n few fits = simp (spanBy, le-leb k 3 few, le-leb (k + n) room fits)
 
--- so it is there where it fits
+-- so with three octets or fewer it only has to fit
 span-sized : (room k n : ℕ) → k ≤ 3 → fitted (suc room) (suc k) n ≡ spanBy room (octets k n)
 span-sized room k n few = go (leb (k + n) room) refl
   where
@@ -38,7 +38,7 @@ span-sized room k n few = go (leb (k + n) room) refl
         let far : suc room < suc k + n = omega (arith, leb-false (k + n) room e) in
         rw (fitted, lt-leb (suc k + n) (suc room) far) (span-unfit room k n (λ _ fits. omega arith))
 
--- a long form whose length is none wherever one is read
+-- a long form whose length, if one is read, gives no span
 long-none : (j : ℕ) (bs : List ℕ) → ((m n : ℕ) → Long j bs m n → m ≤ 3 → m + n ≤ suc (length bs) → ⊥)
     → noSpan ≡ spanBy (suc (length bs)) (longForm j bs)
 unfolding spanBy

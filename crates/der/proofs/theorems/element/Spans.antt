@@ -39,7 +39,7 @@ span-by : (id : ℕ) (bs : List ℕ) {l : Length} → lengthOf bs ≡ l → span
 unfolding spanOf
 span-by id bs e = ap (spanBy (length bs)) e
 
--- where there is a span it says so
+-- every span says this
 spanned : (id : ℕ) (bs : List ℕ) → (spanOf (id ∷ bs) .octets ≡ 0 → ⊥) → Spanned id bs
 unfolding spanBy
 spanned id bs some = go (lengthOf bs) refl
@@ -66,7 +66,7 @@ span-empty : spanOf [] .octets ≡ 0
 unfolding spanOf
 span-empty = refl
 
--- a span has two octets at least, and it and its content fit
+-- a span has at least two octets, and it and its content fit
 pub span-fits : (bs : List ℕ) → (spanOf bs .octets ≡ 0 → ⊥) → (2 ≤ spanOf bs .octets) × (spanOf bs .octets + spanOf bs .length ≤ length bs)
 span-fits [] some = absurd (some span-empty)
 span-fits (id ∷ bs) some =
@@ -113,7 +113,7 @@ length-large (c ∷ bs) k n e many = go (ltb c 0x80) refl
         let size = length-take-le (c - 0x80) bs (l .fits) in
         omega (arith, l .valued, value-large (take (c - 0x80) bs) (omega (arith, l .counted)) (l .brief))
 
--- Behind an identifier that is allowed a span is the header.
+-- With an identifier that is allowed, a span is the header.
 pub span-stands : (bs : List ℕ) → (spanOf bs .octets ≡ 0 → ⊥) → allowed (getD bs 0 0) ≡ true
     → headOf bs ≡ Stands (getD bs 0 0) (spanOf bs .octets) (spanOf bs .length)
 span-stands [] some known = absurd (some span-empty)
@@ -132,7 +132,7 @@ unfolding causeOf
 refused-cause [] some e = absurd (omega arith)
 refused-cause (id ∷ bs) some e = rw (causeOf, e)
 
--- the cause where the identifier is allowed, by the length octets
+-- the cause if the identifier is allowed, by the length octets
 pub sized-cause : (id : ℕ) (bs : List ℕ) {l : Length} → allowed id ≡ true → lengthOf bs ≡ l → causeBy l ≡ causeOf (id ∷ bs)
 unfolding causeOf
 sized-cause id bs e f = rw (causeOf, e, f)
@@ -171,6 +171,6 @@ span-tree p bs short some known =
     let stop : p + h + n - p ≡ h + n = omega arith in
     let same : p + h + n ≡ p + (h + n) = omega arith in
     let content : slice (x .content - p) (x .end - p) bs ≡ slice h (h + n) bs = rw (start, stop) in
-    let behind : drop (x .end - p) bs ≡ drop (h + n) bs = rw stop in
+    let after : drop (x .end - p) bs ≡ drop (h + n) bs = rw stop in
     rw (stop, same) at
-    (tree-parts p bs (slice h (h + n) bs) (drop (h + n) bs) x (omega (arith, span-fits bs some)) (read-stands p bs id h n (span-stands bs some known)) content behind)
+    (tree-parts p bs (slice h (h + n) bs) (drop (h + n) bs) x (omega (arith, span-fits bs some)) (read-stands p bs id h n (span-stands bs some known)) content after)

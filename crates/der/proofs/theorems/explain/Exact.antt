@@ -34,7 +34,7 @@ pub joined : Tree → Tree → Tree
 joined none u = u
 joined (element id first whole content inside rest) u = element id first whole content inside (joined rest u)
 
--- their encodings stand one after the other
+-- the encoding is that of the one and then that of the other
 pub joined-encode : (t u : Tree) → encode (joined t u) ≡ encode t ++ encode u
 unfolding joined encode
 joined-encode none u = refl
@@ -72,17 +72,17 @@ sound-next : (left p q e : ℕ) (bs : List ℕ) → Sound left p e bs → ListSo
 sound-next left p q e bs first rest =
     let t = first .tree in
     let u = rest .tree in
-    let behind : drop (e - p) (encode t ++ first .more) ≡ first .more = drop-at (encode t) (first .more) (e - p) (omega (arith, first .ends)) in
+    let after : drop (e - p) (encode t ++ first .more) ≡ first .more = drop-at (encode t) (first .more) (e - p) (omega (arith, first .ends)) in
     let size = ap length (first .split) ∙ length-append (encode t) (first .more) in
     record {
       tree = joined t u;
       formed = joined-formed left p t u (first .formed) (subst (λ (x : ℕ). WellFormed left x u) (first .ends) (rest .formed));
-      whole = cc (joined-encode t u, behind, first .split, rest .whole, ap (drop (e - p)) (first .split));
+      whole = cc (joined-encode t u, after, first .split, rest .whole, ap (drop (e - p)) (first .split));
       ends = omega (arith, first .ends, rest .ends, length-drop (e - p) bs);
     }
 
--- Where what an element's end gives is known, with the levels of depth that are left, so is what a list's end gives, and an element's with
--- one more level.
+-- If it is known what an element's end gives, with the levels of depth that are left, so is what a list's end gives, and an element's with one
+-- more level.
 module _ (left : ℕ)
     (each : (p q : ℕ) (bs : List ℕ) → Octets bs → length bs ≤ longest → elementOf left p bs ≡ End q → Sound left p q bs) where
   -- a list that ends
@@ -204,16 +204,16 @@ list-over left none more n p formed short enough = rw add-zero
 list-over zero (element id first whole c inside rest) more n p formed short enough = absurd formed
 list-over (suc left) (element id first whole c inside rest) more n p formed short enough =
     let a = header id c ++ c in
-    let behind = encode rest ++ more in
+    let after = encode rest ++ more in
     let apart = append-assoc a (encode rest) more in
-    let total = ap length apart ∙ length-append a behind in
-    let size = length-append a behind in
+    let total = ap length apart ∙ length-append a after in
+    let size = length-append a after in
     let sized = length-append (header id c) c in
     let place : p + length (a ++ encode rest) ≡ p + length a + length (encode rest) = omega (arith, length-append a (encode rest)) in
-    let past : drop (p + length a - p) (a ++ behind) ≡ behind = drop-at a behind (p + length a - p) (omega arith) in
-    let ends = complete-element left p id first whole c behind inside (formed .0) (omega arith) (list-over left inside []) in
+    let past : drop (p + length a - p) (a ++ after) ≡ after = drop-at a after (p + length a - p) (omega arith) in
+    let ends = complete-element left p id first whole c after inside (formed .0) (omega arith) (list-over left inside []) in
     rw (apart, place)
-    (elements-next (suc left) n p (a ++ behind) (omega arith) (p + length a) (omega (arith, some-octets id c)) ends
+    (elements-next (suc left) n p (a ++ after) (omega arith) (p + length a) (omega (arith, some-octets id c)) ends
     ∙ rw past (list-over (suc left) rest more n (p + length a) (rw (formed .0 .sized) at (formed .1)) (omega arith) (omega arith)))
 
 -- Completeness: the encoding of a well-formed tree of a single element, with any octets after it, is an element that ends with the encoding.

@@ -1,5 +1,5 @@
--- The walk as the code takes it: what an inner function may lend on, an element by its header, and a list's loop, of which a law says each
--- way on from `at`. The octets that are lent on stand as the code writes them. Assumes nothing.
+-- The walk as the code takes it: what an inner function may lend on, an element by its header, and a list's loop with a law for each way on
+-- from `at`. The octets that are lent on are written as in the code. Assumes nothing.
 use Prim.Native.Nat.{ℕ, suc, _+_, _-_, _≤_, _<_}
 use mathlib.Core.Path.{_≡_, refl, sym, ap, ap₂, _∙_}
 use mathlib.Core.Bool.{true, false}

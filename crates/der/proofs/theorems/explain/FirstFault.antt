@@ -1,4 +1,4 @@
--- The walk answers a fault exactly where it is true and the first in the order of judging: by induction on the levels of depth, and along a
+-- The walk answers a fault exactly if it is true and the first in the order of judging: by induction on the levels of depth, and along a
 -- list by its elements, each of which is sound or stops the walk. Assumes nothing.
 use Prim.Native.Nat.{ℕ, zero, suc, _+_, _-_, _≤_, _<_, max}
 use mathlib.Core.Path.{_≡_, refl, sym, ap, _∙_}
@@ -56,8 +56,8 @@ own-found left p (Breaks.content {bs} id h n e u v) =
     let c = take n (drop h bs) in
     element-value left p bs (headed-stands e) u ∙ value-unkept p (p + h + n) id c (unkept id c .1 v)
 
--- So what relates the answers that are faults to them, and the answers for an element's inside to the faults inside, relates the element's
--- answer to its faults.
+-- So a relation that holds between a fault and the answer that it is, and between the faults inside an element and the answers for its
+-- inside, holds between the element's faults and its answer.
 pub related : (left p : ℕ) (Inside : Faults) (R : Nest → ℕ → ℕ → ℕ → Type 0) (bs : List ℕ) {number at detail : ℕ}
     → ((n a d : ℕ) → R (Fault n a d) n a d)
     → ((h n : ℕ) → Inside (p + h) (take n (drop h bs)) number at detail → R (listOf (elementOf left) n (p + h) (take n (drop h bs))) number at detail)
@@ -180,7 +180,7 @@ fault-found (suc left) p bs number at detail l f =
     let part = part-short bs h n in
     list-found left (fault-found left) n (p + h) (take n (drop h bs)) number at detail (omega arith) (omega arith)) f
 
--- The walk over an element answers a fault exactly where it is true and the first in the order of judging.
+-- The walk over an element answers a fault exactly if it is true and the first in the order of judging.
 pub first-fault : (left p : ℕ) (bs : List ℕ) (number at detail : ℕ) → Octets bs → length bs ≤ longest
     → elementOf left p bs ≡ Fault number at detail ↔ First left p bs number at detail
 first-fault left p bs number at detail o l = (fault-true left p bs number at detail o l, fault-found left p bs number at detail l)
@@ -199,14 +199,14 @@ breaks-named (Breaks.length u v) = Named.length
 breaks-named (Breaks.pastEnd k n u v w) = Named.pastEnd
 breaks-named (Breaks.content {bs} id h n e u v) = rw (head-first bs id h n e) Named.content
 
--- Where the first fault of an element stands, and what its number and detail are.
+-- The place of an element's first fault, and what its number and detail are.
 pub record Placed (p : ℕ) (bs : List ℕ) (number at detail : ℕ) : Type 0 where
   pub from : p ≤ at
   pub upto : at < p + max 1 (length bs)
   pub within : (id h n : ℕ) → Headed bs id h n → at < p + (h + n)
   pub named : Named (getD bs (at - p) 0) number detail
 
--- a fault of the element itself stands at its first byte
+-- a fault of the element itself is at its first byte
 placed-here : (p : ℕ) (bs : List ℕ) (number detail : ℕ) → Named (getD bs 0 0) number detail → Placed p bs number p detail
 placed-here p bs number detail k =
     record {
@@ -220,17 +220,17 @@ placed-here p bs number detail k =
 abbrev Inner : Faults
 Inner p bs number at detail = (p ≤ at) × (at < p + length bs) × Named (getD bs (at - p) 0) number detail
 
--- a fault of the element after x stands in the list
-placed-behind : (p : ℕ) (x bs : List ℕ) (number at detail : ℕ) → (bs ≡ [] → ⊥) → Placed (p + length x) bs number at detail
+-- a fault of the element after x is in the list
+placed-after : (p : ℕ) (x bs : List ℕ) (number at detail : ℕ) → (bs ≡ [] → ⊥) → Placed (p + length x) bs number at detail
     → Inner p (x ++ bs) number at detail
-placed-behind p x bs number at detail o k =
+placed-after p x bs number at detail o k =
     let full = filled bs o in
     let from = k .from in
     let upto = k .upto in
     let place : at - p ≡ length x + (at - (p + length x)) = omega arith in
     (omega arith, rw length-append (omega arith), rw (place, getD-append-add) (k .named))
 
--- a fault of the list inside an element stands in the element
+-- a fault of the list inside an element is in the element
 placed-inside : (p : ℕ) (bs : List ℕ) (number at detail id h n : ℕ) → Headed bs id h n
     → Inner (p + h) (take n (drop h bs)) number at detail → Placed p bs number at detail
 placed-inside p bs number at detail id h n e k =
@@ -255,7 +255,7 @@ placed-of : (left p : ℕ) (bs : List ℕ) {number at detail : ℕ}
 placed-of left p bs known (FaultOf.own {number} {detail} b) = placed-here p bs number detail (breaks-named b)
 placed-of left p bs known (FaultOf.inside {number} {at} {detail} id h n e u f) =
     let x = encode (f .before) in
-    let k = placed-behind (p + h) x (f .after) number at detail (f .one) (known (p + h + length x) (f .after) number at detail (f .faulty)) in
+    let k = placed-after (p + h) x (f .after) number at detail (f .one) (known (p + h + length x) (f .after) number at detail (f .faulty)) in
     placed-inside p bs number at detail id h n e (rw (f .split) k)
 
 -- so it is with every number of levels
@@ -263,7 +263,7 @@ pub placed : (left p : ℕ) (bs : List ℕ) (number at detail : ℕ) → First l
 placed zero p bs number at detail f = rw (f .0, f .1, f .2) (placed-here p bs 6 0 Named.depth)
 placed (suc left) p bs number at detail f = placed-of left p bs (placed left) f
 
--- The first fault stands at the element's first byte or after it, and before the end unless there is no octet.
+-- The first fault is at the element's first byte or after it, and before the end unless there is no octet.
 pub least-place : (left p : ℕ) (bs : List ℕ) (number at detail : ℕ) → First left p bs number at detail
     → (p ≤ at) × (at ≤ p + length bs) × (0 < length bs → at < p + length bs)
 least-place left p bs number at detail f = omega (arith, placed left p bs number at detail f)
@@ -285,7 +285,7 @@ fault-some left p bs number at detail f = go (fault-named left p bs number at de
     go Named.content = (omega arith, omega arith)
     go Named.depth = (omega arith, omega arith)
 
--- Document 01's number is 0 exactly where the input is not too long and starts with the encoding of a well-formed tree of a single element.
+-- Document 01's number is 0 exactly if the input is not too long and starts with the encoding of a well-formed tree of a single element.
 pub number-zero : (s : List ℕ) → Octets s → numberOf (walkAt s 0 (length s)) ≡ 0 ↔ (length s ≤ longest) × ((e : ℕ) × Encoded s e)
 unfolding numberOf
 number-zero s o = (short (leb (length s) longest) refl, λ (l, (e, k)). rw (exact s e o l .1 k))
@@ -302,7 +302,7 @@ number-zero s o = (short (leb (length s) longest) refl, λ (l, (e, k)). rw (exac
 pub fault-number : (s : List ℕ) → Octets s → length s ≤ longest → (n q k : ℕ) → walkAt s 0 (length s) ≡ Fault n q k → (2 ≤ n) × (n ≤ 6)
 fault-number s o l n q k faulty = fault-some depth 0 s n q k (walk-fault s o l n q k .0 faulty)
 
--- Document 01's number and place of an input that is not too long, where the number is not 0, are those of the first fault.
+-- If document 01's number of an input that is not too long is not 0, number and place are those of the first fault.
 pub number-place : (s : List ℕ) → Octets s → length s ≤ longest → (n q : ℕ)
     → (numberOf (walkAt s 0 (length s)) ≡ n) × (placeOf (walkAt s 0 (length s)) ≡ q) × (0 < n) ↔ ((detail : ℕ) × First depth 0 s n q detail)
 unfolding numberOf placeOf

@@ -47,24 +47,24 @@ is-any (suc left) p bs =
     element-claim left p bs (AnyIn (Any left))
     (λ h n. in-any left (is-any left) n (p + h) (take n (drop h bs)) (part-short bs h n .0))
 
--- No fault of an element stands before it, if that is known of the elements inside.
+-- No fault of an element has a place before it, if that is known of the elements inside.
 module _ (left : ℕ) (known : (p : ℕ) (bs : List ℕ) (number at detail : ℕ) → Any left p bs number at detail → p ≤ at) where
-  -- none of a list stands before it
+  -- none of a list has
   in-from : (p : ℕ) (bs : List ℕ) (number at detail : ℕ) → AnyIn (Any left) p bs number at detail → p ≤ at
   in-from p bs number at detail (AnyIn.here o f) = known p bs number at detail f
   in-from p bs number at detail (AnyIn.later id h n e f) = omega (arith, in-from (p + (h + n)) (drop (h + n) bs) number at detail f)
 
-  -- none of an element with one more level does
+  -- none of an element with one more level has
   of-from : (p : ℕ) (bs : List ℕ) {number at detail : ℕ} → Any (suc left) p bs number at detail → p ≤ at
   of-from p bs (FaultOf.own b) = omega arith
   of-from p bs (FaultOf.inside {number} {at} {detail} id h n e u f) = omega (arith, in-from (p + h) (take n (drop h bs)) number at detail f)
 
--- no fault of an element stands before it
+-- no fault of an element has a place before it
 any-from : (left p : ℕ) (bs : List ℕ) (number at detail : ℕ) → Any left p bs number at detail → p ≤ at
 any-from zero p bs number at detail f = omega (arith, f .1)
 any-from (suc left) p bs number at detail f = of-from left (any-from left) p bs f
 
--- An answer is a fault, has no greater first byte than another, and is that one where they have the same.
+-- An answer is a fault, has no greater first byte than another fault, and is that one if they have the same.
 abbrev Before : Nest → ℕ → ℕ → ℕ → Type 0
 Before (End q) n a d = ⊥
 Before (Fault number at detail) n a d = (at ≤ a) × (at ≡ a → (number ≡ n) × (detail ≡ d))
@@ -74,7 +74,7 @@ in-filled : {F : Faults} {p : ℕ} {bs : List ℕ} {n a d : ℕ} → AnyIn F p b
 in-filled (AnyIn.here {bs} o f) = filled bs o
 in-filled (AnyIn.later {bs} id h n e f) = omega (arith, head-fits bs id h n (headed-stands e))
 
--- With one more level of depth, where the answers for the elements inside are known to come before their faults.
+-- With one more level of depth, if the answers for the elements inside are known to come before their faults.
 module _ (left : ℕ)
     (known : (p : ℕ) (bs : List ℕ) (n a d : ℕ) → Octets bs → length bs ≤ longest → Any left p bs n a d → Before (elementOf left p bs) n a d) where
   -- a list whose first element has a fault
@@ -118,7 +118,7 @@ any-before (suc left) p bs n a d o l f =
     let part = part-short bs h m in
     in-before left (any-before left) m (p + h) (take m (drop h bs)) (omega arith) (octets-part h m bs o) (omega arith) n a d) f
 
--- The walk over an element answers a fault exactly where it has the least first byte of all the faults of the element and of those inside it.
+-- The walk over an element answers a fault exactly if it has the least first byte of all the faults of the element and of those inside it.
 pub least-fault : (left p : ℕ) (bs : List ℕ) (number at detail : ℕ) → Octets bs → length bs ≤ longest
     → elementOf left p bs ≡ Fault number at detail ↔ Least left p bs number at detail
 least-fault left p bs number at detail o l = (to, λ k. from k (elementOf left p bs) refl)

@@ -81,7 +81,7 @@ value-end p q id e c ends = go (holds id c) refl
     go true kept = (rw kept tt, cc (value-kept p q id c kept))
     go false lost = end-fault ends (value-unkept p q id c lost)
 
--- An element that ends, where those inside it go forward.
+-- An element that ends, if those inside it go forward.
 module _ (left : ℕ) (on : Forward (elementOf left)) (p q : ℕ) (bs : List ℕ) (e : elementOf (suc left) p bs ≡ End q) where
   module _ (id h n : ℕ) (stands : headOf bs ≡ Stands id h n) where
     -- what is inside a constructed one ends there too

@@ -1,4 +1,5 @@
--- The ends of a list: a short list, and the first two elements of a longer one, by its length, and the last element by its place. Assumes nothing.
+-- The ends of a list: a short list and the first two elements of a longer one, by its length; and the last element, by its place.
+-- Assumes nothing.
 use Prim.Native.Nat.{ℕ, _-_, _<_}
 use mathlib.Core.Path.{_≡_, refl, _∙_}
 use mathlib.Core.List.{List, [], _∷_}
@@ -24,7 +25,7 @@ two [] h = absurd (omega arith)
 two (x ∷ []) h = absurd (omega arith)
 two (x ∷ y ∷ xs) h = refl
 
--- the last element stands at the last place
+-- the last element is at the last place
 pub last : (b : ℕ) (xs : List ℕ) → 0 < length xs → lastOf b xs ≡ getD xs (length xs - 1) 0
 unfolding lastOf
 last b [] h = absurd (omega arith)

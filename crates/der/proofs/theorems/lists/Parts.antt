@@ -47,7 +47,7 @@ octets-take (suc n) [] o i = lit< tt
 octets-take (suc n) (b ∷ bs) o zero = o 0
 octets-take (suc n) (b ∷ bs) o (suc i) = octets-take n bs (λ j. o (suc j)) i
 
--- what stands after the first octets are octets
+-- the octets after the first ones are octets
 pub octets-drop : (n : ℕ) (bs : List ℕ) → Octets bs → Octets (drop n bs)
 unfolding Octets
 octets-drop n bs o i = rw (getD-drop n bs i 0) (o (n + i))
@@ -118,7 +118,7 @@ module _ {A : Type 0} where
   pub part-short : (l : List A) (h n : ℕ) → (length (take n (drop h l)) ≤ n) × (length (take n (drop h l)) ≤ length l)
   part-short l h n = simp (length-take, length-drop) (omega arith)
 
-  -- the elements up to an end, which is the list's own where that comes first
+  -- the elements up to an end, which is the list's own if that comes first
   pub take-least : (e : ℕ) (l : List A) → take (min e (length l)) l ≡ take e l
   take-least zero l = let none : min 0 (length l) ≡ 0 = omega arith in rw none
   take-least (suc e) [] = take-nil (min (suc e) 0)
@@ -126,7 +126,7 @@ module _ {A : Type 0} where
       let one : min (suc e) (suc (length l)) ≡ suc (min e (length l)) = omega arith in
       rw one (ap (λ (k : List A). x ∷ k) (take-least e l))
 
-  -- the part from p to an end, which is the list's own where that comes first, as a lent slice gives it
+  -- the part from p to an end, which is the list's own if that comes first, as a lent slice gives it
   pub lent-slice : (p e : ℕ) (l : List A) → p ≤ min e (length l) → take (min e (length l) - p) (drop p l) ≡ slice p e l
   lent-slice p e l order =
       let high : p + (min e (length l) - p) ≡ min e (length l) = omega arith in

@@ -11,7 +11,7 @@ abbrev pub every : ℕ → (ℕ → Bool) → Bool
 every zero f = true
 every (suc n) f = f n && every n f
 
--- where every number below n passes, each does
+-- if every number below n passes, each one does
 pub each : (n : ℕ) (f : ℕ → Bool) → every n f ≡ true → (k : ℕ) → k < n → f k ≡ true
 each zero f e k h = absurd (not-suc-le-zero h)
 each (suc n) f e k h =

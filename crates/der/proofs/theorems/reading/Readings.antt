@@ -1,5 +1,5 @@
--- The laws of the tree that octets are read as: it ends, it is read element by element, an encoding is read back, and it may stand anywhere.
--- Assumes nothing.
+-- The laws of the tree that octets are read as: it is read element by element up to the end, an encoding is read back, and octets at another
+-- place are read as the same tree there. Assumes nothing.
 use Prim.Native.Nat.{ℕ, zero, suc, _+_, _-_, _≤_, _<_}
 use mathlib.Core.Path.{_≡_, refl, sym, ap, ap₂, _∙_}
 use mathlib.Core.Logic.{_⊎_, inl, inr}
@@ -29,7 +29,7 @@ pub record InOrder (from to : ℕ) (x : Element) : Type 0 where
   pub ordered : x .content ≤ x .end
   pub within : x .end ≤ to
 
--- an element is read in order wherever an octet stands
+-- if there is an octet, an element is read in order
 pub read-in-order : (p : ℕ) (bs : List ℕ) → 0 < length bs → InOrder p (p + length bs) (read p bs)
 unfolding read given nothingAt
 read-in-order p bs some = by-head (headOf bs) refl
@@ -40,7 +40,7 @@ read-in-order p bs some = by-head (headOf bs) refl
         record { headed = omega arith; ordered = omega arith; within = omega arith }
     by-head (Broken c) e = record { headed = omega arith; ordered = omega arith; within = omega arith }
 
--- the content of an element, and what stands after it, are shorter than the octets that it is read from
+-- the content of an element, and the octets after it, are shorter than the octets that it is read from
 read-shorter : (p b : ℕ) (bs : List ℕ) → let x = read p (b ∷ bs) in
     (length (slice (x .content - p) (x .end - p) (b ∷ bs)) ≤ length bs) × (length (drop (x .end - p) (b ∷ bs)) ≤ length bs)
 read-shorter p b bs =
@@ -69,18 +69,18 @@ same-tree (suc n) (suc m) p [] h k = refl
 same-tree (suc n) (suc m) p (b ∷ bs) h k =
     let x = read p (b ∷ bs) in
     let content = slice (x .content - p) (x .end - p) (b ∷ bs) in
-    let behind = drop (x .end - p) (b ∷ bs) in
+    let rest = drop (x .end - p) (b ∷ bs) in
     let short = read-shorter p b bs in
     ap₂ (elementAt p x content)
     (same-tree n m (x .content) content (omega arith) (omega arith))
-    (same-tree n m (x .end) behind (omega arith) (omega arith))
+    (same-tree n m (x .end) rest (omega arith) (omega arith))
 
 -- with at least as many levels and siblings as octets, it is the tree
 pub tree-enough : (n p : ℕ) (bs : List ℕ) → length bs ≤ n → treeOf n p bs ≡ tree p bs
 unfolding tree
 tree-enough n p bs h = same-tree n (length bs) p bs h (omega arith)
 
--- where an octet stands, the tree is the element that is read there and the tree after it
+-- if there is an octet, the tree is the element that is read there and the tree after it
 pub tree-step : (p b : ℕ) (bs : List ℕ) → let x = read p (b ∷ bs) in
     let content = slice (x .content - p) (x .end - p) (b ∷ bs) in
     tree p (b ∷ bs) ≡ elementAt p x content (tree (x .content) content) (tree (x .end) (drop (x .end - p) (b ∷ bs)))
@@ -93,12 +93,12 @@ tree-step p b bs =
     (tree-enough (length bs) (x .content) content (short .0))
     (tree-enough (length bs) (x .end) (drop (x .end - p) (b ∷ bs)) (short .1))
 
--- the same where the element, its content and the octets after it are known
-pub tree-parts : (p : ℕ) (bs content behind : List ℕ) (x : Element) → 0 < length bs → read p bs ≡ x
-    → slice (x .content - p) (x .end - p) bs ≡ content → drop (x .end - p) bs ≡ behind
-    → tree p bs ≡ elementAt p x content (tree (x .content) content) (tree (x .end) behind)
-tree-parts p [] content behind x some e c d = absurd (omega arith)
-tree-parts p (b ∷ bs) content behind x some e c d =
+-- the same if the element, its content and the octets after it are known
+pub tree-parts : (p : ℕ) (bs content rest : List ℕ) (x : Element) → 0 < length bs → read p bs ≡ x
+    → slice (x .content - p) (x .end - p) bs ≡ content → drop (x .end - p) bs ≡ rest
+    → tree p bs ≡ elementAt p x content (tree (x .content) content) (tree (x .end) rest)
+tree-parts p [] content rest x some e c d = absurd (omega arith)
+tree-parts p (b ∷ bs) content rest x some e c d =
     let step : Element → List ℕ → List ℕ → Tree = λ y l m. elementAt p y l (tree (y .content) l) (tree (y .end) m) in
     tree-step p b bs
     ∙ ap (λ (y : Element). step y (slice (y .content - p) (y .end - p) (b ∷ bs)) (drop (y .end - p) (b ∷ bs))) e
@@ -109,12 +109,12 @@ pub read-at : (s : List ℕ) (p e : ℕ) → length s ≤ longest → readAt s p
 unfolding readAt
 read-at s p e h = rw (readAt, le-leb (length s) longest h)
 
--- where no octet stands, no element does
+-- without an octet there is no element
 read-none : (p : ℕ) → read p [] ≡ nothingAt p
 unfolding read given headOf
 read-none p = ap nothingAt (omega arith)
 
--- after its parent's end no element stands
+-- after its parent's end there is no element
 pub read-at-end : (s : List ℕ) (p e : ℕ) → e ≤ p → readAt s p e ≡ nothingAt p
 unfolding readAt
 read-at-end s p e past = by-length (leb (length s) longest)
@@ -123,7 +123,7 @@ read-at-end s p e past = by-length (leb (length s) longest)
     by-length true = ap (read p) (slice-none p e s (omega arith)) ∙ read-none p
     by-length false = refl
 
--- where no element stands, its identifier is 0
+-- if there is no element, the identifier is 0
 pub nothing-identifier : (p : ℕ) → nothingAt p .identifier ≡ 0
 unfolding nothingAt
 nothing-identifier p = refl
@@ -134,7 +134,7 @@ pub read-stands : (p : ℕ) (bs : List ℕ) (id h n : ℕ) → headOf bs ≡ Sta
 unfolding read given
 read-stands p bs id h n stands = rw stands
 
--- a broken header gives none, up to the end
+-- a broken header gives none, at the end
 pub read-broken : (p : ℕ) (bs : List ℕ) {c : Cause} → headOf bs ≡ Broken c → read p bs ≡ nothingAt (p + length bs)
 unfolding read given
 read-broken p bs broken = rw broken
@@ -191,9 +191,9 @@ tree-encoded p id c more known high =
     let stop : p + h + n - p ≡ h + n = omega arith in
     let same : p + h + n ≡ p + (h + n) = omega arith in
     let content : slice (x .content - p) (x .end - p) bs ≡ c = rw (start, stop) (slice-middle (header id c) c more) in
-    let behind : drop (x .end - p) bs ≡ more = rw stop (drop-at (header id c ++ c) more (h + n) sum) in
+    let after : drop (x .end - p) bs ≡ more = rw stop (drop-at (header id c ++ c) more (h + n) sum) in
     let found : read p bs ≡ x = rw (read, head-encoded id c more known high) in
-    rw sum (rw (stop, same) at (tree-parts p bs c more x (omega arith) found content behind))
+    rw sum (rw (stop, same) at (tree-parts p bs c more x (omega arith) found content after))
 
 -- what is inside a well-formed element is read so, if the encoding of what is inside is
 inside-read : {place id first whole : ℕ} {content : List ℕ} {inside : Tree} {Inside : Type 0} (q : ℕ)
@@ -216,9 +216,9 @@ tree-encode (suc left) p (element id first whole content inside rest) w high =
     let n : ℕ = length (header id content ++ content) in
     let long : length ((header id content ++ content) ++ encode rest) ≡ (h + length content) + length (encode rest) = simp length-append in
     let within = inside-read (p + h) f (λ e i. tree-encode left (p + h) inside i (omega (arith, ap length e))) in
-    let behind : tree (p + n) (encode rest) ≡ rest = rw (f .sized) at (tree-encode (suc left) (p + whole) rest (w .1) (omega arith)) in
+    let after : tree (p + n) (encode rest) ≡ rest = rw (f .sized) at (tree-encode (suc left) (p + whole) rest (w .1) (omega arith)) in
     tree-encoded p id content (encode rest) (f .identified) (omega arith)
-    ∙ rw (f .placed, f .sized) (ap₂ (element id p n content) within behind)
+    ∙ rw (f .placed, f .sized) (ap₂ (element id p n content) within after)
 
 -- the same element d bytes further on
 abbrev pub further : ℕ → Element → Element

@@ -1,5 +1,5 @@
--- A header's octets, and what the encoding of elements, moving them and being well-formed say of no elements and of an element with others
--- after it. Assumes nothing.
+-- A header's octets; and the definitions of encoding, moving and being well-formed, one step at a time: of no elements, and of an element with
+-- others after it. Assumes nothing.
 use Prim.Native.Nat.{ℕ, suc, _+_, _≤_}
 use native.Mathlib.Omega.{arith}
 use mathlib.Core.Path.{_≡_, refl, ap}
@@ -11,7 +11,7 @@ use lib.ListN.{length, length-append}
 use Rattle.der.specs.meaning.Length.{base256, lengthOctets}
 use Rattle.der.specs.meaning.Tree.{Tree, none, element, header, encode, Formed, WellFormed, Single, moved}
 
--- a header has an octet at least
+-- a header has at least one octet
 pub header-some : (id : ℕ) (c : List ℕ) → 1 ≤ length (header id c)
 unfolding header
 header-some id c = omega arith
@@ -21,7 +21,7 @@ pub header-octets : (id : ℕ) (c : List ℕ) → header id c ≡ id ∷ lengthO
 unfolding header
 header-octets id c = refl
 
--- there is a length octet at least
+-- there is at least one length octet
 pub length-some : (n : ℕ) → 1 ≤ length (lengthOctets n)
 unfolding lengthOctets
 length-some n = go (ltb n 0x80)
@@ -30,7 +30,7 @@ length-some n = go (ltb n 0x80)
     go true = omega arith
     go false = omega arith
 
--- so a header has two octets at least
+-- so a header has at least two octets
 pub header-two : (id : ℕ) (c : List ℕ) → 2 ≤ length (header id c)
 header-two id c = omega (arith, ap length (header-octets id c), length-some (length c))
 
@@ -39,7 +39,7 @@ pub encode-none : encode none ≡ []
 unfolding encode
 encode-none = refl
 
--- the encoding of an element: its header, its content and what stands after it
+-- the encoding of an element: its header, its content and the encoding of those after it
 pub encode-element : (id first whole : ℕ) (c : List ℕ) (inside rest : Tree)
     → encode (element id first whole c inside rest) ≡ (header id c ++ c) ++ encode rest
 unfolding encode
@@ -67,12 +67,12 @@ pub well-formed-none : (left p : ℕ) → WellFormed left p none
 unfolding WellFormed
 well-formed-none left p = tt
 
--- an element is not, without a level of depth left
+-- without a level of depth left an element is not well-formed
 pub well-formed-deep : (p id first whole : ℕ) (c : List ℕ) (inside rest : Tree) → WellFormed 0 p (element id first whole c inside rest) → ⊥
 unfolding WellFormed
 well-formed-deep p id first whole c inside rest formed = formed
 
--- with one left, elements are well-formed where the first is, and those after it are from its end on
+-- with one left, elements are well-formed if the first is, and those after it are from its end on
 pub well-formed-element : (left p id first whole : ℕ) (c : List ℕ) (inside rest : Tree)
     → WellFormed (suc left) p (element id first whole c inside rest)
     ↔ (Formed p id first whole c inside (WellFormed left (p + length (header id c)) inside) × WellFormed (suc left) (p + whole) rest)
@@ -84,7 +84,7 @@ pub single-none : Single none → ⊥
 unfolding Single
 single-none one = one
 
--- an element is a single one where none stands after it
+-- an element is a single one if there is none after it
 pub single-element : (id first whole : ℕ) (c : List ℕ) (inside rest : Tree) → Single (element id first whole c inside rest) ↔ (rest ≡ none)
 unfolding Single
 single-element id first whole c inside rest = (λ one. one, λ last. last)

@@ -1,5 +1,5 @@
--- The recogniser as the code takes it: the loop over a list of elements, of which a law says each way on from `at`. The octets
--- that are lent on stand as the code writes them. Assumes nothing.
+-- The recogniser as the code takes it: the loop over a list of elements, with a law for each way on from `at`. The octets that are lent on are
+-- written as in the code. Assumes nothing.
 use Prim.Native.Nat.{ℕ, suc, _+_, _-_, _≤_, _<_}
 use mathlib.Core.Path.{_≡_, sym, ap, ap₂, _∙_}
 use mathlib.Core.Bool.{true, false, _&&_}
@@ -20,7 +20,7 @@ use Rattle.der.proofs.theorems.element.Spans.{span-fits}
 pub from-done : (left at : ℕ) (bs : List ℕ) → at ≡ length bs → isList left (drop at bs) ≡ true
 from-done left at bs all = ap (isList left) (ap (λ (k : ℕ). drop k bs) all ∙ drop-length bs) ∙ is-list-none left
 
--- Where an octet stands, and the span there is found.
+-- There is an octet at `at`, and the span there is known.
 module _ (left at : ℕ) (bs : List ℕ) (x : Span) (inside : at < length bs) (found : x ≡ spanOf (take (length bs - at) (drop at bs))) where
   -- it is the span of the octets from there on
   there : x ≡ spanOf (drop at bs)
@@ -39,7 +39,7 @@ module _ (left at : ℕ) (bs : List ℕ) (x : Span) (inside : at < length bs) (f
   from-deep deep = ap (λ (l : ℕ). isList l (drop at bs)) deep ∙ is-list-deep (drop at bs) some
 
   module _ (one : x .octets ≡ 0 → ⊥) where
-    -- the span's own octets are some
+    -- the span has octets before the content
     span-some : spanOf (drop at bs) .octets ≡ 0 → ⊥
     span-some lost = one (ap (λ (y : Span). y .octets) there ∙ lost)
 
@@ -59,6 +59,6 @@ module _ (left at : ℕ) (bs : List ℕ) (x : Span) (inside : at < length bs) (f
         let content : slice h (h + n) (drop at bs) ≡ take (at + h + n - (at + h)) (drop (at + h) bs) =
         sym (take-drop n h (drop at bs)) ∙ ap₂ (λ (k : ℕ) (l : List ℕ). take k l) size (drop-drop h at bs) in
         let end : at + (h + n) ≡ at + h + n = omega arith in
-        let behind : drop (h + n) (drop at bs) ≡ drop (at + h + n) bs = drop-drop (h + n) at bs ∙ ap (λ (k : ℕ). drop k bs) end in
+        let after : drop (h + n) (drop at bs) ≡ drop (at + h + n) bs = drop-drop (h + n) at bs ∙ ap (λ (k : ℕ). drop k bs) end in
         let step = is-list-step (left - 1) (drop at bs) (omega (arith, length-drop at bs)) span-some in
-        rw there (cc (step, more, first, content, behind))
+        rw there (cc (step, more, first, content, after))

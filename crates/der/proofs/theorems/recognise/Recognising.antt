@@ -38,7 +38,7 @@ abbrev shifted : ℕ → Nest → Nest
 shifted d (End q) = End (d + q)
 shifted d (Fault m q k) = Fault m (d + q) k
 
--- it has a fault where the answer has
+-- it has a fault if the answer has
 shifted-faultless : (d : ℕ) (r : Nest) → faultless (shifted d r) ≡ faultless r
 unfolding faultless
 shifted-faultless d (End q) = refl
@@ -97,7 +97,7 @@ element-shifted (suc left) d p bs = by-head (headOf bs) refl (element-shifted le
     by-head (Broken c) e inside = element-broken left (d + p) bs e ∙ ap (shifted d) (sym (element-broken left p bs e))
     by-head (Stands id h n) e inside = content id h n e inside (constructed id) refl
 
--- octets that are not too many are a list exactly where the list of elements has no fault, at any place and with any count that is enough
+-- octets that are not too many are a list exactly if the list of elements has no fault, at any place and with any count that is enough
 is-list-listed : (left n p : ℕ) (bs : List ℕ) → length bs ≤ longest → length bs ≤ n → isList left bs ≡ faultless (listOf (elementOf left) n p bs)
 unfolding isList
 is-list-listed left n p bs short enough =
@@ -117,7 +117,7 @@ pub is-list-short : (left : ℕ) (bs : List ℕ) → isList left bs ≡ true →
 unfolding isList
 is-list-short left bs sound = leb-true (length bs) longest (and-eq-true-iff (leb (length bs) longest) (faultless (listOf (elementOf left) (length bs) 0 bs)) .0 sound .0)
 
--- octets that are no list where they are not too many are none
+-- to show that octets are no list, it is enough to show it for octets that are not too many
 bounded : (left : ℕ) (bs : List ℕ) → (length bs ≤ longest → isList left bs ≡ false) → isList left bs ≡ false
 unfolding isList
 bounded left bs lost = go (leb (length bs) longest) refl
@@ -148,7 +148,7 @@ is-list-lost (suc left) bs some lost =
     bounded (suc left) bs
     (λ short. (let x = span-broken bs short lost in is-list-fault (suc left) bs some short (element-broken left 0 bs x)))
 
--- octets are a list where the first element has no fault and the octets after it are a list
+-- octets are a list if the first element has no fault and the octets after it are a list
 is-list-first : (left e : ℕ) (bs : List ℕ) → 0 < length bs → length bs ≤ longest → ((q : ℕ) → elementOf left 0 bs ≡ End q → q ≡ e)
     → isList left bs ≡ (faultless (elementOf left 0 bs) && isList left (drop e bs))
 unfolding faultless
@@ -169,12 +169,12 @@ pub is-element-refused : (id left : ℕ) (c : List ℕ) → allowed id ≡ false
 unfolding isElement
 is-element-refused id left c wrong = rw (isElement, wrong)
 
--- a constructed element has none where the list inside it has none
+-- a constructed element has none if the list inside it has none
 pub is-element-inside : (id left : ℕ) (c : List ℕ) → allowed id ≡ true → constructed id ≡ true → isElement id left c ≡ isList left c
 unfolding isElement
 is-element-inside id left c known made = rw (isElement, known) (rw made)
 
--- a primitive element has none where its content keeps its rule
+-- a primitive element has none if its content keeps its rule
 pub is-element-value : (id left : ℕ) (c : List ℕ) → allowed id ≡ true → constructed id ≡ false → isElement id left c ≡ holds id c
 unfolding isElement
 is-element-value id left c known plain = rw (isElement, known) (rw plain)
@@ -216,7 +216,7 @@ module _ (left : ℕ) (bs : List ℕ) (short : length bs ≤ longest) (some : sp
           let long : d .size ≡ size = cc in
           omega (arith, d .ends)
 
-  -- constructed or primitive, it has no fault where its content has none
+  -- constructed or primitive, it has no fault if its content has none
   element-content : allowed identifier ≡ true → (t : Bool) → constructed identifier ≡ t
       → faultless (elementOf (suc left) 0 bs) ≡ isElement identifier left (take size (drop front bs))
   element-content known true made =
@@ -231,13 +231,13 @@ module _ (left : ℕ) (bs : List ℕ) (short : length bs ≤ longest) (some : sp
       ∙ value-faultless 0 (0 + front + size) identifier c
       ∙ sym (is-element-value identifier left c known plain)
 
-  -- it has no fault where its identifier and its content have none
+  -- it has no fault if its identifier and its content have none
   element-whole : (t : Bool) → allowed identifier ≡ t → faultless (elementOf (suc left) 0 bs) ≡ isElement identifier left (slice front (front + size) bs)
   unfolding faultless
   element-whole true known = element-content known (constructed identifier) refl ∙ ap (isElement identifier left) (take-drop size front bs)
   element-whole false wrong = ap faultless (stopped wrong) ∙ sym (is-element-refused identifier left (slice front (front + size) bs) wrong)
 
-  -- the octets are a list where it has no fault and the octets after it are a list
+  -- the octets are a list if it has no fault and the octets after it are a list
   pub is-list-step : isList (suc left) bs ≡ (isElement (getD bs 0 0) left (slice (spanOf bs .octets) (spanOf bs .octets + spanOf bs .length) bs)
       && isList (suc left) (drop (spanOf bs .octets + spanOf bs .length) bs))
   is-list-step =
@@ -285,7 +285,7 @@ holds-free id c free =
     (λ f5. otherwise (eqb id 0x0A) _ _ _ f5
     (λ f6. rw f6))))))
 
--- where no element is read, no octet stands
+-- if no element is read, there is no octet
 tree-empty : (p : ℕ) (bs : List ℕ) → tree p bs ≡ none → length bs ≡ 0
 tree-empty p [] e = refl
 tree-empty p (b ∷ bs) e = let f = sym (tree-step p b bs) ∙ e in (let z : _≡_ {A = ℕ} 0 1 = cc in absurd (omega arith))

@@ -1,4 +1,4 @@
--- `editions::reader::accept` meets its contract: no edition, an input that is recognised, or one look after the other. Assumes nothing.
+-- `editions::reader::accept` meets its contract: no edition, an input that is recognised, or any other. Assumes nothing.
 use borrow.Author.Needs.{needs}
 use mathlib.Core.Path.{sym, _∙_}
 use Rattle.editions.proofs.theorems.Answers.{no-edition, in-range}

@@ -1,5 +1,5 @@
--- `verdict::duplicates::first_pair` meets its contract. No pair has its later position before the outer loop's, and none of those that the inner
--- loop has passed is the earlier one: so what both loops are left at is the first pair, and where they end there is none. Assumes nothing.
+-- `verdict::duplicates::first_pair` meets its contract. No pair has its later position before the outer loop's, and no position that the inner
+-- loop has passed is the earlier one. So the loops stop early at the first pair, and if they don't there is none. Assumes nothing.
 use Prim.Native.Nat.{ℕ, _-_, _^_, _≤_, _<_}
 use native.Mathlib.Numerals.{add-one}
 use native.Mathlib.Omega.{arith}
@@ -25,8 +25,8 @@ use Rattle.verdict.proofs.duplicates.first_pair.Tie as tie
 compared : (x y z : ℤ) (b : Bool) → mag x < 2 ^ 63 → z ≡ y → b ≡ sameNumber (toZ w64 (ofZ w64 x)) z → sameNumber x y ≡ b
 compared x y z b fits is test = sym (rw (toZ-ofZ {w = w64} {z = x} (record { sfits = fits }), is) at test)
 
--- Where the inner loop stands: no pair has its later position before this one, which has the number z, and no earlier position that was
--- passed has it.
+-- What holds in the inner loop: no pair has its later position before this one, which has the number z, and no earlier position that was
+-- passed has z.
 record Looking (ns : List ℤ) (later : ℕ) (z : ℤ) (earlier : ℕ) : Type 0 where
   there : later < length ns
   own : z ≡ at ns later

@@ -1,4 +1,4 @@
--- `verdict::duplicates::signed` meets its contract: the loop builds the magnitude of the octets passed, which fits at every step. Assumes nothing.
+-- `verdict::duplicates::signed` meets its contract: the loop builds the magnitude of the octets passed, and it always fits. Assumes nothing.
 use Prim.Native.Nat.{ℕ, _+_, _-_, _*_, _^_, _≤_, _<_}
 use native.Mathlib.Omega.{arith}
 use mathlib.Core.Path.{_≡_, sym, ap, subst, _∙_}
@@ -45,7 +45,7 @@ all c =
     let l = c .before .loop in
     (rw (l .inv .1) (fits (c .before) (l .i)), l .inv .1 ∙ prefix-all content (l .i) (c .loop-test .left))
 
--- what the machine makes of it where the number is negative
+-- what the machine makes of it if the number is negative
 minus : (m : ℕ) → m < 2 ^ 63 → negsuc 0 -ℤ toZ w64 m ≡ negsuc m
 minus m h = ap (λ (z : ℤ). negsuc 0 -ℤ z) (toZ-pos w64 h) ∙ minus-one m
 

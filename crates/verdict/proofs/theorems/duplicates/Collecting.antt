@@ -1,5 +1,5 @@
--- The walk over an accepted batch's messages by the places that are read: each step reads a message, whose certReqId has 1 to 8 content octets,
--- and there are no more messages than the array has room for. Assumes nothing.
+-- The walk over an accepted batch's messages from place to place. Each step reads a message, whose certReqId has 1 to 8 content octets, and
+-- there are no more messages than the array has room for. Assumes nothing.
 use Prim.Native.Nat.{ℕ, _+_, _-_, _≤_, _<_}
 use native.Mathlib.Numerals.{add-one}
 use native.Mathlib.Omega.{arith}
@@ -21,7 +21,7 @@ use Rattle.crmf.specs.meaning.Rows.{batchRows, allShort}
 use Rattle.crmf.specs.meaning.Fields.{Field, fieldsBetween}
 use Rattle.crmf.specs.meaning.Messages.{Message, messageOf, messages}
 use Rattle.crmf.proofs.Laws.{MessageParts, batch-content, message-parts, fieldRead, fields-end, fields-at, id-read, batch-read, ids-some, ids-eight, messages-few}
-use Rattle.editions.proofs.theorems.Demand2.{nest-read, accepted-in}
+use Rattle.editions.proofs.Laws.{nest-read, accepted-in}
 use Rattle.verdict.specs.meaning.Duplicates.{signed, ids}
 use Rattle.verdict.specs.steps.Collecting.{Accepted, mostMessages, Collected, idIn, Short}
 
@@ -51,7 +51,7 @@ known-tree s t same high top formed single encoded short =
       few = rw same (omega (arith, messages-few t top formed single, ap length encoded));
     }
 
--- What is accepted is known so.
+-- This is known of what is accepted.
 pub accepted-known : (s : List ℕ) → Octets s → Accepted s → Known s
 accepted-known s octets a =
     let (g, short) = accepted-in (a .edition) s octets (a .zero) in
@@ -61,11 +61,11 @@ accepted-known s octets a =
 abbrev pub idOf : Message → ℤ
 idOf m = signed (m .certReqId .content)
 
--- where nothing stands there are none
+-- from the end on there are none
 pub none-from : (s : List ℕ) (p : ℕ) → length s ≤ p → messagesFrom s p ≡ []
 none-from s p past = ap (map messageOf) (fields-end s p (length s) past)
 
--- What a step reads: the first message, its certReqId's place, and the messages behind it.
+-- What a step reads: the first message, its certReqId's place, and the messages after it.
 pub record Step (s : List ℕ) (p : ℕ) : Type 0 where
   pub message : Message
   pub split : messagesFrom s p ≡ message ∷ messagesFrom s (readAt s p (length s) .end)
@@ -78,7 +78,7 @@ pub record Step (s : List ℕ) (p : ℕ) : Type 0 where
 abbrev pub Among : List ℕ → ℕ → Type 0
 Among s p = (m : Message) → List·Memᴰ m (messagesFrom s p) → List·Memᴰ m (messages (tree 0 s))
 
--- Where an octet stands, a message is read.
+-- Before the end, a message is read.
 pub step : (s : List ℕ) (p : ℕ) → Known s → Among s p → p < length s → Step s p
 step s p k among some =
     let n = length s in
@@ -103,14 +103,14 @@ step s p k among some =
       within = omega arith;
     }
 
--- Where the walk stands: so many numbers are collected, and the messages from a place on are left.
+-- How far the walk is: `count` numbers are collected, and the messages from a place on are left.
 pub record Walk (s : List ℕ) (numbers : List ℤ) (at count : ℕ) : Type 0 where
   pub room : length numbers ≡ mostMessages
   pub counted : count ≤ mostMessages
   pub same : take count numbers ++ map idOf (messagesFrom s at) ≡ ids s
   pub among : Among s at
 
--- where it begins
+-- the walk begins
 pub walk-start : (s : List ℕ) (numbers : List ℤ) → Known s → length numbers ≡ mostMessages → Walk s numbers (readAt s 0 (length s) .content) 0
 unfolding ids
 walk-start s numbers k room =
@@ -122,7 +122,7 @@ walk-start s numbers k room =
     }
 
 module _ (s : List ℕ) (numbers : List ℤ) (at count : ℕ) (k : Known s) (w : Walk s numbers at count) where
-  -- where it ends
+  -- the walk ends
   pub walk-end : length s ≤ at → Collected s numbers count
   walk-end past =
       record {
@@ -143,16 +143,16 @@ module _ (s : List ℕ) (numbers : List ℤ) (at count : ℕ) (k : Known s) (w :
     -- the next message's number is collected
     pub walk-more : (z : ℤ) → z ≡ idOf (next .message) → Walk s (set numbers count z) (readAt s at (length s) .end) (count + 1)
     walk-more z is =
-        let behind = messagesFrom s (readAt s at (length s) .end) in
+        let rest = messagesFrom s (readAt s at (length s) .end) in
         let front = take count numbers in
         let here : take (count + 1) (set numbers count z) ≡ front ++ (z ∷ []) =
         rw add-one (take-suc-set numbers count z (omega (arith, walk-room, w .room))) in
         record {
           room = length-set numbers count z ∙ w .room;
           counted = omega (arith, walk-room);
-          same = ap (λ (l : List ℤ). l ++ map idOf behind) here
-              ∙ append-assoc front (z ∷ []) (map idOf behind)
-              ∙ ap (λ (y : ℤ). front ++ (y ∷ map idOf behind)) is
+          same = ap (λ (l : List ℤ). l ++ map idOf rest) here
+              ∙ append-assoc front (z ∷ []) (map idOf rest)
+              ∙ ap (λ (y : ℤ). front ++ (y ∷ map idOf rest)) is
               ∙ ap (λ (ms : List Message). front ++ map idOf ms) (sym (next .split))
               ∙ w .same;
           among = λ m n. w .among m (rw (next .split) (List·Memᴰ·tail n));

@@ -1,5 +1,5 @@
 -- "the first equal pair (least later position, then least earlier)": for every list of numbers the search finds exactly that pair, and none
--- exactly where no two positions have equal numbers. Assumes nothing.
+-- exactly if no two positions have equal numbers. Assumes nothing.
 use Prim.Native.Nat.{ℕ, zero, suc, _+_, _≤_, _<_}
 use native.Mathlib.Omega.{arith}
 use native.Mathlib.Nat.{lt-of-not-le}
@@ -22,7 +22,7 @@ at ns i = getD ns i (pos 0)
 abbrev pub Without : ℤ → ℕ → List ℤ → Type 0
 Without k n ns = (i : ℕ) → i < n → at ns i ≡ k → ⊥
 
--- The first position that has a number: so many behind the place from which they are counted.
+-- The first position that has a number, as an answer `place` that counts from `from`.
 record FirstAt (k : ℤ) (from : ℕ) (ns : List ℤ) (place : ℕ) : Type 0 where
   position : ℕ
   stands : place ≡ from + position
@@ -40,10 +40,10 @@ without-more : (k n : ℤ) (j : ℕ) (ns : List ℤ) → sameNumber k n ≡ fals
 without-more k n j ns test none zero h e = same-differs k n test (sym e)
 without-more k n j ns test none (suc i) h e = none i (omega arith) e
 
--- a number that is another's is found behind it
-found-behind : (k n : ℤ) (from : ℕ) (ns : List ℤ) (o : Option ℕ) → sameNumber k n ≡ false → Found k (suc from) ns o → Found k from (n ∷ ns) o
-found-behind k n from ns absent test none = without-more k n (length ns) ns test none
-found-behind k n from ns (some place) test f =
+-- a number that the first position doesn't have is found after it
+found-after : (k n : ℤ) (from : ℕ) (ns : List ℤ) (o : Option ℕ) → sameNumber k n ≡ false → Found k (suc from) ns o → Found k from (n ∷ ns) o
+found-after k n from ns absent test none = without-more k n (length ns) ns test none
+found-after k n from ns (some place) test f =
     record {
       position = suc (f .position);
       stands = omega (arith, f .stands);
@@ -60,16 +60,16 @@ found k from (n ∷ ns) = by-test (sameNumber k n) refl (found k (suc from) ns)
   where
     by-test : (b : Bool) → sameNumber k n ≡ b → Found k (suc from) ns (find k (suc from) ns)
         → Found k from (n ∷ ns) (elim b as (λ x. Option ℕ) [ true ↦ some from | false ↦ find k (suc from) ns ])
-    by-test true test behind =
+    by-test true test rest =
         record { position = 0; stands = omega arith; there = omega arith; same = sym (same-equal k n test); before = λ i h e. omega arith }
-    by-test false test behind = found-behind k n from ns (find k (suc from) ns) test behind
+    by-test false test rest = found-after k n from ns (find k (suc from) ns) test rest
 
 -- no pair has its later position before this one
 abbrev pub NoneBefore : List ℤ → ℕ → Type 0
 NoneBefore ns later = (i j : ℕ) → Equal ns i j → later ≤ j
 
 module _ (ns : List ℤ) (j : ℕ) (there : j < length ns) (none : NoneBefore ns j) where
-  -- the first pair, where its later position is known
+  -- the first pair, if its later position is known
   pub first-equal : (i : ℕ) → i < j → at ns i ≡ at ns j → Without (at ns j) i ns → FirstEqual ns i j
   first-equal i order same before =
       record {
@@ -81,7 +81,7 @@ module _ (ns : List ℤ) (j : ℕ) (there : j < length ns) (none : NoneBefore ns
       least x y e here =
           omega (arith, lt-of-not-le {n = suc x} {m = i} (λ sooner. before x sooner (e .same ∙ ap (at ns) here)))
 
-  -- where no earlier position has the number here, no pair has its later position before the next
+  -- if no earlier position has the number here, no pair has its later position before the next
   pub none-here : Without (at ns j) j ns → NoneBefore ns (suc j)
   none-here before x y e =
       lt-of-not-le {n = y} {m = j} (λ far.
@@ -117,18 +117,18 @@ told-from ns (suc more) j size none =
     by-found absent f further =
         further (none-here ns j there none (λ i h e. f i (omega (arith, before-here)) (getD-take j ns i (pos 0) h ∙ e)))
 
--- What is found is the first pair, and where nothing is found there is none.
+-- What is found is the first pair, and if nothing is found there is none.
 pub told : (ns : List ℤ) → Told ns (pairOf ns)
 told ns = told-from ns (length ns) 0 (omega arith) (λ i j e. omega arith)
 
--- There is one first pair at most.
+-- There is at most one first pair.
 pub first-alone : (ns : List ℤ) (i j x y : ℕ) → FirstEqual ns i j → FirstEqual ns x y → (i ≡ x) × (j ≡ y)
 first-alone ns i j x y a b =
     let later : j ≡ y = omega (arith, a .first x y (b .pair) .0, b .first i j (a .pair) .0) in
     let earlier : i ≡ x = omega (arith, a .first x y (b .pair) .1 (sym later), b .first i j (a .pair) .1 later) in
     (earlier, later)
 
--- A pair is found exactly where it is the first.
+-- A pair is found exactly if it is the first.
 pub pair-found : (ns : List ℤ) (i j : ℕ) → (pairOf ns ≡ some (i, j)) ↔ FirstEqual ns i j
 pair-found ns i j = (λ e. rw e at (told ns), λ f. back f (pairOf ns) refl (told ns))
   where
@@ -138,7 +138,7 @@ pair-found ns i j = (λ e. rw e at (told ns), λ f. back f (pairOf ns) refl (tol
         let same = first-alone ns (p .0) (p .1) i j g f in
         is ∙ ap₂ (λ (x y : ℕ). some (x, y)) (same .0) (same .1)
 
--- None is found exactly where no two positions have equal numbers.
+-- None is found exactly if no two positions have equal numbers.
 pub pair-absent : (ns : List ℤ) → (pairOf ns ≡ absent) ↔ ((i j : ℕ) → Equal ns i j → ⊥)
 pair-absent ns = (λ e. rw e at (told ns), λ none. back none (pairOf ns) refl (told ns))
   where

@@ -1,4 +1,5 @@
--- The signed whole number that octets give: its magnitude grows octet by octet, and with at most 8 octets the number has 64 bits. Assumes nothing.
+-- The signed whole number that octets give: its magnitude is built octet by octet, and with at most 8 octets the number has 64 bits.
+-- Assumes nothing.
 use Prim.Native.Nat.{ℕ, zero, suc, _+_, _-_, _*_, _^_, _≤_, _<_}
 use native.Mathlib.Nat.{lt-of-lt-of-le, mul-le-mul, pow-le-pow-right}
 use native.Mathlib.Numerals.{add-one}

@@ -27,14 +27,14 @@ same-self (negsuc m) = eq-eqb m m refl
 pub equal-same : (x y : ℤ) → x ≡ y → sameNumber x y ≡ true
 equal-same x y e = rw e (same-self y)
 
--- and numbers that fail it are not
+-- and numbers that fail it are not equal
 pub same-differs : (x y : ℤ) → sameNumber x y ≡ false → x ≡ y → ⊥
 same-differs x y test e =
     let b : _≡_ {A = Bool} true false = sym (equal-same x y e) ∙ test in
     let z : _≡_ {A = ℕ} 0 1 = cc in
     omega arith
 
--- two numbers of 64 bits are the same where their bits are
+-- two numbers of 64 bits are the same if their bits are
 pub same-bits : (x y : ℤ) → mag x < 2 ^ 63 → mag y < 2 ^ 63 → eqb (ofZ w64 x) (ofZ w64 y) ≡ sameNumber x y
 same-bits (pos m) (pos n) p q = refl
 same-bits (pos m) (negsuc n) p q = ne-eqb m (2 ^ 64 - suc n) (λ e. omega arith)

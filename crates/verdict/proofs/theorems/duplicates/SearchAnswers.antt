@@ -12,7 +12,7 @@ use Rattle.crmf.specs.meaning.Messages.{Message, messages}
 use Rattle.editions.specs.declared.reader.Answer.{Answer}
 use Rattle.editions.specs.meaning.Membership.{InGrammar}
 use Rattle.editions.specs.meaning.Reading.{answer}
-use Rattle.editions.proofs.theorems.Demand2.{nest-read}
+use Rattle.editions.proofs.Laws.{nest-read}
 use Rattle.verdict.specs.declared.duplicates.Duplicates.{Duplicates}
 use Rattle.verdict.specs.meaning.Duplicates.{signed, ids, Equal, FirstEqual, pairOf, searched, duplicatesAnswer}
 use Rattle.verdict.proofs.theorems.duplicates.FirstPairs.{pair-found, pair-absent}
@@ -37,14 +37,14 @@ module _ (e : ℕ) (s : List ℕ) (zero : answer e s .number ≡ accepted) where
   unfolding duplicatesAnswer
   answer-searched = rw (duplicatesAnswer, eq-eqb (answer e s .number) 0 zero)
 
-  -- Of an accepted batch a pair is answered exactly where it is the first.
+  -- For an accepted batch, a pair is answered exactly if it is the first.
   pub pair-exactly : (i j : ℕ) → (duplicatesAnswer e s ≡ searched (some (i, j))) ↔ FirstEqual (ids s) i j
   pair-exactly i j = (
     λ is. pair-found (ids s) i j .0 (same-pair (pairOf (ids s)) (some (i, j)) (sym answer-searched ∙ is)),
     λ first. answer-searched ∙ ap searched (pair-found (ids s) i j .1 first),
   )
 
-  -- That there is none is answered exactly where no two certReqIds are equal.
+  -- That there is none is answered exactly if no two certReqIds are equal.
   pub none-exactly : (duplicatesAnswer e s ≡ searched absent) ↔ ((i j : ℕ) → Equal (ids s) i j → ⊥)
   none-exactly = (
     λ is. pair-absent (ids s) .0 (same-pair (pairOf (ids s)) absent (sym answer-searched ∙ is)),

@@ -31,7 +31,7 @@ record Number : Type 0 where
   octets : List ℕ
   value : ℤ
 
--- the ends of 8 bits and of 64 bits, and what stands next to the former
+-- the least and the greatest number of 8 bits, their neighbours, and those of 64 bits
 numbers : List Number
 numbers =
     record { octets = 0x00 ∷ []; value = pos 0 }

@@ -1,4 +1,4 @@
--- The verdict's answer by the ways of the code. Assumes nothing.
+-- The verdict's answer by the cases of the code. Assumes nothing.
 use Prim.Native.Nat.{ℕ, _≤_, _<_}
 use mathlib.Core.Path.{_≡_}
 use mathlib.Core.List.{List}

@@ -1,4 +1,4 @@
--- An accepted batch: its tree, and its messages as code reads them from place to place. Assumes nothing.
+-- An accepted batch: its tree, and its messages as the code reads them from place to place. Assumes nothing.
 use Prim.Native.Nat.{ℕ, _+_, _≤_, _<_}
 use native.Mathlib.Omega.{arith}
 use mathlib.Core.Path.{_≡_, refl, sym, ap, subst, _∙_}
@@ -21,13 +21,13 @@ use Rattle.crmf.specs.meaning.Messages.{Message, messageOf, batch, messages}
 use Rattle.crmf.proofs.Laws.{fieldAt, fields-end, fields-at, batch-at, messages-inside, message-field, MessageParts, batch-content, message-parts}
 use Rattle.editions.specs.meaning.Membership.{InGrammar}
 use Rattle.editions.specs.meaning.Reading.{answer}
-use Rattle.editions.proofs.theorems.Demand2.{accepted-in, nest-read}
+use Rattle.editions.proofs.Laws.{accepted-in, nest-read}
 use Rattle.verdict.specs.meaning.Verdict.{noMessage, messageAt}
 use Rattle.verdict.specs.steps.Judging.{Places}
 use Rattle.verdict.proofs.theorems.verdict.Elements.{content-places}
 use Rattle.verdict.proofs.theorems.verdict.MessagePlaces.{inside-read, thirty-made}
 
--- What an accepted batch is, of the tree that its bytes are read as.
+-- What is known of an accepted batch by the tree that its bytes are read as.
 pub record Accepted (e : ℕ) (s : List ℕ) : Type 0 where
   pub short : length s ≤ longest
   pub top : Matches (λ x. eqb x e) (content Top) (tree 0 s)
@@ -35,7 +35,7 @@ pub record Accepted (e : ℕ) (s : List ℕ) : Type 0 where
   pub single : Single (tree 0 s)
   pub encoded : encode (tree 0 s) ≡ s
 
--- bytes in the grammar
+-- it is known of bytes in the grammar,
 pub in-tree : {e : ℕ} {s : List ℕ} → InGrammar e s → Accepted e s
 in-tree {e} {s} g =
     let same : g .nest ≡ tree 0 s = sym (nest-read s g) in
@@ -47,7 +47,7 @@ in-tree {e} {s} g =
       encoded = ap encode (sym same) ∙ g .encoded;
     }
 
--- an accepted batch is one
+-- and so of an accepted batch
 pub accepted-tree : (e : ℕ) (s : List ℕ) → Octets s → answer e s .number ≡ accepted → Accepted e s
 accepted-tree e s octets none = in-tree (accepted-in e s octets none .0)
 
@@ -56,7 +56,7 @@ accepted-some : {e : ℕ} (s : List ℕ) → Accepted e s → 0 < length s
 accepted-some [] a = absurd (single-none (subst Single (tree-end 0) (a .single)))
 accepted-some (b ∷ s) a = omega arith
 
--- the first behind n of a list's elements is the one at that position
+-- the first after n elements of a list is the one at position n
 module _ {A : Type 0} (n : ℕ) (l : List A) where
   drop-none : drop n l ≡ [] → length l ≤ n
   drop-none same = omega (arith, length-drop n l, ap length same)
@@ -77,7 +77,7 @@ module _ {A : Type 0} (n : ℕ) (l : List A) where
 pub position-member : (s : List ℕ) (position : ℕ) → position < length (messages (tree 0 s)) → List·Memᴰ (messageAt s position) (messages (tree 0 s))
 position-member s position within = drop-member position (messages (tree 0 s)) (drop-cons (messages (tree 0 s)) position (noMessage s) within)
 
--- A message stands at a position, from a place to an end.
+-- The message at a position is the first of the fields from one place to another.
 pub record StandsThere (s : List ℕ) (position at end : ℕ) : Type 0 where
   pub within : position < length (messages (tree 0 s))
   pub more : List Field

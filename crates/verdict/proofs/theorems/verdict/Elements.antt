@@ -18,11 +18,11 @@ use Rattle.crmf.proofs.Laws.{fieldAt, fields-end, fields-at, first-with-none, f
 use Rattle.verdict.specs.declared.verdict.Extent.{Extent}
 use Rattle.verdict.specs.steps.Judging.{Places, partOf, FieldFound}
 
--- what is found of equal things
+-- what is found of equal fields
 pub found-as : {o p : Option Field} {r : Extent} → o ≡ p → FieldFound o r → FieldFound p r
 found-as {o} {p} {r} same found = subst (λ (q : Option Field). FieldFound q r) same found
 
--- what is found has a length exactly where it is a field
+-- what is found has a length exactly if it is a field
 pub found-holds : (o : Option Field) (r : Extent) → FieldFound o r → not (eqb (r .length) 0) ≡ elim o [ absent ↦ false | some x ↦ true ]
 found-holds absent r found = ap not (eq-eqb (r .length) 0 (ap (λ (p : Extent). p .length) (found .part)))
 found-holds (some x) r found = ap not (ne-eqb (r .length) 0 (λ e. Option·some-ne-none x (found .none e)))
@@ -43,7 +43,7 @@ module _ (s : List ℕ) (at end : ℕ) (lent : Places s at end) where
     between : (at ≤ x .content) × (x .content ≤ x .end) × (x .end ≤ end)
     between = rw read (read-at-within s at end (lent .order) (lent .within) (lent .short))
 
-    -- it ends where it starts or behind
+    -- it ends at its first place or after it
     pub read-forward : at ≤ x .end
     read-forward = let b = between in omega arith
 
@@ -51,9 +51,9 @@ module _ (s : List ℕ) (at end : ℕ) (lent : Places s at end) where
     pub content-places : Places s (x .content) (x .end)
     content-places = let b = between in record { order = b .1; within = omega (arith, lent .within); short = lent .short }
 
-    -- and so does what stands behind it
-    pub behind-places : Places s (x .end) end
-    behind-places = let b = between in record { order = b .2; within = lent .within; short = lent .short }
+    -- and so does the part after it
+    pub after-places : Places s (x .end) end
+    after-places = let b = between in record { order = b .2; within = lent .within; short = lent .short }
 
   module _ (room : at < end) (x : Element) (read : x ≡ readAt s at end) where
     -- the next element lies in order
@@ -77,6 +77,6 @@ module _ (s : List ℕ) (at end : ℕ) (lent : Places s at end) where
         let o = next-in-order in
         record { part = ap partOf (sym found); none = λ e. absurd (omega arith) }
 
-    -- or the search goes on behind it
+    -- or the search goes on after it
     pub find-next : (id : ℕ) → (x .identifier ≡ id → ⊥) → firstWith (id ∷ []) (fieldsBetween s (x .end) end) ≡ firstWith (id ∷ []) (fieldsBetween s at end)
     find-next id other = sym (ap (firstWith (id ∷ [])) next-fields ∙ first-with-next id (fieldAt s at x) (fieldsBetween s (x .end) end) other)

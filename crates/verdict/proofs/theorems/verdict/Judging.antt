@@ -1,4 +1,4 @@
--- The verdict on a message by its proof: each way of the code is the definition's. Assumes nothing.
+-- The verdict on a message by its proof: each case of the code is the definition's. Assumes nothing.
 use Prim.Native.Nat.{ℕ, _/_, _%_}
 use native.Mathlib.Omega.{arith}
 use mathlib.Core.Path.{_≡_, refl, sym, ap, ap₂, _∙_}
@@ -15,10 +15,10 @@ use Rattle.crmf.specs.meaning.Fields.{Field, fields, firstWith, child}
 use Rattle.crmf.specs.meaning.Messages.{Message, proofs}
 use Rattle.crmf.proofs.Laws.{proof-cases, child-first}
 use Rattle.verdict.specs.declared.verdict.Extent.{Extent}
-use Rattle.verdict.specs.meaning.Verdict.{keyAgreement, macMisplaced, noProof, raVerified, signatureNeither, signedInput, signedRequest, has, hasSubjectAndKey, signatureVerdict, enciphermentVerdict, agreementVerdict, verdictOf, inputOf, signedOf, verdictOn}
+use Rattle.verdict.specs.meaning.Verdict.{keyAgreement, misplacedDhMac, noProof, raVerified, otherSignature, signedPoposkInput, signedCertReq, has, hasSubjectAndKey, signatureVerdict, enciphermentVerdict, agreementVerdict, verdictOf, inputOf, signedOf, verdictOn}
 use Rattle.verdict.specs.steps.Judging.{partOf, holds, FieldFound, told, bare, signatureAnswer, proofAnswer}
 
--- by the identifier of what stands behind the certReq
+-- by the identifier of the element after the certReq
 module _ (id : ℕ) (inside : List Field) (both : Bool) (request : Extent) where
   pub answer-verified : id ≡ 0x80 → bare raVerified ≡ proofAnswer id inside both request
   unfolding proofAnswer
@@ -43,39 +43,39 @@ module _ (id : ℕ) (inside : List Field) (both : Bool) (request : Extent) where
 -- the verdict on a signature, by the poposkInput that was found or not
 module _ (request : Extent) where
   pub signature-request : {o : Option Field} {input : Extent} {both : Bool} → FieldFound o input → input .length ≡ 0 → both ≡ true
-      → told signedRequest request ≡ signatureAnswer o both request
+      → told signedCertReq request ≡ signatureAnswer o both request
   unfolding signatureAnswer
   signature-request found empty hasSubjectAndKey = sym (ap₂ (λ (o : Option Field) (b : Bool). signatureAnswer o b request) (found .none empty) hasSubjectAndKey)
 
   pub signature-neither : {o : Option Field} {input : Extent} {both : Bool} → FieldFound o input → input .length ≡ 0 → both ≡ false
-      → bare signatureNeither ≡ signatureAnswer o both request
+      → bare otherSignature ≡ signatureAnswer o both request
   unfolding signatureAnswer
   signature-neither found empty unnamed = sym (ap₂ (λ (o : Option Field) (b : Bool). signatureAnswer o b request) (found .none empty) unnamed)
 
   pub signature-both : {o : Option Field} {input : Extent} {both : Bool} → FieldFound o input → (input .length ≡ 0 → ⊥) → both ≡ true
-      → bare signatureNeither ≡ signatureAnswer o both request
+      → bare otherSignature ≡ signatureAnswer o both request
   unfolding signatureAnswer
   signature-both {o = absent} found full hasSubjectAndKey = absurd (full (ap (λ (p : Extent). p .length) (found .part)))
   signature-both {o = some x} found full hasSubjectAndKey = sym (ap (λ (b : Bool). signatureAnswer (some x) b request) hasSubjectAndKey)
 
   pub signature-input : {o : Option Field} {input : Extent} {both : Bool} → FieldFound o input → (input .length ≡ 0 → ⊥) → both ≡ false
-      → told signedInput input ≡ signatureAnswer o both request
+      → told signedPoposkInput input ≡ signatureAnswer o both request
   unfolding signatureAnswer
   signature-input {o = absent} found full unnamed = absurd (full (ap (λ (p : Extent). p .length) (found .part)))
   signature-input {o = some x} found full unnamed =
-      ap (told signedInput) (found .part) ∙ sym (ap (λ (b : Bool). signatureAnswer (some x) b request) unnamed)
+      ap (told signedPoposkInput) (found .part) ∙ sym (ap (λ (b : Bool). signatureAnswer (some x) b request) unnamed)
 
--- with verdict 2 the certReq is signed, with 3 the poposkInput, and else nothing
+-- with verdict 2 the certReq is signed, with 3 the poposkInput, otherwise nothing
 module _ (m : Message) where
-  pub signed-request : verdictOf m ≡ signedRequest → signedOf m ≡ (m .certReq .place, m .certReq .whole)
+  pub signed-request : verdictOf m ≡ signedCertReq → signedOf m ≡ (m .certReq .place, m .certReq .whole)
   unfolding signedOf
   signed-request is = rw (signedOf, is)
 
-  pub signed-input : verdictOf m ≡ signedInput → signedOf m ≡ inputOf m
+  pub signed-input : verdictOf m ≡ signedPoposkInput → signedOf m ≡ inputOf m
   unfolding signedOf
   signed-input is = rw (signedOf, is) (ap (λ (v : ℕ). elim (eqb v 3) as (λ x. ℕ × ℕ) [ true ↦ inputOf m | false ↦ (0, 0) ]) is)
 
-  pub signed-nothing : (verdictOf m ≡ signedRequest → ⊥) → (verdictOf m ≡ signedInput → ⊥) → signedOf m ≡ (0, 0)
+  pub signed-nothing : (verdictOf m ≡ signedCertReq → ⊥) → (verdictOf m ≡ signedPoposkInput → ⊥) → signedOf m ≡ (0, 0)
   unfolding signedOf
   signed-nothing two three = rw (signedOf, ne-eqb _ _ two, ne-eqb _ _ three)
 
@@ -87,7 +87,7 @@ pub record SignedInput (m : Message) : Type 0 where
   pub input : Field
   pub found : child 0xA0 proof ≡ some input
 
--- an element with the identifier stands in a field where one stands among the fields inside it
+-- a field has an element with the identifier if one of the fields inside it has it
 pub has-first : (id : ℕ) (f : Field) → has id f ≡ holds id (fields (f .inside))
 has-first id f = ap (λ (o : Option Field). elim o as (λ y. Bool) [ absent ↦ false | some x ↦ true ]) (child-first id f)
 
@@ -144,7 +144,7 @@ module _ (m : Message) (p : Field) (proven : m .proof ≡ some p) where
       by-parts absent input false both = judged-for m 4 (verdict absent input false both)
       by-parts (some x) input true both = judged-for m 4 (verdict (some x) input true both)
       by-parts (some x) input false both =
-          ap (λ (q : ℕ × ℕ). told signedInput (record { from = q .0; length = q .1 })) (sym (input-is m (record { proof = p; proven = proven; signature = is; input = x; found = input })))
+          ap (λ (q : ℕ × ℕ). told signedPoposkInput (record { from = q .0; length = q .1 })) (sym (input-is m (record { proof = p; proven = proven; signature = is; input = x; found = input })))
           ∙ judged-for m 3 (verdict (some x) input false both)
 
   judged-encipherment : p .identifier ≡ 0xA2 → bare (enciphermentVerdict (has 0x82 p)) ≡ verdictOn m
@@ -157,11 +157,11 @@ module _ (m : Message) (p : Field) (proven : m .proof ≡ some p) where
   judged-agreement : p .identifier ≡ 0xA3 → bare (agreementVerdict (has 0x82 p) (hasSubjectAndKey m)) ≡ verdictOn m
   judged-agreement is = by-mac (has 0x82 p && not (hasSubjectAndKey m)) refl
     where
-      by-mac : (b : Bool) → (has 0x82 p && not (hasSubjectAndKey m)) ≡ b → bare (elim b [ true ↦ macMisplaced | false ↦ keyAgreement ]) ≡ verdictOn m
-      by-mac true mac = judged-for m 7 (by-proof is ∙ ap (λ (b : Bool). elim b as (λ x. ℕ) [ true ↦ macMisplaced | false ↦ keyAgreement ]) mac)
-      by-mac false mac = judged-for m 6 (by-proof is ∙ ap (λ (b : Bool). elim b as (λ x. ℕ) [ true ↦ macMisplaced | false ↦ keyAgreement ]) mac)
+      by-mac : (b : Bool) → (has 0x82 p && not (hasSubjectAndKey m)) ≡ b → bare (elim b [ true ↦ misplacedDhMac | false ↦ keyAgreement ]) ≡ verdictOn m
+      by-mac true mac = judged-for m 7 (by-proof is ∙ ap (λ (b : Bool). elim b as (λ x. ℕ) [ true ↦ misplacedDhMac | false ↦ keyAgreement ]) mac)
+      by-mac false mac = judged-for m 6 (by-proof is ∙ ap (λ (b : Bool). elim b as (λ x. ℕ) [ true ↦ misplacedDhMac | false ↦ keyAgreement ]) mac)
 
-  -- with a proof of one of the four identifiers, where the fields inside it are known if it is constructed
+  -- with a proof of one of the four identifiers; if it is constructed, the fields inside it are known
   pub judged-proof : among proofs (p .identifier) ≡ true → (inside : List Field) → (constructed (p .identifier) ≡ true → fields (p .inside) ≡ inside)
       → proofAnswer (p .identifier) inside (hasSubjectAndKey m) (partOf (some (m .certReq))) ≡ verdictOn m
   judged-proof one inside holding = by-identifier (proof-cases (p .identifier) one)
@@ -192,7 +192,7 @@ module _ (m : Message) (p : Field) (proven : m .proof ≡ some p) where
           ∙ judged-agreement is
 
   -- with verdict 3 there is one
-  pub input-there : among proofs (p .identifier) ≡ true → verdictOf m ≡ signedInput → SignedInput m
+  pub input-there : among proofs (p .identifier) ≡ true → verdictOf m ≡ signedPoposkInput → SignedInput m
   input-there one three = by-identifier (proof-cases (p .identifier) one)
     where
       by-input : p .identifier ≡ 0xA1 → (o : Option Field) → child 0xA0 p ≡ o → (b : Bool)

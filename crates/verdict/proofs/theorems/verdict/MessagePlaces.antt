@@ -1,4 +1,4 @@
--- A message read from place to place: what code reads as its certReq, its template and its proof are the message's own. Assumes nothing.
+-- A message read from place to place: what the code reads as its certReq, its template and its proof are the message's own. Assumes nothing.
 use Prim.Native.Nat.{ℕ, _<_}
 use native.Mathlib.Nat.{eq-or-lt-of-le}
 use native.Mathlib.Omega.{arith}
@@ -19,7 +19,7 @@ use Rattle.crmf.proofs.Laws.{fieldAt, fields-at, fields-begin, inside-fields, I
 use Rattle.verdict.specs.declared.verdict.Verdict.{Verdict}
 use Rattle.verdict.specs.meaning.Verdict.{hasSubjectAndKey, verdictOn}
 use Rattle.verdict.specs.steps.Judging.{Places, partOf, proofAnswer}
-use Rattle.verdict.proofs.theorems.verdict.Elements.{content-places, behind-places}
+use Rattle.verdict.proofs.theorems.verdict.Elements.{content-places, after-places}
 use Rattle.verdict.proofs.theorems.verdict.Judging.{judged-none, judged-proof}
 
 -- the fields inside the constructed one that is read at a place
@@ -34,13 +34,13 @@ pub thirty-made : (f : Field) → f .identifier ≡ 0x30 → constructed (f .ide
 thirty-made f is = ap constructed is ∙ sequence-constructed
 
 module _ (s : List ℕ) (at end : ℕ) (lent : Places s at end) (x : Element) (read : x ≡ readAt s at end) where
-  -- where there is a first field, it is the one that is read, and the others stand behind it
+  -- if there is a first field, it is the one that is read, and the others come after it
   pub first-read : {f : Field} {fs : List Field} → fieldsBetween s at end ≡ f ∷ fs → (fieldAt s at x ≡ f) × (fieldsBetween s (x .end) end ≡ fs)
   first-read same =
       let b = fields-begin s at end (lent .within) (lent .short) (lent .order) same in
-      (ap (fieldAt s at) read ∙ b .here, ap (λ (y : Element). fieldsBetween s (y .end) end) read ∙ b .behind)
+      (ap (fieldAt s at) read ∙ b .here, ap (λ (y : Element). fieldsBetween s (y .end) end) read ∙ b .after)
 
-  -- where there is none, nothing is read
+  -- if there is none, nothing is read
   pub none-read : fieldsBetween s at end ≡ [] → x .identifier ≡ 0
   none-read none = by-room (eq-or-lt-of-le (lent .order))
     where
@@ -55,7 +55,7 @@ pub first-inside : (s : List ℕ) (at end : ℕ) (lent : Places s at end) (x : E
     → fieldsBetween s (x .content) (x .end) ≡ fields (f .inside)
 first-inside s at end lent x read {f} same made = inside-read s at x f (first-read s at end lent x read same .0) made
 
--- Behind the certReq, the verdict is the one on what stands there.
+-- The verdict by the element after the certReq is the message's.
 module _ (s : List ℕ) (m : Message) (parts : MessageParts m) (at end : ℕ) (lent : Places s at end) (x : Element) (read : x ≡ readAt s at end) where
   -- what it is by an identifier
   abbrev judgedBy : ℕ → Verdict
@@ -79,7 +79,7 @@ module _ (s : List ℕ) (m : Message) (parts : MessageParts m) (at end : ℕ) (l
   pub proof-read : fieldsBetween s at end ≡ listed (m .proof) ++ listed (m .regInfo) → judgedBy (x .identifier) ≡ verdictOn m
   proof-read same = by-fields (m .proof) (m .regInfo) refl refl same
 
--- What is read inside a message: its certReq, what stands behind that, and what the certReq holds.
+-- What is read inside a message: its certReq, the fields after that, and those inside the certReq.
 module _ (s : List ℕ) (at end : ℕ) (lent : Places s at end) (x : Element) (read : x ≡ readAt s at end) (y : Element)
     (next : y ≡ readAt s (x .content) (x .end)) (m : Message) (more : List Field) (same : fieldsBetween s at end ≡ m .own ∷ more) (parts : MessageParts m) where
   held : fieldsBetween s (x .content) (x .end) ≡ m .certReq ∷ (listed (m .proof) ++ listed (m .regInfo))
@@ -98,4 +98,4 @@ pub template-held : (s : List ℕ) (at end : ℕ) (lent : Places s at end) (x y 
     → (m : Message) (more : List Field) → fieldsBetween s at end ≡ m .certReqId ∷ m .template ∷ more → m .template .identifier ≡ 0x30
     → fieldsBetween s (y .content) (y .end) ≡ fields (m .template .inside)
 template-held s at end lent x y read next m more same thirty =
-    first-inside s (x .end) end (behind-places s at end lent x read) y next (first-read s at end lent x read same .1) (thirty-made (m .template) thirty)
+    first-inside s (x .end) end (after-places s at end lent x read) y next (first-read s at end lent x read same .1) (thirty-made (m .template) thirty)

@@ -23,8 +23,7 @@ use Rattle.crmf.specs.meaning.Fields
 use Rattle.crmf.specs.meaning.Messages.{messageOf, batch, messages}
 use Rattle.editions.specs.meaning.Reading.{batchAnswer, answer}
 use Rattle.editions.specs.examples.Paper.{Entry, entries}
-use Rattle.editions.proofs.theorems.PaperVectors.{Reads}
-use Rattle.editions.proofs.theorems.PaperVectors as readings
+use Rattle.editions.proofs.Laws.{Reads, paper as read-paper}
 use Rattle.verdict.specs.meaning.Verdict.{verdictOf, signedOf, verdictAnswer}
 
 -- the verdicts on an entry's messages, from a position on
@@ -52,4 +51,4 @@ both P Q (x ∷ xs) p q = (p .0, q .0) & both P Q xs (p .1) (q .1)
 
 -- Every entry of the list is read and judged as document 01 says.
 pub paper : Each (λ x. Reads x × Judges x 0 (x .verdicts)) entries
-paper = both Reads (λ x. Judges x 0 (x .verdicts)) entries readings.paper judgings
+paper = both Reads (λ x. Judges x 0 (x .verdicts)) entries read-paper judgings

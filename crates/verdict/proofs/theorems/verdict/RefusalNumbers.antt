@@ -10,11 +10,11 @@ use Rattle.der.specs.meaning.Octets.{Octets}
 use Rattle.der.specs.steps.Reading.{tree}
 use Rattle.crmf.specs.meaning.Messages.{messages}
 use Rattle.editions.specs.meaning.Reading.{answer}
-use Rattle.editions.proofs.theorems.RefusalNumbers.{answer-number}
+use Rattle.editions.proofs.Laws.{answer-number}
 use Rattle.verdict.specs.declared.verdict.Verdict.{Verdict}
 use Rattle.verdict.specs.meaning.Verdict.{refused, verdictOn, messageAt, verdictAnswer}
 
--- the verdict answers a number up to 14
+-- the verdict answers a number of at most 14, the largest of its refusals
 pub verdict-number : (e : ℕ) (s : List ℕ) (position : ℕ) → Octets s → verdictAnswer e s position .number ≤ noSuchMessage
 unfolding verdictAnswer
 verdict-number e s position o = by-tests (eqb (answer e s .number) 0) (ltb position (length (messages (tree 0 s))))

@@ -70,7 +70,7 @@ chosen id choice = id ∷ 0x03 ∷ choice ∷ 0x01 ∷ 0x00 ∷ []
 abbrev pub case : List ℕ → List ℕ → ℕ → ℕ → ℕ → Case
 case r p v f n = record { request = r; proof = p; verdict = v; from = f; length = n }
 
--- the list
+-- the messages
 abbrev pub cases : List Case
 cases =
     -- "0 no proof. 1 raVerified."
@@ -102,7 +102,7 @@ Judges x =
     (verdictAnswer 1 (batchOf x) 0 ≡ record { number = 0; place = 0; verdict = x .verdict; from = x .from; length = x .length })
     × (verdictAnswer 1 (batchOf x) 1 ≡ record { number = 14; place = 0; verdict = 0; from = 0; length = 0 })
 
--- Every message of the list is judged as document 01 says, and there is none behind it.
+-- Every message of the list is judged as document 01 says, and there is none after it.
 pub each-verdict : Each Judges cases
 unfolding tagNumber constructed allowed valueFrom shortest longForm lengthOf sizedBy headOf
     integer lastOf unpadded objectIdentifier bitString holds listOf primitiveOf elementOf walkAt nothingAt given read treeOf tree same isEmpty isUpTo keeps typeNumber selected

@@ -1,5 +1,5 @@
--- What the verdict says: it speaks of the messages of the accepted batch's tree, and the part that it hands back is the certReq's octets or
--- the poposkInput's, as they stand in the bytes. Assumes nothing.
+-- What the verdict says: it is on the messages of the accepted batch's tree, and the part that it hands back is the certReq's octets or the
+-- poposkInput's, as they stand in the bytes. Assumes nothing.
 use Prim.Native.Nat.{ℕ, _+_, _≤_, _<_, _/_, _%_}
 use native.Mathlib.Omega.{arith}
 use mathlib.Core.Logic.{_⊎_, _↔_, inl, inr}
@@ -21,9 +21,9 @@ use Rattle.crmf.specs.meaning.Messages.{proofs, Message, messages}
 use Rattle.crmf.proofs.Laws.{IfAny, MessageParts, message-parts, messages-stand, proof-child-stands, child-identified, stands-part}
 use Rattle.editions.specs.meaning.Membership.{InGrammar}
 use Rattle.editions.specs.meaning.Reading.{answer}
-use Rattle.editions.proofs.theorems.Demand2.{nest-read}
+use Rattle.editions.proofs.Laws.{nest-read}
 use Rattle.verdict.specs.declared.verdict.Verdict.{Verdict}
-use Rattle.verdict.specs.meaning.Verdict.{signedInput, signedRequest, verdictOf, signedOf, messageAt, refused, verdictOn, verdictAnswer, signedOctets}
+use Rattle.verdict.specs.meaning.Verdict.{signedPoposkInput, signedCertReq, verdictOf, signedOf, messageAt, refused, verdictOn, verdictAnswer, signedOctets}
 use Rattle.verdict.proofs.theorems.verdict.Answers.{answer-refused, answer-missing, answer-judged}
 use Rattle.verdict.proofs.theorems.verdict.Batches.{Accepted, accepted-tree, position-member}
 use Rattle.verdict.proofs.theorems.verdict.Judging.{SignedInput, input-is, input-there, judged-none, signed-request, signed-input, signed-nothing}
@@ -32,7 +32,7 @@ use Rattle.verdict.proofs.theorems.verdict.Judging.{SignedInput, input-
 pub batch-messages : {e : ℕ} (s : List ℕ) (g : InGrammar e s) → messages (tree 0 s) ≡ messages (g .nest)
 batch-messages s g = ap messages (nest-read s g)
 
--- A verdict, and no refusal: the batch is accepted, a message stands at the position, and the answer is that message's.
+-- A verdict, and no refusal: the batch is accepted, there is a message at the position, and the answer is that message's.
 pub record Judged (e : ℕ) (s : List ℕ) (position : ℕ) : Type 0 where
   pub accepted : answer e s .number ≡ accepted
   pub within : position < length (messages (tree 0 s))
@@ -63,7 +63,7 @@ module _ (e : ℕ) (s : List ℕ) (position : ℕ) where
   pub verdict-ways : Judged e s position ⊎ Refused e s position
   verdict-ways = by-number (eqb (answer e s .number) 0) refl
 
-  -- The answer's number is 0 exactly where the batch is accepted and has a message at the position.
+  -- The answer's number is 0 exactly if the batch is accepted and has a message at the position.
   pub judged-exactly : (verdictAnswer e s position .number ≡ accepted) ↔ ((answer e s .number ≡ accepted) × (position < length (messages (tree 0 s))))
   judged-exactly = (λ zero. there zero verdict-ways, λ (zero, within). ap (λ (v : Verdict). v .number) (sym (answer-judged e s position zero within)))
     where
@@ -89,7 +89,7 @@ module _ {e : ℕ} (s : List ℕ) (a : Accepted e s) (m : Message) (n : List·Me
       stands-part s (i .input) (subst (λ (bs : List ℕ). StandsAt bs (i .input .place) (octets (i .input))) (a .encoded) (stands .0)) (stands .1)
 
   -- with verdict 3 there is such a signature
-  input-read : verdictOf m ≡ signedInput → SignedInput m
+  input-read : verdictOf m ≡ signedPoposkInput → SignedInput m
   input-read three = by-proof (m .proof) refl
     where
       by-proof : (o : Option Field) → m .proof ≡ o → SignedInput m
@@ -100,7 +100,7 @@ module _ {e : ℕ} (s : List ℕ) (a : Accepted e s) (m : Message) (n : List·Me
   part-fits : signedOf m .0 + signedOf m .1 ≤ length s
   part-fits = by-request (eqb (verdictOf m) 2) refl
     where
-      by-input : (verdictOf m ≡ signedRequest → ⊥) → (b : Bool) → eqb (verdictOf m) 3 ≡ b → signedOf m .0 + signedOf m .1 ≤ length s
+      by-input : (verdictOf m ≡ signedCertReq → ⊥) → (b : Bool) → eqb (verdictOf m) 3 ≡ b → signedOf m .0 + signedOf m .1 ≤ length s
       by-input two true test =
           let three = eqb-true _ _ test in
           let i = input-read three in
@@ -136,7 +136,7 @@ module _ (e : ℕ) (s : List ℕ) (position : ℕ) (known : Octets s) where
   none-refused r is = sym is ∙ ap (λ (v : Verdict). v .verdict) (r .same)
 
   -- With verdict 2 it is the octets of the message's certReq.
-  pub request-signed : told .verdict ≡ signedRequest → signedOctets s told ≡ octets (message .certReq)
+  pub request-signed : told .verdict ≡ signedCertReq → signedOctets s told ≡ octets (message .certReq)
   request-signed two = by-way (verdict-ways e s position)
     where
       by-way : Judged e s position ⊎ Refused e s position → signedOctets s told ≡ octets (message .certReq)
@@ -147,7 +147,7 @@ module _ (e : ℕ) (s : List ℕ) (position : ℕ) (known : Octets s) where
       by-way (inr r) = absurd (omega (arith, none-refused r two))
 
   -- With verdict 3 it is the octets of the poposkInput, from its A0 on.
-  pub input-signed : told .verdict ≡ signedInput → (i : SignedInput message) × ((i .input .identifier ≡ 0xA0) × (signedOctets s told ≡ octets (i .input)))
+  pub input-signed : told .verdict ≡ signedPoposkInput → (i : SignedInput message) × ((i .input .identifier ≡ 0xA0) × (signedOctets s told ≡ octets (i .input)))
   input-signed three = by-way (verdict-ways e s position)
     where
       by-way : Judged e s position ⊎ Refused e s position → (i : SignedInput message) × ((i .input .identifier ≡ 0xA0) × (signedOctets s told ≡ octets (i .input)))
@@ -163,7 +163,7 @@ module _ (e : ℕ) (s : List ℕ) (position : ℕ) (known : Octets s) where
       by-way (inr r) = absurd (omega (arith, none-refused r three))
 
   -- With any other verdict, and with a refusal, it is empty.
-  pub nothing-signed : (told .verdict ≡ signedRequest → ⊥) → (told .verdict ≡ signedInput → ⊥) → signedOctets s told ≡ []
+  pub nothing-signed : (told .verdict ≡ signedCertReq → ⊥) → (told .verdict ≡ signedPoposkInput → ⊥) → signedOctets s told ≡ []
   nothing-signed two three = by-way (verdict-ways e s position)
     where
       by-way : Judged e s position ⊎ Refused e s position → signedOctets s told ≡ []

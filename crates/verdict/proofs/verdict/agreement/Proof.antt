@@ -2,13 +2,13 @@
 use Prim.Native.Nat.{ℕ}
 use mathlib.Core.Path.{sym, ap}
 use mathlib.Core.Bool.{Bool, true, false}
-use Rattle.verdict.specs.meaning.Verdict.{keyAgreement, macMisplaced}
+use Rattle.verdict.specs.meaning.Verdict.{keyAgreement, misplacedDhMac}
 use Rattle.verdict.proofs.verdict.agreement.Statement.{statement}
 use Rattle.verdict.proofs.verdict.agreement.Tie as tie
 
 -- the verdict by the test
 abbrev by-test : Bool → ℕ
-by-test t = elim t [ true ↦ macMisplaced | false ↦ keyAgreement ]
+by-test t = elim t [ true ↦ misplacedDhMac | false ↦ keyAgreement ]
 
 returns : tie.Need-returns
 returns c = sym (ap by-test (c .if1 .taken))

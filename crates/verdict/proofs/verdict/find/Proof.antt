@@ -1,4 +1,4 @@
--- `verdict::verdict::find` meets its contract. The loop's invariant: the search from its place finds what it finds from where it began.
+-- `verdict::verdict::find` meets its contract. The loop's invariant: the search from its place finds what the search from the first place does.
 -- Assumes nothing.
 use Prim.Native.Nat.{_-_}
 use native.Mathlib.Omega.{arith}
@@ -8,7 +8,7 @@ use borrow.Author.Needs.{needs}
 use Rattle.der.proofs.Laws.{InOrder}
 use Rattle.crmf.specs.meaning.Fields.{fieldsBetween, firstWith}
 use Rattle.verdict.specs.steps.Judging.{Places}
-use Rattle.verdict.proofs.theorems.verdict.Elements.{found-as, find-end, next-in-order, behind-places, find-here, find-next}
+use Rattle.verdict.proofs.theorems.verdict.Elements.{found-as, find-end, next-in-order, after-places, find-here, find-next}
 use Rattle.verdict.proofs.verdict.find.Statement.{statement}
 use Rattle.verdict.proofs.verdict.find.Tie as tie
 
@@ -50,7 +50,7 @@ loop-again c =
     let r = c .before .before in
     let a = r .before .before .before .before .args in
     let l = r .before .before .loop in (
-      behind-places (a .bytes .now) (l .place) (a .end) (l .inv .0) (r .read-at .result) (r .read-at .ensures),
+      after-places (a .bytes .now) (l .place) (a .end) (l .inv .0) (r .read-at .result) (r .read-at .ensures),
       find-next (a .bytes .now) (l .place) (a .end) (l .inv .0) (r .before .loop-test .taken) (r .read-at .result) (r .read-at .ensures) (a .id) (c .if1 .left)
           ∙ l .inv .1,
     )

@@ -3,7 +3,7 @@ use borrow.Author.Needs.{needs}
 use mathlib.Core.Path.{sym, ap, ap₂, _∙_}
 use mathlib.Core.Bool.{_&&_}
 use Rattle.verdict.specs.steps.Judging.{Places, holds}
-use Rattle.verdict.proofs.theorems.verdict.Elements.{content-places, behind-places}
+use Rattle.verdict.proofs.theorems.verdict.Elements.{content-places, after-places}
 use Rattle.verdict.proofs.theorems.verdict.Judging.{has-first}
 use Rattle.verdict.proofs.theorems.verdict.MessagePlaces.{template-held}
 use Rattle.verdict.proofs.verdict.is_named.Statement.{statement}
@@ -22,7 +22,7 @@ within c =
     let a = start .args in
     let first = c .before .read-at in
     content-places (a .bytes .now) (first .result .end) (a .end)
-    (behind-places (a .bytes .now) (a .at) (a .end) (start .pre) (first .result) (first .ensures)) (c .read-at2 .result) (c .read-at2 .ensures)
+    (after-places (a .bytes .now) (a .at) (a .end) (start .pre) (first .result) (first .ensures)) (c .read-at2 .result) (c .read-at2 .ensures)
 
 has-requires : tie.Need-has-requires
 has-requires c κs = within c

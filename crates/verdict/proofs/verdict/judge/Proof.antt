@@ -1,4 +1,4 @@
--- `verdict::verdict::judge` meets its contract: refused as by reading, no message at the position, or that message's verdict. Assumes nothing.
+-- `verdict::verdict::judge` meets its contract: the refusal of reading, no message at the position, or that message's verdict. Assumes nothing.
 use borrow.Author.Needs.{needs}
 use mathlib.Core.Path.{_≡_, sym, ap, _∙_}
 use Rattle.der.specs.meaning.Refusal.{accepted as acceptance}

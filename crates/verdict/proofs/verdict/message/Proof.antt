@@ -1,10 +1,10 @@
--- `verdict::verdict::message` meets its contract: what is read in a message are its certReq and its proof. Assumes nothing.
+-- `verdict::verdict::message` meets its contract: the elements that are read in a message are its certReq and its proof. Assumes nothing.
 use borrow.Author.Needs.{needs}
 use mathlib.Core.Path.{ap, ap₂, _∙_}
 use mathlib.Core.Option.{some}
 use Rattle.crmf.specs.meaning.Fields.{Field, fieldsBetween, listed}
 use Rattle.verdict.specs.steps.Judging.{Places, partOf, proofAnswer}
-use Rattle.verdict.proofs.theorems.verdict.Elements.{read-forward, content-places, behind-places}
+use Rattle.verdict.proofs.theorems.verdict.Elements.{read-forward, content-places, after-places}
 use Rattle.verdict.proofs.theorems.verdict.MessagePlaces.{request-read, request-held, proof-read}
 use Rattle.verdict.proofs.verdict.message.Statement.{statement}
 use Rattle.verdict.proofs.verdict.message.Tie as tie
@@ -22,11 +22,11 @@ inside c =
     let a = start .args in
     content-places (a .bytes .now) (a .at) (a .end) (start .pre) (c .read-at .result) (c .read-at .ensures)
 
--- and so does what stands behind the certReq
-behind : (c : tie.After-read-at2) → Places (c .before .before .before .args .bytes .now) (c .read-at2 .result .end) (c .before .read-at .result .end)
-behind c =
+-- and so does the part after the certReq
+after : (c : tie.After-read-at2) → Places (c .before .before .before .args .bytes .now) (c .read-at2 .result .end) (c .before .read-at .result .end)
+after c =
     let own = c .before .read-at .result in
-    behind-places (c .before .before .before .args .bytes .now) (own .content) (own .end) (inside (c .before)) (c .read-at2 .result) (c .read-at2 .ensures)
+    after-places (c .before .before .before .args .bytes .now) (own .content) (own .end) (inside (c .before)) (c .read-at2 .result) (c .read-at2 .ensures)
 
 is-named-requires : tie.Need-is-named-requires
 is-named-requires c κs =
@@ -44,7 +44,7 @@ read-at-requires-3 c κs = search needs
 proof-verdict-requires : tie.Need-proof-verdict-requires
 proof-verdict-requires c κs =
     let request = c .before .before in
-    content-places (request .before .before .before .args .bytes .now) (request .read-at2 .result .end) (request .before .read-at .result .end) (behind request) (c .read-at3 .result) (c .read-at3 .ensures)
+    content-places (request .before .before .before .args .bytes .now) (request .read-at2 .result .end) (request .before .read-at .result .end) (after request) (c .read-at3 .result) (c .read-at3 .ensures)
 
 returns : tie.Need-returns
 returns c = λ m more same parts.
@@ -59,7 +59,7 @@ returns c = λ m more same parts.
     let both = told .ensures m (listed (m .controls)) (request-held s (a .at) (a .end) (start .pre) (own .result) (own .ensures) (request .read-at2 .result) (request .read-at2 .ensures) m more same parts) (parts .template) in
     c .proof-verdict .ensures
     ∙ ap₂ (proofAnswer (proof .result .identifier) (fieldsBetween s (proof .result .content) (proof .result .end))) both (ap (λ (f : Field). partOf (some f)) (found .0))
-    ∙ proof-read s m parts (request .read-at2 .result .end) (own .result .end) (behind request) (proof .result) (proof .ensures) (found .1)
+    ∙ proof-read s m parts (request .read-at2 .result .end) (own .result .end) (after request) (proof .result) (proof .ensures) (found .1)
 
 pub message-spec : {M : Type 1} → statement M
 message-spec =

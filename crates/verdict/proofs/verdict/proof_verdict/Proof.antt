@@ -1,4 +1,4 @@
--- `verdict::verdict::proof_verdict` meets its contract: by the identifier, each way is the definition's. Assumes nothing.
+-- `verdict::verdict::proof_verdict` meets its contract: each case of the identifier is the definition's. Assumes nothing.
 use borrow.Author.Needs.{needs}
 use mathlib.Core.Path.{ap, _∙_}
 use mathlib.Core.Bool.{Bool}

@@ -1,4 +1,4 @@
--- `verdict::verdict::signature` meets its contract: what is found has a length exactly where it is a field. Assumes nothing.
+-- `verdict::verdict::signature` meets its contract: what is found has a length exactly if it is a field. Assumes nothing.
 use borrow.Author.Needs.{needs}
 use mathlib.Core.Path.{_∙_}
 use Rattle.verdict.proofs.theorems.verdict.Judging.{signature-request, signature-neither, signature-both, signature-input}

@@ -1,5 +1,5 @@
--- `verdict::verdict::skip` meets its contract. The loop's invariant: what is left to skip from its place skips what was to be skipped from
--- where it began. Assumes nothing.
+-- `verdict::verdict::skip` meets its contract. The loop's invariant: skipping the elements that are left from its place gives what skipping all
+-- of them from the first place does. Assumes nothing.
 use Prim.Native.Nat.{ℕ, suc, _-_}
 use native.Mathlib.Omega.{arith}
 use mathlib.Core.Path.{_≡_, refl, sym, ap, _∙_}
@@ -7,7 +7,7 @@ use borrow.Author.Needs.{needs}
 use lib.ListN.{drop}
 use Rattle.crmf.specs.meaning.Fields.{fieldsBetween}
 use Rattle.verdict.specs.steps.Judging.{Places}
-use Rattle.verdict.proofs.theorems.verdict.Elements.{skip-end, behind-places, skip-next}
+use Rattle.verdict.proofs.theorems.verdict.Elements.{skip-end, after-places, skip-next}
 use Rattle.verdict.proofs.verdict.skip.Statement.{statement}
 use Rattle.verdict.proofs.verdict.skip.Tie as tie
 
@@ -42,7 +42,7 @@ loop-again c =
     let l = c .before .before .before .loop in
     let room = c .before .if1 .left in
     let one : suc (l .left - 1) ≡ l .left = omega arith in (
-      behind-places (a .bytes .now) (l .place) (a .end) (l .inv .0) (c .read-at .result) (c .read-at .ensures),
+      after-places (a .bytes .now) (l .place) (a .end) (l .inv .0) (c .read-at .result) (c .read-at .ensures),
       skip-next (a .bytes .now) (l .place) (a .end) (l .inv .0) room (c .read-at .result) (c .read-at .ensures) (l .left - 1)
           ∙ ap (λ (n : ℕ). drop n (fieldsBetween (a .bytes .now) (l .place) (a .end))) one
           ∙ l .inv .1,

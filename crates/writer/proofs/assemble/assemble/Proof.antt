@@ -1,4 +1,4 @@
--- `writer::assemble::assemble` meets its contract. The loop's invariant: the octets of the rows before `i` stand in the scratch. Assumes nothing.
+-- `writer::assemble::assemble` meets its contract. The loop's invariant: the scratch begins with the octets of the rows before `i`. Assumes nothing.
 use borrow.Author.Needs.{needs}
 use Prim.Native.Nat.{_-_, _<_}
 use lib.ListN.{length, getD}

@@ -1,4 +1,4 @@
--- `writer::writer::write` meets its contract: each test is one of the definition's, and where a batch is found the scratch begins with it.
+-- `writer::writer::write` meets its contract: each test is one of the definition's, and if a batch is found the scratch begins with it.
 -- Assumes nothing.
 use Prim.Native.Nat.{ℕ, _≤_}
 use borrow.Author.Needs.{needs}

@@ -1,4 +1,4 @@
--- `crmf::explain::tally::with_form` meets its contract: each way out is what is noted. Assumes nothing.
+-- `crmf::explain::tally::with_form` meets its contract: each way out is what the definition notes. Assumes nothing.
 use mathlib.Core.Path.{refl, sym}
 use Rattle.crmf.proofs.theorems.explain.Meeting.{met-one, met-two, met-none}
 use Rattle.crmf.proofs.explain.tally.with_form.Statement.{statement}

@@ -18,7 +18,7 @@ judge-of-requires c κs = search needs
 next-of-requires : tie.Need-next-of-requires
 next-of-requires c κs = search needs
 
--- behind the reading of the word
+-- after the reading of the word
 module _ (c : tie.After-next-of) where
   abbrev start : tie.Start
   start = c .before .before .before
@@ -26,7 +26,7 @@ module _ (c : tie.After-next-of) where
   abbrev content : List ℕ
   content = start .args .content .now
 
-  -- the judge's code and the line behind are the line's
+  -- the judge's code and the next line are the line's
   coded : (k : ℕ) → start .args .word ≡ getD packed k 0 → judgeCode (line k .judge) ≡ c .before .judge-of .result
   coded k e = sym (judge-at k) ∙ ap judgeField (sym e) ∙ sym (c .before .judge-of .ensures)
 

@@ -1,5 +1,5 @@
--- `crmf::grammar::table::closed` meets its contract. The loop's invariant: the container may end where it began if it may end at the line looked at.
--- Assumes nothing.
+-- `crmf::grammar::table::closed` meets its contract. The loop's invariant: a container may end at the line looked at exactly if it may
+-- end at `from`. Assumes nothing.
 use Prim.Native.Nat.{_-_, _<_}
 use mathlib.Core.Path.{_≡_, refl, _∙_}
 use native.Mathlib.Omega.{arith}
@@ -28,7 +28,7 @@ mul-pass c = search needs
 element-copy-out-pass : tie.Need-element-copy-out-pass Inv-loop μ-loop
 element-copy-out-pass c = search needs
 
--- the loop's test is one of the number of lines
+-- the loop's test compares with the number of lines
 inside : (c : tie.In-loop Inv-loop μ-loop) → c .before .loop .k < lineCount
 unfolding lineCount
 inside c = c .loop-test .taken

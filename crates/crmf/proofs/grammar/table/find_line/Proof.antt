@@ -1,5 +1,5 @@
--- `crmf::grammar::table::find_line` meets its contract. The loop's invariant: the search from the line looked at finds what it finds from where it began.
--- Assumes nothing.
+-- `crmf::grammar::table::find_line` meets its contract. The loop's invariant: the search from the line looked at finds what the search
+-- from `from` finds. Assumes nothing.
 use Prim.Native.Nat.{_-_, _<_}
 use mathlib.Core.Bool.{false}
 use mathlib.Core.Path.{_≡_, refl, sym, ap, _∙_}
@@ -30,7 +30,7 @@ mul-word c = search needs
 element-copy-out-word : tie.Need-element-copy-out-word Inv-loop μ-loop
 element-copy-out-word c = search needs
 
--- the loop's test is one of the number of lines
+-- the loop's test compares with the number of lines
 inside : (c : tie.In-loop Inv-loop μ-loop) → c .before .loop .k < lineCount
 unfolding lineCount
 inside c = c .loop-test .taken
@@ -65,7 +65,7 @@ returns-2 c =
     let e = coded d in
     c .here .ensures (line k .identifiers) (sym e) ∙ find-line-ends k (inside (d .before)) (a d .before .args .id) (omega arith) ∙ a d .loop .inv
 
--- behind the two tests of its identifiers the line doesn't have the identifier
+-- after the two tests of its identifiers the line doesn't have the identifier
 unfit : (c : tie.Else2 Inv-loop μ-loop) →
     let d = c .before .before in
     named (line (a d .loop .k) .identifiers) (a d .before .args .id) ≡ false

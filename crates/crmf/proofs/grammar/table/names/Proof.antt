@@ -1,4 +1,4 @@
--- `crmf::grammar::table::names` meets its contract: the codes of identifiers tell their ways apart. Assumes nothing.
+-- `crmf::grammar::table::names` meets its contract: the codes tell the identifiers apart. Assumes nothing.
 use mathlib.Core.Path.{sym}
 use native.Mathlib.Omega.{arith}
 use borrow.Author.Needs.{needs}

@@ -1,4 +1,4 @@
--- `crmf::grammar::value::days_in` meets its contract: a number above 12 is no month of the table, and the day more is February's in a leap
+-- `crmf::grammar::value::days_in` meets its contract: a number above 12 is no month, and the table has one day less than February has in a leap
 -- year. Assumes nothing.
 use mathlib.Core.Bool.{and-false}
 use mathlib.Core.Path.{_≡_, sym}

@@ -1,4 +1,4 @@
--- `crmf::grammar::value::keeps` meets its contract: each arm's code is one rule's, and what no arm names is the last rule's. Assumes nothing.
+-- `crmf::grammar::value::keeps` meets its contract: each arm's code is one rule's, and any other code is the last rule's. Assumes nothing.
 use Prim.Native.Nat.{ℕ, _≤_, zero-le, _<_}
 use mathlib.Core.Bool.{not}
 use mathlib.Core.Path.{_≡_, sym, ap, _∙_}

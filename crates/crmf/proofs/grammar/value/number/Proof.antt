@@ -1,4 +1,5 @@
--- `crmf::grammar::value::number` meets its contract: its test is the definition's, and where it passes there is an octet to read. Assumes nothing.
+-- `crmf::grammar::value::number` meets its contract: its test is the definition's, and if it passes, there is an octet to read.
+-- Assumes nothing.
 use mathlib.Core.Path.{sym, _∙_}
 use borrow.Author.Needs.{needs}
 use borrow.Author.Tests.{eqb-true}

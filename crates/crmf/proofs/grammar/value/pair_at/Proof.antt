@@ -1,4 +1,5 @@
--- `crmf::grammar::value::pair_at` meets its contract: its test is the definition's, and where it passes the digits are in their range. Assumes nothing.
+-- `crmf::grammar::value::pair_at` meets its contract: its test is the definition's, and if it passes, the digits are in their range.
+-- Assumes nothing.
 use Prim.Native.Nat.{ℕ, _+_, _≤_}
 use mathlib.Core.Path.{sym, _∙_}
 use borrow.Author.Needs.{needs}

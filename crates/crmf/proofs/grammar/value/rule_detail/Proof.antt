@@ -1,4 +1,4 @@
--- `crmf::grammar::value::rule_detail` meets its contract: two codes are one rule's each, and what they leave has the detail of all others.
+-- `crmf::grammar::value::rule_detail` meets its contract: two codes are one rule's each, and all other rules have the same detail.
 -- Assumes nothing.
 use mathlib.Core.Path.{sym, _∙_}
 use Rattle.crmf.specs.meaning.Value.{some, never}

@@ -1,4 +1,4 @@
--- `crmf::grammar::value::selected` meets its contract: each arm's code is one selector's, and what no arm names is none's. Assumes nothing.
+-- `crmf::grammar::value::selected` meets its contract: each arm's code is one selector's, and no selector has another code. Assumes nothing.
 use mathlib.Core.Path.{_∙_}
 use borrow.Author.Needs.{needs}
 use native.Mathlib.Omega.{arith}

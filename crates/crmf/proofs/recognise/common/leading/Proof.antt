@@ -14,7 +14,7 @@ measure-requires c κs = search needs
 returns : tie.Need-returns
 returns c = λ some. absurd (some (c .if1 .taken))
 
--- the element ends with the bytes at most
+-- the element ends no later than the bytes
 ends : (c : tie.Else1) →
     let told = c .before .before in
     let x = told .measure .result in

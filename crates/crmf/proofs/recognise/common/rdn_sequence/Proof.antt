@@ -36,7 +36,7 @@ leading-requires c κs = search needs
 returns : tie.Need-returns Inv-loop μ-loop
 returns c = λ e. absurd (false≢true e)
 
--- the element at the place looked at ends with the bytes at most
+-- the element at the place looked at ends no later than the bytes
 ends : (c : tie.Else1 Inv-loop μ-loop) →
     let told = c .before .before in
     let a = told .before .before .before in

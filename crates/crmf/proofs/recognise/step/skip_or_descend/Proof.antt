@@ -1,4 +1,4 @@
--- `crmf::recognise::step::skip_or_descend` meets its contract: each way out is one of its two. Assumes nothing.
+-- `crmf::recognise::step::skip_or_descend` meets its contract: its test is the definition's. Assumes nothing.
 use Rattle.crmf.proofs.recognise.step.skip_or_descend.Statement.{statement}
 use Rattle.crmf.proofs.recognise.step.skip_or_descend.Tie as tie
 

@@ -1,4 +1,4 @@
--- `crmf::recognise::step::skip_or_refuse` meets its contract: each way out is one of its two. Assumes nothing.
+-- `crmf::recognise::step::skip_or_refuse` meets its contract: its test is the definition's. Assumes nothing.
 use Rattle.crmf.proofs.recognise.step.skip_or_refuse.Statement.{statement}
 use Rattle.crmf.proofs.recognise.step.skip_or_refuse.Tie as tie
 

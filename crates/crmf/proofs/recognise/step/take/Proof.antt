@@ -118,7 +118,7 @@ module _ (c : tie.After-action-of) where
   next : (k : ℕ) → word ≡ getD packed k 0 → c .before .next-of .result ≡ line k .next
   next k e = c .before .next-of .ensures ∙ ap nextField e ∙ next-at k
 
-  -- an element with the lines of a container inside, where its content may have been checked
+  -- an element that is a container, whose content may have been checked
   passed : (k whole a : ℕ) → word ≡ getD packed k 0 → c .action-of .result ≡ a → eqb a codes.takeCertReqId ≡ false
       → (n : Name) → (actionOf (line k) ≡ a → Opens k n) → (levels least : ℕ) → levels ≤ least + 1 → (r : Bool) → (r ≡ true → RowlessFrom (start n) levels content)
       → (s : Visit) → s ≡ elim (ltb least left && r) [ true ↦ Skip (c .before .next-of .result) | false ↦ Descend (c .before .next-of .result) ]

@@ -26,7 +26,7 @@ module _ (c : tie.After-mark-of) where
   abbrev start : tie.Start
   start = c .before .before
 
-  -- an element of the line may stand in its form as the test of its mark says
+  -- the test of the mark says whether the edition allows the element in the line's form
   standing : (k whole : ℕ) → start .args .word ≡ getD packed k 0 → eqb (line k .kind) kinds.certReqId ≡ false → (b : Bool)
       → (not (eqb (c .mark-of .result) 0) && not (eqb (c .mark-of .result / codes.edition) (start .args .edition))) ≡ b
       → mayStand (start .args .edition) (line k) whole ≡ not b
@@ -57,7 +57,7 @@ module _ (c : tie.After-inside-of) where
   abbrev word : ℕ
   word = marked .before .before .args .word
 
-  -- it is the line's, the value says where to go on, and the element may stand in the line's form
+  -- it is the line's, the value says how to go on, and the edition allows the element in the line's form
   inside : (k : ℕ) → word ≡ getD packed k 0 → c .inside-of .result ≡ line k .inside
   inside k e = c .inside-of .ensures ∙ ap insideField e ∙ inside-at k
 

@@ -1,4 +1,4 @@
--- `der::utf8::advance` meets its contract: its test is the definitions' for the class of a tail. Assumes nothing.
+-- `der::content::utf8::advance` meets its contract: its test is the definitions' for the class of a tail. Assumes nothing.
 use Prim.Native.Nat.{suc, _-_}
 use mathlib.Core.Path.{_≡_}
 use native.Mathlib.Omega.{arith}

@@ -1,4 +1,4 @@
--- `der::utf8::ascii` meets its contract. The invariant of both loops: the check goes on from what they have passed as it would over the
+-- `der::content::utf8::ascii` meets its contract. The invariant of both loops: the check of the octets that are left answers as that of the
 -- whole content. Assumes nothing.
 use Prim.Native.Nat.{_-_, _≤_}
 use mathlib.Core.Bool.{true, false≢true}

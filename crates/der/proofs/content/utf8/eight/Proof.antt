@@ -1,4 +1,4 @@
--- `der::utf8::eight` meets its contract: octets whose bits together are below 80 are each below 80. Assumes nothing.
+-- `der::content::utf8::eight` meets its contract: octets whose bits together are below 80 are each below 80. Assumes nothing.
 use borrow.Author.Needs.{needs}
 use borrow.Author.Tests.{ltb-true}
 use Rattle.der.proofs.theorems.content.Utf8Steps.{eight-below}

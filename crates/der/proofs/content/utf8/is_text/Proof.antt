@@ -1,4 +1,5 @@
--- `der::utf8::is_text` meets its contract: octets below 80 are UTF-8, and its table is one of the classes, which is computed. Assumes nothing.
+-- `der::content::utf8::is_text` meets its contract: octets below 80 are UTF-8, and its table has every octet's class, which is computed.
+-- Assumes nothing.
 use mathlib.Core.Path.{refl, sym}
 use borrow.Author.Needs.{needs}
 use Rattle.der.specs.steps.Utf8Classes.{classOf}

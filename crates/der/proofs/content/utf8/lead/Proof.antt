@@ -1,4 +1,4 @@
--- `der::utf8::lead` meets its contract: each arm is what the definitions say of its class. Assumes nothing.
+-- `der::content::utf8::lead` meets its contract: each arm is what the definitions say of its class. Assumes nothing.
 use mathlib.Core.Path.{refl, sym, _∙_}
 use native.Mathlib.Nat.{not-le-of-lt}
 use lib.Arith.{le-of-le-suc-ne as down}

@@ -1,5 +1,5 @@
--- `der::utf8::text` meets its contract. The loop's invariant: the check goes on from what it has read as it would over the whole content,
--- and so after eight octets below 80. Assumes nothing.
+-- `der::content::utf8::text` meets its contract. The loop's invariant: the check of the octets that are left answers as that of the whole
+-- content. This holds after eight octets below 80 too. Assumes nothing.
 use Prim.Native.Nat.{_+_, _≤_, _-_}
 use mathlib.Core.Bool.{and-eq-true-iff}
 use mathlib.Core.Path.{_≡_, refl, sym, _∙_}
@@ -26,7 +26,7 @@ loop-holds c = (search needs, refl)
 add-if1 : tie.Need-add-if1 Inv-loop μ-loop
 add-if1 c = search needs
 
--- a character begins, and eight octets stand
+-- a character begins, and there are eight octets
 begins : (c : tie.Then1 Inv-loop μ-loop) →
     let loop = c .before .before in
     (loop .loop .left ≡ 0) × (loop .loop .i + 8 ≤ length (loop .before .before .args .content .now))

@@ -1,4 +1,4 @@
--- `der::element::between::between` meets its contract: the end is the input's own where that comes first. Assumes nothing.
+-- `der::element::between::between` meets its contract: the end is the input's own if that comes first. Assumes nothing.
 use borrow.Author.Needs.{needs}
 use mathlib.Core.Path.{sym}
 use native.Mathlib.Omega.{arith}

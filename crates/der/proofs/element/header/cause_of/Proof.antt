@@ -1,4 +1,4 @@
--- `der::element::header::cause_of` meets its contract: each way out is a law of the cause. Assumes nothing.
+-- `der::element::header::cause_of` meets its contract: each return is a law of the cause. Assumes nothing.
 use borrow.Author.Needs.{needs}
 use borrow.Author.Tests.{not-true, not-false}
 use mathlib.Core.Bool.{true}
@@ -12,11 +12,11 @@ use Rattle.der.proofs.theorems.element.Spans.{refused-cause}
 use Rattle.der.proofs.element.header.cause_of.Statement.{statement}
 use Rattle.der.proofs.element.header.cause_of.Tie as tie
 
--- past the test of the identifier it is allowed
+-- after the test of the identifier it is allowed
 known : (c : tie.Else2) → allowed (getD (c .before .before .before .before .before .args .bytes .now) 0 0) ≡ true
 known c = sym (c .before .is-allowed .ensures) ∙ not-false _ (c .if2 .left)
 
--- where the first length octet is read there are two octets
+-- there are two octets if the first length octet is read
 some : (c : tie.Else3) → 2 ≤ length (c .before .before .before .before .before .before .args .bytes .now)
 some c = omega arith
 

@@ -1,5 +1,5 @@
--- `der::element::header::read` meets its contract: with an identifier that is allowed a span is the header, and without either the header is broken
--- for the cause that is told. Assumes nothing.
+-- `der::element::header::read` meets its contract: with a span and an identifier that is allowed, the span is the header; otherwise the header is
+-- broken, for the cause that is answered. Assumes nothing.
 use borrow.Author.Needs.{needs}
 use mathlib.Core.Bool.{true, false}
 use mathlib.Core.Path.{_≡_, sym, ap, _∙_}
@@ -18,18 +18,18 @@ use Rattle.der.proofs.theorems.element.Spans.{span-fits, span-stands, s
 use Rattle.der.proofs.element.header.read.Statement.{statement}
 use Rattle.der.proofs.element.header.read.Tie as tie
 
--- Where the octets bs are measured as x.
+-- The octets bs are measured as x.
 module _ (bs : List ℕ) (x : Span) (found : x ≡ spanOf bs) where
   -- without a span
   lost : length bs ≤ longest → x .octets ≡ 0 → headOf bs ≡ Broken (causeOf bs)
   lost short none = span-broken bs short (ap (λ (y : Span). y .octets) (sym found) ∙ none)
 
   module _ (one : x .octets ≡ 0 → ⊥) where
-    -- the span's own octets are some
+    -- the span has octets before the content
     some : spanOf bs .octets ≡ 0 → ⊥
     some none = one (ap (λ (y : Span). y .octets) found ∙ none)
 
-    -- it has two octets at least
+    -- it has at least two octets, and it and its content fit
     fits : (2 ≤ x .octets) × (x .octets + x .length ≤ length bs)
     fits = rw found (span-fits bs some)
 

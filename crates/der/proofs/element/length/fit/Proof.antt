@@ -1,4 +1,4 @@
--- `der::element::length::fit` meets its contract: each way is a case of `fitted`. Assumes nothing.
+-- `der::element::length::fit` meets its contract: each return is a case of `fitted`. Assumes nothing.
 use borrow.Author.Needs.{needs}
 use borrow.Author.Tests.{le-leb, lt-leb}
 use native.Mathlib.Omega.{arith}

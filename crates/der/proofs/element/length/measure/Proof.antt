@@ -1,4 +1,4 @@
--- `der::element::length::measure` meets its contract: each way out is a law of the length octets. Assumes nothing.
+-- `der::element::length::measure` meets its contract: each return is a law of the length octets. Assumes nothing.
 use borrow.Author.Needs.{needs}
 use mathlib.Core.Path.{_∙_}
 use native.Mathlib.Omega.{arith}

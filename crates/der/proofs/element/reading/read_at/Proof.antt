@@ -1,4 +1,4 @@
--- `der::element::reading::read_at` meets its contract: a span of the part after an identifier that is allowed is its header, and without one the
+-- `der::element::reading::read_at` meets its contract: with an identifier that is allowed, the span of the part is its header; without a span the
 -- header is broken. Assumes nothing.
 use borrow.Author.Needs.{needs}
 use mathlib.Core.Path.{_≡_, sym, ap, _∙_}
@@ -23,7 +23,7 @@ use Rattle.der.proofs.element.reading.read_at.Tie as tie
 
 -- The span x of a part of the input, which is the octets bs from the place p on.
 module _ (p : ℕ) (bs part : List ℕ) (x : Span) (same : part ≡ bs) (found : x ≡ spanOf part) where
-  -- it is theirs
+  -- it is the span of those octets
   theirs : x ≡ spanOf bs
   theirs = found ∙ ap spanOf same
 
@@ -34,7 +34,7 @@ module _ (p : ℕ) (bs part : List ℕ) (x : Span) (same : part ≡ bs) (found :
       ap (λ (l : List ℕ). nothingAt (p + length l)) same ∙ sym (read-broken p bs broken)
 
   module _ (one : x .octets ≡ 0 → ⊥) where
-    -- they have it where the part does
+    -- they have a span if the part does
     some : spanOf bs .octets ≡ 0 → ⊥
     some none = one (ap (λ (y : Span). y .octets) theirs ∙ none)
 
@@ -56,7 +56,7 @@ module _ (p : ℕ) (bs part : List ℕ) (x : Span) (same : part ≡ bs) (found :
 abbrev octets : tie.Start → List ℕ
 octets c = slice (c .args .at) (c .args .end) (c .args .bytes .now)
 
--- Where the part is measured.
+-- The part is measured.
 module _ (c : tie.After-measure) where
   abbrev start : tie.Start
   start = c .before .before .before .before
