@@ -16,6 +16,8 @@
 --     read-at-in-order    by places: an element is read in order
 --     read-at-end         after its parent's end none is read; its identifier is 0 (`nothing-identifier`)
 --     read-at-within      by places, whether one is read or none: content and end lie in order between them
+--     read-exact          an element is read exactly if its header and content stand at the place (`ReadAs`, `Standing`)
+--     read-tree           where the encoding of a well-formed tree stands, its first element is read
 --     read-moved          octets further on are read as the same element, further on (`further`)
 --     tree-end            no octets are read as no elements
 --     tree-enough         with at least as many levels and siblings as octets, `treeOf` is the tree
@@ -40,11 +42,21 @@
 --     number-zero         the input's number is 0 exactly if it starts with an encoding
 --     fault-number        a fault's number is from 2 to 6
 --     number-place        its number, if not 0, and its place are those of the first fault
+--     number-one          its number is 1 exactly if the input is too long
+--     walk-fault          the walk over an input answers a fault exactly if it is the first (`First`)
+--     first-single        an element has one first fault; of a whole input `one-fault`, from 2 to 6 (`first-number`)
+--     one-end             an input begins with one encoding
+--     fault-or-encoded    it begins with an encoding or has a first fault, and never both (`fault-unencoded`)
+--     walk-end-at, walk-fault-at    exactness by places: from any place to any end (`EncodedAt`)
+--     explained-walk      an answer that `Explains` relates is the walk's, and conversely (`walk-explained`)
 --     span-fits           a span has at least two octets, and it and its content fit
+--     span-exact          octets have a span exactly if they begin with a header, of any identifier, and its content (`Measures`, `Begins`)
 --     span-small          a content of fewer than 128 octets has two octets before it
 --     span-stands, span-broken    after an identifier that is allowed a span is the header; without a span the header is broken
 --     span-tree           the tree of octets that begin with a span, after an identifier that is allowed
 --     is-list-none, is-list-deep, is-list-lost    no octets are a list; others are none without a level of depth left or a span at the start
+--     is-list-exact       octets are a list exactly if they are not too many and the encoding of a well-formed tree (`ListEncoded`)
+--     is-element-exact    an identifier and a content are an element exactly if that is well-formed (`OneFormed`)
 --     is-list-short       a list is not too long
 --     is-list-step        octets are a list if the first element has no fault and the octets after it are a list
 --     is-list-single      the walk over an input that is a list of one element ends where the input does
@@ -70,7 +82,13 @@ pub use Rattle.der.proofs.theorems.reading.Readings.{elementAt, tree-st
 pub use Rattle.der.proofs.theorems.reading.Trees.{header-some, header-two, header-octets, length-some, encode-none, encode-element, encode-length, moved-none, moved-element}
 pub use Rattle.der.proofs.theorems.reading.Trees.{well-formed-none, well-formed-deep, well-formed-element, single-none, single-element}
 pub use Rattle.der.proofs.theorems.explain.Exact.{Encoded, exact, Checked, walk-tree}
-pub use Rattle.der.proofs.theorems.explain.FirstFault.{number-zero, fault-number, number-place}
+pub use Rattle.der.proofs.theorems.explain.FirstFault.{number-zero, fault-number, number-place, walk-fault}
+pub use Rattle.der.proofs.theorems.explain.OneFault.{number-one, first-single, one-fault, first-number, one-end, fault-or-encoded, fault-unencoded}
+pub use Rattle.der.proofs.theorems.explain.Explained.{walk-explained, explained-walk}
+pub use Rattle.der.proofs.theorems.explain.AnyPlace.{EncodedAt, walk-end-at, walk-fault-at}
+pub use Rattle.der.proofs.theorems.reading.ReadElements.{Standing, ReadAs, read-exact, read-tree}
+pub use Rattle.der.proofs.theorems.element.MeasuredElements.{Begins, Measures, span-exact}
 pub use Rattle.der.proofs.theorems.element.Spans.{span-fits, span-small, span-stands, span-broken, span-tree}
 pub use Rattle.der.proofs.theorems.recognise.Recognising.{is-list-none, is-list-short, is-list-deep, is-list-lost, is-list-step, is-list-single, single-is-list, is-element-refused, is-element-inside, is-element-value}
 pub use Rattle.der.proofs.theorems.recognise.Recognising.{holds-integer, holds-bit-string, holds-object-identifier, holds-utf8, ruled, holds-free}
+pub use Rattle.der.proofs.theorems.recognise.RecognisedTrees.{ListEncoded, is-list-exact, OneFormed, is-element-exact}

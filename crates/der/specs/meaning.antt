@@ -8,3 +8,4 @@ pub mod Utf8
 pub mod Content
 pub mod Tree
 pub mod Fault
+pub mod Explains

@@ -10,7 +10,8 @@ use crate::element::header::Head;
 use crate::element::identifier::is_constructed;
 ghost use mathlib.Core.Path.{_≡_};
 ghost use lib.ListN.{length};
-ghost use Rattle.der.specs.steps.Explain.{Lent, faultAt, listOf, primitiveOf, elementOf, walkAt};
+ghost use Rattle.der.specs.meaning.Explains.{Explains};
+ghost use Rattle.der.specs.steps.Explain.{Lent, numberOf, placeOf, detailOf, endOf, faultAt, listOf, primitiveOf, elementOf};
 
 // What the walk over an element answers.
 pub enum Nest {
@@ -27,7 +28,7 @@ pub enum Nest {
 // Explains the first element from `at` on, whose parent ends at `end`: its first fault, or the place after it. Refuses an input longer than
 // LONGEST.
 pub fn explain(bytes: &[u8], at: usize, end: usize) -> Nest
-    ensures { λ r. ⌜ r ≡ walkAt (now (bytes .entry)) at end ⌝ }
+    ensures { λ r. ⌜ Explains (now (bytes .entry)) at end (numberOf r) (placeOf r) (detailOf r) (endOf r) ⌝ }
 {
     if LONGEST < bytes.len() {
         return fault(Cause::TooLong, 0);

@@ -3,5 +3,6 @@ pub mod HeaderWays
 pub mod Headers
 pub mod Identifiers
 pub mod Length
+pub mod MeasuredElements
 pub mod SpanWays
 pub mod Spans

@@ -1,3 +1,4 @@
 -- Octets without a fault.
 pub mod RecogniseWays
 pub mod Recognising
+pub mod RecognisedTrees

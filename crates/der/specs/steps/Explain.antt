@@ -27,6 +27,16 @@ unfoldable pub placeOf : Nest → ℕ
 placeOf (End q) = 0
 placeOf (Fault n q k) = q
 
+-- request A9's detail for an answer: 0 if there is no fault
+unfoldable pub detailOf : Nest → ℕ
+detailOf (End q) = 0
+detailOf (Fault n q k) = k
+
+-- the place after the element for an answer: 0 if there is a fault
+unfoldable pub endOf : Nest → ℕ
+endOf (End q) = q
+endOf (Fault n q k) = 0
+
 -- the fault of an element at a place, by its cause
 abbrev pub faultAt : Cause → ℕ → Nest
 faultAt c p = Fault (causeNumber c) p (causeDetail c)

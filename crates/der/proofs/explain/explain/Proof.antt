@@ -4,7 +4,8 @@ use mathlib.Core.Path.{sym, ap, _∙_}
 use native.Mathlib.Omega.{arith}
 use Rattle.der.specs.meaning.Bounds.{depth}
 use Rattle.der.specs.steps.Explain.{elementOf}
-use Rattle.der.proofs.theorems.lists.Parts.{slice-size}
+use Rattle.der.proofs.theorems.lists.Parts.{slice-size, octets-each}
+use Rattle.der.proofs.theorems.explain.Explained.{walk-explained}
 use Rattle.der.proofs.theorems.explain.Steps.{walk-long, walk-short}
 use Rattle.der.proofs.explain.explain.Statement.{statement}
 use Rattle.der.proofs.explain.explain.Tie as tie
@@ -14,8 +15,10 @@ fault-requires c κs = search needs
 
 returns : tie.Need-returns
 returns c =
-    let a = c .before .before .before .args in
-    c .fault .ensures ∙ sym (walk-long (a .bytes .now) (a .at) (a .end) (c .before .if1 .taken))
+    let start = c .before .before .before in
+    let a = start .args in
+    walk-explained (a .bytes .now) (octets-each (a .bytes .now) (λ i. c .before .before .shared-slice-known .given i .fits)) (a .at) (a .end) _
+    (c .fault .ensures ∙ sym (walk-long (a .bytes .now) (a .at) (a .end) (c .before .if1 .taken)))
 
 between-requires : tie.Need-between-requires
 between-requires c κs = search needs
@@ -30,9 +33,10 @@ element-requires c κs =
 returns-2 : tie.Need-returns-2
 returns-2 c =
     let a = c .before .before .before .before .args in
-    c .element .ensures
+    walk-explained (a .bytes .now) (octets-each (a .bytes .now) (λ i. c .before .before .before .shared-slice-known .given i .fits)) (a .at) (a .end) _
+    (c .element .ensures
     ∙ ap (elementOf depth (a .at)) (c .before .between .ensures)
-    ∙ sym (walk-short (a .bytes .now) (a .at) (a .end) (c .before .before .if1 .left))
+    ∙ sym (walk-short (a .bytes .now) (a .at) (a .end) (c .before .before .if1 .left)))
 
 pub explain-spec : {M : Type 1} → statement M
 explain-spec = tie.close (tie.spec fault-requires returns between-requires element-requires returns-2)

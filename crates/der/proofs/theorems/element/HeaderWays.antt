@@ -1,6 +1,6 @@
 -- Why there is no element: a law for each case of the code, by the octets that it looks at. In the long form these are the first two length
 -- octets: they decide the form, and a form that is right gives a content that runs past the end. Assumes nothing.
-use Prim.Native.Nat.{ℕ, zero, suc, _+_, _-_, _≤_, _<_}
+use Prim.Native.Nat.{ℕ, zero, suc, _-_, _≤_, _<_}
 use mathlib.Core.Path.{_≡_, refl, sym, ap, _∙_}
 use mathlib.Core.Bool.{Bool, true, false, _&&_, _||_, false≢true}
 use mathlib.Core.List.{List, [], _∷_}

@@ -8,14 +8,14 @@ use native.Mathlib.Omega.{arith}
 use lib.Dec.{T, leb}
 use lib.ListN.{length, take, drop, length-append, take-append-drop}
 use lib.Seq.{drop-drop}
-use borrow.Author.Tests.{leb-true, leb-false, eq-eqb}
+use borrow.Author.Tests.{leb-true, leb-false}
 use Rattle.der.specs.declared.cause.Cause.{Cause}
 use Rattle.der.specs.declared.element.header.Head.{Head}
 use Rattle.der.specs.declared.element.header.Head.the-variants.{Stands, Broken}
 use Rattle.der.specs.meaning.Octets.{Octets}
 use Rattle.der.specs.meaning.Bounds.{longest}
 use Rattle.der.specs.steps.Cause.{causeNumber, causeDetail}
-use Rattle.der.specs.meaning.Identifier.{constructed, allowed}
+use Rattle.der.specs.meaning.Identifier.{allowed}
 use Rattle.der.specs.meaning.Length.{Length, missing, wrong, octets, lengthOf, lengthOctets}
 use Rattle.der.specs.steps.Header.{sizedBy, headOf}
 use Rattle.der.specs.meaning.Tree.{header}

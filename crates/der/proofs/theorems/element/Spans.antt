@@ -25,7 +25,7 @@ use Rattle.der.proofs.theorems.element.SpanWays.{span-there, span-unfit
 use Rattle.der.proofs.theorems.explain.Steps.{head-wrong, head-sized, head-stands, head-past}
 
 -- What a span says of the octets after the identifier.
-record Spanned (id : ℕ) (bs : List ℕ) : Type 0 where
+pub record Spanned (id : ℕ) (bs : List ℕ) : Type 0 where
   pub count : ℕ
   pub size : ℕ
   pub measured : lengthOf bs ≡ octets count size
@@ -35,12 +35,12 @@ record Spanned (id : ℕ) (bs : List ℕ) : Type 0 where
   pub content : spanOf (id ∷ bs) .length ≡ size
 
 -- the span of octets whose length is known
-span-by : (id : ℕ) (bs : List ℕ) {l : Length} → lengthOf bs ≡ l → spanOf (id ∷ bs) ≡ spanBy (length bs) l
+pub span-by : (id : ℕ) (bs : List ℕ) {l : Length} → lengthOf bs ≡ l → spanOf (id ∷ bs) ≡ spanBy (length bs) l
 unfolding spanOf
 span-by id bs e = ap (spanBy (length bs)) e
 
 -- every span says this
-spanned : (id : ℕ) (bs : List ℕ) → (spanOf (id ∷ bs) .octets ≡ 0 → ⊥) → Spanned id bs
+pub spanned : (id : ℕ) (bs : List ℕ) → (spanOf (id ∷ bs) .octets ≡ 0 → ⊥) → Spanned id bs
 unfolding spanBy
 spanned id bs some = go (lengthOf bs) refl
   where
@@ -101,7 +101,7 @@ span-small (id ∷ bs) some small =
     x .before ∙ ap suc (length-small bs (x .count) (x .size) (x .measured) (x .few) (omega (arith, x .content)))
 
 -- length octets that are more than three give 65,536 or more
-length-large : (bs : List ℕ) (k n : ℕ) → lengthOf bs ≡ octets k n → 3 < k → 65536 ≤ n
+pub length-large : (bs : List ℕ) (k n : ℕ) → lengthOf bs ≡ octets k n → 3 < k → 65536 ≤ n
 unfolding lengthOf
 length-large [] k n e many = never-missing e
 length-large (c ∷ bs) k n e many = go (ltb c 0x80) refl

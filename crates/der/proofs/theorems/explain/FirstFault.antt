@@ -273,7 +273,7 @@ pub fault-named : (left p : ℕ) (bs : List ℕ) (number at detail : ℕ) → Fi
 fault-named left p bs number at detail f = placed left p bs number at detail f .named
 
 -- so it is from 2 to 6
-fault-some : (left p : ℕ) (bs : List ℕ) (number at detail : ℕ) → First left p bs number at detail → (2 ≤ number) × (number ≤ 6)
+pub fault-some : (left p : ℕ) (bs : List ℕ) (number at detail : ℕ) → First left p bs number at detail → (2 ≤ number) × (number ≤ 6)
 fault-some left p bs number at detail f = go (fault-named left p bs number at detail f)
   where
     go : {id n d : ℕ} → Named id n d → (2 ≤ n) × (n ≤ 6)

@@ -10,6 +10,7 @@ use lib.Seq.{slice, take-length}
 use borrow.Author.Tests.{le-leb, lt-leb}
 use Rattle.der.specs.declared.cause.Cause.{Cause}
 use Rattle.der.specs.declared.cause.Cause.the-variants.{WrongIdentifier, PastEnd}
+use Rattle.der.specs.declared.element.header.Head.{Head}
 use Rattle.der.specs.declared.element.header.Head.the-variants.{Stands, Broken}
 use Rattle.der.specs.declared.explain.Nest.{Nest}
 use Rattle.der.specs.declared.explain.Nest.the-variants.{End, Fault}
@@ -97,6 +98,10 @@ list-stop judge (suc n) p (b ∷ bs) some enough e = rw (e, listOf)
 -- no answer is an end and a fault
 pub end-fault : {A : Type 0} {r : Nest} {e n q k : ℕ} → r ≡ End e → r ≡ Fault n q k → A
 end-fault ends faulty = let z : _≡_ {A = ℕ} 0 1 = cc in absurd (omega arith)
+
+-- no header stands and is broken
+pub stands-broken : {A : Type 0} {r : Head} {id h n : ℕ} {c : Cause} → r ≡ Stands id h n → r ≡ Broken c → A
+stands-broken stands broken = let z : _≡_ {A = ℕ} 0 1 = cc in absurd (omega arith)
 
 -- The walk over an input.
 module _ (s : List ℕ) where

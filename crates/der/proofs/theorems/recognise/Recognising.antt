@@ -98,7 +98,7 @@ element-shifted (suc left) d p bs = by-head (headOf bs) refl (element-shifted le
     by-head (Stands id h n) e inside = content id h n e inside (constructed id) refl
 
 -- octets that are not too many are a list exactly if the list of elements has no fault, at any place and with any count that is enough
-is-list-listed : (left n p : ℕ) (bs : List ℕ) → length bs ≤ longest → length bs ≤ n → isList left bs ≡ faultless (listOf (elementOf left) n p bs)
+pub is-list-listed : (left n p : ℕ) (bs : List ℕ) → length bs ≤ longest → length bs ≤ n → isList left bs ≡ faultless (listOf (elementOf left) n p bs)
 unfolding isList
 is-list-listed left n p bs short enough =
     rw (isList, le-leb (length bs) longest short)

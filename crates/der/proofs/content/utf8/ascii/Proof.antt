@@ -1,7 +1,7 @@
 -- `der::content::utf8::ascii` meets its contract. The invariant of both loops: the check of the octets that are left answers as that of the
 -- whole content. Assumes nothing.
 use Prim.Native.Nat.{_-_, _≤_}
-use mathlib.Core.Bool.{true, false≢true}
+use mathlib.Core.Bool.{false≢true}
 use mathlib.Core.Path.{_≡_, refl, sym, ap, _∙_}
 use native.Mathlib.Omega.{arith}
 use borrow.Author.Needs.{needs}

@@ -2,9 +2,9 @@
 use borrow.Author.Needs.{needs}
 use borrow.Author.Tests.{not-true, not-false}
 use mathlib.Core.Bool.{true}
-use mathlib.Core.Path.{_≡_, sym, ap, _∙_}
+use mathlib.Core.Path.{_≡_, sym, _∙_}
 use native.Mathlib.Omega.{arith}
-use Prim.Native.Nat.{_-_, _≤_, _<_}
+use Prim.Native.Nat.{_≤_}
 use lib.ListN.{length, getD}
 use Rattle.der.specs.meaning.Identifier.{allowed}
 use Rattle.der.proofs.theorems.element.HeaderWays.{way-empty, way-unsized, way-short, way-reserved, way-cut, way-longer, way-past, asks-some}
