@@ -1,10 +1,13 @@
 -- The laws of the crate that the layers above cite, gathered. Assumes nothing.
 --     accepts             the walk over a container passes exactly when its parts describe the elements, whichever forms may be read
+--     stops-exactly       the walk breaks at a place with a detail exactly where the meaning says that the reading stops (`Stops`), whichever forms may be
+--                         read; it never stops twice (`stops-once`), and it stops exactly where the grammar doesn't describe the elements (`stops-outside`)
 --     passes-accepts      `passes` says whether the walk that reads every form (`all`) passes; `isPassed` says so of a walk's answer (`walk-passes`)
---     deterministic       from any part of a container on, an identifier has at most one of the choices (`choices`) that can be reached
+--     deterministic       from any part of a container on (`_followedBy_`), an identifier has at most one of the choices (`choices`) that can be reached
 --     trail-occurrences   the forms of one edition alone that the walk meets are those that the grammar's meaning gives, in that order
 --     walk-seen           what the walk has met of an edition (`firstSeen`, `seenOf`) is the first of its trail, unless one was known (`after`)
 --     marks-met           so it is the first that the meaning gives
+--     forms-exactly       which is the first in byte order (`FirstForm`)
 --     trail-ascends       in well-formed elements the places of a trail ascend (`Ascends`), so the first is the least (`ascends-least`)
 --     occurrences-ascend  and so do those that the meaning gives
 --     first-least         so the first form whose edition a test takes (`firstOf`) has the least place of all such forms
@@ -13,7 +16,7 @@
 --     two-sets            if a walk with one set passes, a walk with another answers the same, or breaks at the first form that it doesn't read
 --     own-alike           the walk of one edition (`Edition`) answers the same as the walk that reads every form, if that has met no form of the other
 --                         edition (`other`, `foreign`)
---     own-stops           and otherwise it breaks at the first such form
+--     own-stops           and otherwise it breaks at the first such form, with the detail of that form
 --     own-passes          so it passes exactly when that passes and has met none
 --     own-difference      every difference that occurs in a tree of one edition's grammar is that edition's own
 --     other-walk          so the other edition's walk answers the same if none occurs, and otherwise stops at the first (`StopsAt`)
@@ -70,14 +73,25 @@
 --     rows-long           the certReqId of more than 8 content octets that the counting walk has met is the first row that is one
 --     walk-long           and so it is with the rows of any derivation
 --     long-none           if nothing was known, nothing is known exactly when no row is one
+--     long-exactly        what is noted after a batch's rows is their first long certReqId in byte order (`FirstLongId`); `short-none`: there is none if
+--                         no row is one
 --     count-whole         if an input is not too long, counting is the walk over its tree that reads every form (`rows-whole` of rows)
 --     whole-count         the rows that the lines find in it are as many as were counted
 --     whole-long          and their first long certReqId is the one that was met
+--     count-passes        counting passes with n rows exactly when the grammar, with every form, describes the tree and gives it n rows
+--     count-stops         it breaks exactly where the reading of every form stops; `count-long`: an input that is too long breaks at 0
+--     count-tallies       what it has tallied is the batch's rows, the first form of each edition alone and the first long certReqId (`Tallied`)
+--     count-own           an edition's own reading stops where counting breaks, if no form of the other edition was met, and otherwise at the form
+--                         that was met (`count-foreign`)
 --     none-met            at first no form of the other edition was met
 --     recognised-walk     an input that is recognised is one element, and counting passes with as many rows and nothing to refuse (`Quick`)
 --     walk-recognised     conversely, one element that the edition's own walk passes is recognised, if no row is a long certReqId
 --     unrecognised-stays  the recogniser leaves the table as it is if the input isn't recognised, and otherwise fills it (`recognised-fills`)
 --     not-recognised      no input is both recognised and not
+--     recognised-exact    for every edition number, an input is recognised with n rows exactly when it is a batch of the edition with n rows and no
+--                         long certReqId (`ShortBatch`), and unrecognised exactly when it is none (`unrecognised-exact`); its rows are the
+--                         derivation's (`batch-rows`); the tree that is read from the encoding of a well-formed tree is that tree (`read-back`)
+--     recognises-exactly  the recogniser's answer and the table afterwards are exactly what the meaning says (`Recognises`)
 --     numbers-row         the definitions of rows' numbers and of pieces, one step at a time: `pieces-row`, `own-container`, `own-leaf`,
 --                         `whole-container`, `whole-leaf`, `children-piece`, `assembled-piece`, `within-piece`; and if there is nothing,
 --                         `numbers-none`, `pieces-none`, `children-none`, `assembled-none`, `within-none`
@@ -90,16 +104,18 @@
 --     fits-room           there is room for rows if a table has `width` numbers for each
 --     child-first         the first field inside a field with an identifier; and a field that may be missing, as a list (`listed-none`, `listed-some`)
 pub use Rattle.crmf.proofs.theorems.explain.Accepts.{accepts}
+pub use Rattle.crmf.proofs.theorems.explain.Stopping.{stops-exactly, stops-once, stops-outside}
 pub use Rattle.crmf.proofs.theorems.explain.EveryForm.{all, isPassed, walk-passes, passes-accepts}
-pub use Rattle.crmf.proofs.theorems.grammar.Choices.{Choice, taking, choosing, identifiersOf, choices, deterministic}
+pub use Rattle.crmf.proofs.theorems.grammar.Choices.{Choice, taking, choosing, identifiersOf, choices, _followedBy_, deterministic, ways-parts}
 pub use Rattle.crmf.proofs.theorems.editions.FirstSeen.{Edition, first-edition, second-edition, firstSeen, after, seenOf, walk-seen}
 pub use Rattle.crmf.proofs.theorems.editions.Marks.{trail-occurrences, marks-met}
+pub use Rattle.crmf.proofs.theorems.editions.FirstForms.{FirstForm, forms-exactly}
 pub use Rattle.crmf.proofs.theorems.editions.AscendingPlaces.{Ascends, ascends-least, trail-ascends, occurrences-ascend, first-least}
 pub use Rattle.crmf.proofs.theorems.editions.ReadableSets.{firstOf, unread, Follows, own-walk, two-sets}
 pub use Rattle.crmf.proofs.theorems.editions.OneEdition.{other, foreign, own-alike, own-stops, own-passes}
 pub use Rattle.crmf.proofs.theorems.editions.Differences.{StopsAt, own-difference, other-walk}
 pub use Rattle.crmf.specs.meaning.Kinds.{rowKinds}
-pub use Rattle.crmf.proofs.theorems.lines.TableChecks.{Lives, WayLines, inside-starts, start-lives, onward-lives, ways-lines, ways-parts, kind-known, item-known, kind-given}
+pub use Rattle.crmf.proofs.theorems.lines.TableChecks.{Lives, WayLines, inside-starts, start-lives, onward-lives, ways-lines, kind-known, item-known, kind-given}
 pub use Rattle.crmf.proofs.theorems.rows.RowsInPlace.{noRow}
 pub use Rattle.crmf.proofs.theorems.rows.RowsOfLines.{rows-lines, rows-same, rows-count, walk-counts}
 pub use Rattle.crmf.proofs.theorems.rows.RowLaws.{Inner, row-zero, rows-some, rows-ascend, row-parent, parent-container, row-within}
@@ -118,11 +134,15 @@ pub use Rattle.crmf.proofs.theorems.rows.Writing.{over-parts, numbers-l
 pub use Rattle.crmf.proofs.theorems.messages.MessageSteps.{fieldRead, sequence-read, first-read, IdRead, id-read, batch-read}
 pub use Rattle.crmf.proofs.theorems.messages.MessageSizes.{ids-some, ids-eight, messages-few}
 pub use Rattle.crmf.proofs.theorems.explain.LongIds.{rows-long, walk-long, long-none}
+pub use Rattle.crmf.proofs.theorems.explain.FirstLongIds.{long-exactly, short-none}
 pub use Rattle.crmf.proofs.theorems.explain.WholeInput.{count-whole, rows-whole, whole-count, whole-long}
+pub use Rattle.crmf.proofs.theorems.explain.CountedBatches.{Tallied, count-passes, count-stops, count-tallies, count-own, count-foreign, count-long}
 pub use Rattle.crmf.proofs.theorems.recognise.CountSteps.{not-recognised}
 pub use Rattle.crmf.proofs.theorems.recognise.CountWays.{unrecognised-stays, recognised-fills}
 pub use Rattle.crmf.proofs.theorems.recognise.RecognisedCounts.{none-met, Quick, recognised-walk}
 pub use Rattle.crmf.proofs.theorems.recognise.PassedCounts.{walk-recognised}
+pub use Rattle.crmf.proofs.theorems.recognise.RecognisedBatches.{ShortBatch, read-back, batch-rows, recognised-exact, unrecognised-exact}
+pub use Rattle.crmf.proofs.theorems.recognise.RecognisedTables.{Recognises, shown, roomless, other-input, recognises-exactly}
 pub use Rattle.crmf.proofs.theorems.values.ValueRules.{other-length, same-none, same-more, same-octets, same-itself}
 pub use Rattle.crmf.proofs.theorems.pieces.PieceLaws.{container-kinds, identifier-of, implied-type, implied-none, pieces-none, pieces-row, own-container, own-leaf}
 pub use Rattle.crmf.proofs.theorems.pieces.PieceLaws.{whole-container, whole-leaf, children-none, children-piece, assembled-none, assembled-piece}

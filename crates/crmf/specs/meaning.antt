@@ -1,10 +1,13 @@
--- What a reader has to believe of the request grammar, in document 01's order: after lists of numbers the value rules, the grammar and what it
--- means, rows and their kinds, and the messages of a batch.
+-- What a reader has to believe of the request grammar, in document 01's order: after lists of numbers the editions, the value rules, the
+-- grammar, what it means and where a reading stops, rows and their kinds, and the messages of a batch.
 pub mod Lists
+pub mod Edition
+pub mod Details
 pub mod Value
 pub mod Notation
 pub mod Grammar
 pub mod Language
+pub mod Stops
 pub mod Kinds
 pub mod Rows
 pub mod Pieces

@@ -3,3 +3,4 @@ pub mod grammar
 pub mod explain
 pub mod rows
 pub mod recognise
+pub mod Fields

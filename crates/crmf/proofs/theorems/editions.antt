@@ -2,6 +2,7 @@
 pub mod AscendingPlaces
 pub mod Differences
 pub mod FairMarks
+pub mod FirstForms
 pub mod FirstSeen
 pub mod Marks
 pub mod OneEdition

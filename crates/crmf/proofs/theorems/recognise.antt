@@ -3,7 +3,9 @@ pub mod Actions
 pub mod CountSteps
 pub mod RowlessInsides
 pub mod PassedCounts
+pub mod RecognisedBatches
 pub mod RecognisedCounts
+pub mod RecognisedTables
 pub mod CountPlaces
 pub mod CountWays
 pub mod StepWays

@@ -1,3 +1,4 @@
 -- The value rules.
+pub mod Moments
 pub mod ValueRules
 pub mod ValueVectors

@@ -6,9 +6,7 @@ use mathlib.Core.Bool.{true, false}
 use mathlib.Core.List.{List, [], _∷_, _++_, flatMap}
 use mathlib.Core.Option.{Option, some, none as absent}
 use lib.ListN.{length, getD, take, drop}
-use lib.Seq.{slice}
 use Rattle.der.specs.meaning.Tree.{Tree, none, element, header, moved}
-use Rattle.der.specs.steps.Reading.{tree}
 use Rattle.crmf.specs.meaning.Notation.{among}
 
 -- A field: one element of a list, by its identifier, first byte, whole length, content octets and the elements inside it.
@@ -24,10 +22,6 @@ unfoldable pub fields : Tree → List Field
 fields none = []
 fields (element id first whole content inside rest) =
     record { identifier = id; place = first; whole = whole; content = content; inside = inside } ∷ fields rest
-
--- the elements that some bytes have from a place to another, one by one
-unfoldable pub fieldsBetween : List ℕ → ℕ → ℕ → List Field
-fieldsBetween s from to = fields (tree from (slice from to s))
 
 -- the list of elements that some fields make: `fields` the other way
 unfoldable pub chain : List Field → Tree

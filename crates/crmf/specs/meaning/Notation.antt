@@ -4,6 +4,7 @@ use mathlib.Core.Bool.{Bool, true, false, _||_}
 use mathlib.Core.List.{List, [], _∷_}
 use lib.Dec.{eqb}
 use Rattle.crmf.specs.meaning.Kinds as kinds
+use Rattle.crmf.specs.meaning.Details.{fitsNoPart}
 use Rattle.crmf.specs.meaning.Value.{Rule, always, Selector}
 
 -- Which identifiers a form has.
@@ -32,10 +33,15 @@ named generalName id = among generalNames id
 named anything id = true
 named nothing id = false
 
--- Which editions allow a form: both, or one alone, with the number of the difference (SPECIFICATION 3.7).
+-- Which editions allow a form: both, or one alone, with the number of the difference (SPECIFICATION 3.7) and the detail in the other edition.
 pub data Mark : Type 0 where
   both : Mark
-  alone : (edition difference : ℕ) → Mark
+  alone : (edition difference detail : ℕ) → Mark
+
+-- the detail of a form that may not be read; it is never asked of a form that both editions allow
+abbrev pub detailOf : Mark → ℕ
+detailOf both = fitsNoPart
+detailOf (alone e d detail) = detail
 
 -- The containers of the grammar, by the names of what they hold. Grammar.antt has their ASN.1 types.
 pub data Name : Type 0 where
@@ -115,11 +121,17 @@ pub record Form : Type 0 where
 pub data Occurs : Type 0 where
   once optional repeated : Occurs
 
--- A part of a container: one of some forms, and how often it occurs; or an element whose value selects the container whose parts come after it.
--- Such an element is the last part of its own container.
+-- A part of a container: one of some forms, and how often it occurs.
 pub data Part : Type 0 where
   part : Occurs → List Form → Part
-  select : ℕ → Selector → List Name → Part
+
+-- What a container holds, part by part: no more; a part and then further ones; or an element whose value selects the container whose parts
+-- come after it. No other part can stand after such an element.
+infixr 67 _then_
+pub data Parts : Type 0 where
+  done : Parts
+  _then_ : Part → Parts → Parts
+  select : ℕ → Selector → List Name → Parts
 
 -- forms: an element with one identifier and a free inside; with a container's parts inside; with a rule for its value
 abbrev pub plain : ℕ → Form
@@ -146,8 +158,8 @@ row k f = record { identifiers = f .identifiers; inside = f .inside; rule = f .r
 abbrev pub itemRow : ℕ → Form → Form
 itemRow k f = record { identifiers = f .identifiers; inside = f .inside; rule = f .rule; kind = f .kind; item = k; mark = f .mark }
 
-abbrev pub only : ℕ → ℕ → Form → Form
-only e d f = record { identifiers = f .identifiers; inside = f .inside; rule = f .rule; kind = f .kind; item = f .item; mark = alone e d }
+abbrev pub only : (edition difference detail : ℕ) → Form → Form
+only e d detail f = record { identifiers = f .identifiers; inside = f .inside; rule = f .rule; kind = f .kind; item = f .item; mark = alone e d detail }
 
 -- parts: a form, a form `?`, a form `*`, one of some forms, one of some forms `?`
 abbrev pub one : Form → Part
@@ -166,5 +178,5 @@ abbrev pub maybeOneOf : List Form → Part
 maybeOneOf fs = part optional fs
 
 -- the parts of a form `+`
-abbrev pub plus : Form → List Part
-plus f = one f ∷ any f ∷ []
+abbrev pub plus : Form → Parts
+plus f = one f then any f then done

@@ -1,13 +1,15 @@
 -- Rows: the fields of an accepted element tree, by document 01's section "Rows", SPECIFICATION 5. They are defined on the meaning of the
 -- grammar alone. Assumes nothing.
-use Prim.Native.Nat.{ℕ, _+_}
+use Prim.Native.Nat.{ℕ, _+_, _*_, _≤_, _<_}
+use mathlib.Core.Path.{_≡_}
 use mathlib.Core.Bool.{Bool, true, false, _&&_, not}
-use mathlib.Core.List.{List, [], _∷_, _++_}
+use mathlib.Core.List.{List, [], _∷_, _++_, List·Memᴰ}
 use lib.Dec.{ltb, eqb}
-use lib.ListN.{length}
-use Rattle.der.specs.meaning.Tree.{Tree, none, element}
+use lib.ListN.{length, take as first-numbers, drop}
+use Rattle.der.specs.meaning.Tree.{Tree, none}
+use Rattle.crmf.specs.meaning.Lists.{over}
 use Rattle.crmf.specs.meaning.Kinds as kinds
-use Rattle.crmf.specs.meaning.Notation.{among, Inside, Form, Part, Top}
+use Rattle.crmf.specs.meaning.Notation.{among, Inside, Parts, Top}
 use Rattle.crmf.specs.meaning.Grammar.{content}
 use Rattle.crmf.specs.meaning.Language.{Matches, end, pass, take, choose, Within, unseen, parts}
 
@@ -40,7 +42,7 @@ parentIf kind n up = elim (eqb kind kinds.none) [ true ↦ up | false ↦ n ]
 -- The rows of a container's elements, in order of first byte (SPECIFICATION 5): n is the number of the next row, up is the number of the row
 -- around them, and place and whole are the container's own. A value that decides its item's kind gives the item its row.
 unfoldable mutual
-  pub rows : {R : ℕ → Bool} {ps : List Part} {t : Tree} → Matches R ps t → (n up place whole : ℕ) → List Row
+  pub rows : {R : ℕ → Bool} {ps : Parts} {t : Tree} → Matches R ps t → (n up place whole : ℕ) → List Row
   rows end n up place whole = []
   rows (pass ok m) n up place whole = rows m n up place whole
   rows (take {first = p} {whole = w} f among fits read kept within m) n up place whole =
@@ -70,16 +72,30 @@ numbers (r ∷ rs) = r .kind ∷ r .first ∷ r .whole ∷ r .parent ∷ numbers
 abbrev pub longId : ℕ → ℕ → Bool
 longId kind whole = eqb kind kinds.certReqId && ltb 10 whole
 
--- the first long certReqId so far, by its whole length (0: none) and its place, after one more row
-abbrev pub longer : ℕ × ℕ → ℕ → ℕ → ℕ → ℕ × ℕ
-longer h kind first whole = elim (longId kind whole && eqb (h .0) 0) [ true ↦ (whole, first) | false ↦ h ]
-
--- the first certReqId "of more than 8 content octets" among some rows, unless one was met before them
-unfoldable pub firstLong : ℕ × ℕ → List Row → ℕ × ℕ
-firstLong h [] = h
-firstLong h (r ∷ rs) = firstLong (longer h (r .kind) (r .first) (r .whole)) rs
-
 -- whether none of some rows is such a certReqId
 unfoldable pub allShort : List Row → Bool
 allShort [] = true
 allShort (r ∷ rs) = not (longId (r .kind) (r .whole)) && allShort rs
+
+-- One of some rows is "a certReqId of more than 8 content octets", at this place.
+pub record LongIdAt (rs : List Row) (place : ℕ) : Type 0 where
+  pub row : Row
+  pub among : List·Memᴰ row rs
+  pub certReqId : row .kind ≡ kinds.certReqId
+  -- 8 content octets have two before them
+  pub long : 10 < row .whole
+  pub stands : row .first ≡ place
+
+-- the "first such" in byte order, which is the place of a refusal 10
+pub record FirstLongId (rs : List Row) (place : ℕ) : Type 0 where
+  pub here : LongIdAt rs place
+  pub least : (other : ℕ) → LongIdAt rs other → place ≤ other
+
+-- A table with some rows in its first numbers, and its other numbers as they were: "An accepted reading changes the table's first 4 times
+-- count numbers and no others".
+pub record Holds (rs : List Row) (count : ℕ) (old new : List ℕ) : Type 0 where
+  pub counted : length rs ≡ count
+  pub whole : new ≡ over old 0 (numbers rs)
+  pub first : first-numbers (width * count) new ≡ numbers rs
+  pub others : drop (width * count) new ≡ drop (width * count) old
+  pub sized : length new ≡ length old

@@ -1,11 +1,13 @@
 -- The value rules, each on an element's content octets: document 01's section "The grammar", SPECIFICATION 3.5 and 3.6. Assumes nothing.
-use Prim.Native.Nat.{ℕ, _+_, _-_, _*_, _%_}
+use Prim.Native.Nat.{ℕ, zero, suc, _+_, _-_, _*_, _%_}
 use mathlib.Core.Bool.{Bool, true, false, not, _&&_, _||_}
 use mathlib.Core.List.{List, [], _∷_}
+use mathlib.Core.Option.{Option, some as present, none as absent, Option·getD, bind}
 use lib.Dec.{leb, eqb}
-use lib.ListN.{length, getD}
+use lib.ListN.{length, getD, getElem?}
 use Rattle.der.specs.meaning.Content as der
 use Rattle.crmf.specs.meaning.Lists.{same}
+use Rattle.crmf.specs.meaning.Details.{partMissing, valueBroken, listOrLocation}
 
 -- "raVerified 80 empty"
 unfoldable pub isEmpty : List ℕ → Bool
@@ -15,9 +17,9 @@ isEmpty c = eqb (length c) 0
 unfoldable pub isUpTo : ℕ → List ℕ → Bool
 isUpTo n c = eqb (length c) 1 && leb (getD c 0 0) n
 
--- the value of such an octet; n + 1 if there is none
-unfoldable pub number : ℕ → List ℕ → ℕ
-number n c = elim (isUpTo n c) [ true ↦ getD c 0 0 | false ↦ n + 1 ]
+-- the value of such an octet, if there is one
+unfoldable pub number : ℕ → List ℕ → Option ℕ
+number n c = elim (isUpTo n c) [ true ↦ present (getD c 0 0) | false ↦ absent ]
 
 -- "a BOOLEAN present must be FF"
 unfoldable pub isTrue : List ℕ → Bool
@@ -27,42 +29,77 @@ isTrue c = same c (0xFF ∷ [])
 abbrev pub digit : ℕ → Bool
 digit b = leb 0x30 b && leb b 0x39
 
--- the number that the two decimal digits at i make; 100 if they are not both digits
-unfoldable pub pairAt : List ℕ → ℕ → ℕ
+-- the number that the two decimal digits at i make, if both are digits
+unfoldable pub pairAt : List ℕ → ℕ → Option ℕ
 pairAt c i =
-    elim (digit (getD c i 0) && digit (getD c (i + 1) 0)) [ true ↦ (getD c i 0 - 0x30) * 10 + (getD c (i + 1) 0 - 0x30) | false ↦ 100 ]
+    elim (digit (getD c i 0) && digit (getD c (i + 1) 0)) [
+      | true ↦ present ((getD c i 0 - 0x30) * 10 + (getD c (i + 1) 0 - 0x30))
+      | false ↦ absent
+    ]
 
 -- the Gregorian leap rule, taken back to the year 0
 unfoldable pub leap : ℕ → Bool
 leap year = eqb (year % 4) 0 && (not (eqb (year % 100) 0) || eqb (year % 400) 0)
 
--- the days of each month of a common year, January at 1; 0 at 0, which is no month
-abbrev pub monthDays : List ℕ
-monthDays = 0 ∷ 31 ∷ 28 ∷ 31 ∷ 30 ∷ 31 ∷ 30 ∷ 31 ∷ 31 ∷ 30 ∷ 31 ∷ 30 ∷ 31 ∷ []
+-- the days of each month of a year, from January on
+unfoldable pub monthDays : ℕ → List ℕ
+monthDays year = 31 ∷ (elim (leap year) [ true ↦ 29 | false ↦ 28 ]) ∷ 31 ∷ 30 ∷ 31 ∷ 30 ∷ 31 ∷ 31 ∷ 30 ∷ 31 ∷ 30 ∷ 31 ∷ []
 
--- the days of a month of a year; 0 if the number is no month's
-unfoldable pub daysIn : ℕ → ℕ → ℕ
-daysIn year month = getD monthDays month 0 + (elim (leap year && eqb month 2) [ true ↦ 1 | false ↦ 0 ])
+-- the days of a month of a year, January being 1, if there is such a month
+unfoldable pub daysIn : ℕ → ℕ → Option ℕ
+daysIn year zero = absent
+daysIn year (suc month) = getElem? (monthDays year) month
 
--- "MMDDHHMMSSZ; a real Gregorian day, hour to 23, minute and second to 59", after the year, from i on
-unfoldable pub isMoment : ℕ → List ℕ → ℕ → Bool
-isMoment year c i =
-    let day = pairAt c (i + 2) in
-    leb 1 day && leb day (daysIn year (pairAt c i)) && leb (pairAt c (i + 4)) 23 && leb (pairAt c (i + 6)) 59 && leb (pairAt c (i + 8)) 59
-    && eqb (getD c (i + 10) 0) 0x5A
+-- A moment, with the year in full.
+pub record Moment : Type 0 where
+  pub year : ℕ
+  pub month : ℕ
+  pub day : ℕ
+  pub hour : ℕ
+  pub minute : ℕ
+  pub second : ℕ
+
+-- whether the month has the day
+unfoldable pub isDay : Moment → Bool
+isDay m = elim (daysIn (m .year) (m .month)) [ present days ↦ leb 1 (m .day) && leb (m .day) days | absent ↦ false ]
+
+-- "a real Gregorian day, hour to 23, minute and second to 59"
+unfoldable pub isReal : Moment → Bool
+isReal m = isDay m && leb (m .hour) 23 && leb (m .minute) 59 && leb (m .second) 59
+
+-- "MMDDHHMMSSZ": the moment of a year whose other parts are written from i on, with two digits each, if Z comes after them
+unfoldable pub momentAt : ℕ → List ℕ → ℕ → Option Moment
+momentAt year c i =
+    bind (pairAt c i) (λ month.
+    bind (pairAt c (i + 2)) (λ day.
+    bind (pairAt c (i + 4)) (λ hour.
+    bind (pairAt c (i + 6)) (λ minute.
+    bind (pairAt c (i + 8)) (λ second.
+    elim (eqb (getD c (i + 10) 0) 0x5A) [
+      | true ↦ present (record { year = year; month = month; day = day; hour = hour; minute = minute; second = second })
+      | false ↦ absent
+    ])))))
 
 -- "two-digit years 50 to 99 are 19xx, others 20xx"
 unfoldable pub century : ℕ → ℕ
 century yy = elim (leb 50 yy) [ true ↦ 1900 + yy | false ↦ 2000 + yy ]
 
 -- "17, YYMMDDHHMMSSZ"
-unfoldable pub isUtcTime : List ℕ → Bool
-isUtcTime c = eqb (length c) 13 && leb (pairAt c 0) 99 && isMoment (century (pairAt c 0)) c 2
+unfoldable pub utcMoment : List ℕ → Option Moment
+utcMoment c = elim (eqb (length c) 13) [ true ↦ bind (pairAt c 0) (λ yy. momentAt (century yy) c 2) | false ↦ absent ]
 
 -- "18, YYYYMMDDHHMMSSZ"
-unfoldable pub isGeneralizedTime : List ℕ → Bool
-isGeneralizedTime c =
-    eqb (length c) 15 && leb (pairAt c 0) 99 && leb (pairAt c 2) 99 && isMoment (pairAt c 0 * 100 + pairAt c 2) c 4
+unfoldable pub generalizedMoment : List ℕ → Option Moment
+generalizedMoment c =
+    elim (eqb (length c) 15) [
+      | true ↦ bind (pairAt c 0) (λ hundreds. bind (pairAt c 2) (λ rest. momentAt (hundreds * 100 + rest) c 4))
+      | false ↦ absent
+    ]
+
+-- whether a moment is written, and it is real
+unfoldable pub isTime : Option Moment → Bool
+isTime absent = false
+isTime (present m) = isReal m
 
 -- A rule that an element's value keeps, judged after the element's inside (SPECIFICATION 3.6).
 pub data Rule : Type 0 where
@@ -90,8 +127,8 @@ keeps bitString c = der.bitString c
 keeps empty c = isEmpty c
 keeps zeroOrOne c = isUpTo 1 c
 keeps true-only c = isTrue c
-keeps utcTime c = isUtcTime c
-keeps generalizedTime c = isGeneralizedTime c
+keeps utcTime c = isTime (utcMoment c)
+keeps generalizedTime c = isTime (generalizedMoment c)
 keeps some c = not (isEmpty c)
 keeps never c = false
 
@@ -102,15 +139,30 @@ pub data Selector : Type 0 where
   -- "Type octets 2B 06 01 05 05 07 05 01 n in controls", "In regInfo 2B 06 01 05 05 07 05 02 n"
   controlType infoType : Selector
 
--- the last octet of a known type with the arc a, if it is at most `most`; 0 if the type is unknown (SPECIFICATION 3.5)
-unfoldable pub typeNumber : ℕ → ℕ → List ℕ → ℕ
+-- the last octet n of a known type with the arc a, from 1 to `most`; none if the type is unknown (SPECIFICATION 3.5)
+unfoldable pub typeNumber : ℕ → ℕ → List ℕ → Option ℕ
 typeNumber a most c =
     let n = getD c 8 0 in
-    elim (same c (0x2B ∷ 0x06 ∷ 0x01 ∷ 0x05 ∷ 0x05 ∷ 0x07 ∷ 0x05 ∷ a ∷ n ∷ []) && leb n most) [ true ↦ n | false ↦ 0 ]
+    elim (same c (0x2B ∷ 0x06 ∷ 0x01 ∷ 0x05 ∷ 0x05 ∷ 0x07 ∷ 0x05 ∷ a ∷ n ∷ []) && leb 1 n && leb n most) [ true ↦ present n | false ↦ absent ]
 
--- the number of the way that a value selects, from 0; if the value breaks its rule, a number that no way has
-unfoldable pub selected : Selector → List ℕ → ℕ
+-- the number of the way that a value selects, from 0; none if the value breaks its rule. A known type selects the way of its number, and an
+-- unknown one way 0, "any value".
+unfoldable pub selected : Selector → List ℕ → Option ℕ
 selected action c = number 1 c
 selected method c = number 3 c
-selected controlType c = typeNumber 1 6 c
-selected infoType c = typeNumber 2 2 c
+selected controlType c = present (Option·getD (typeNumber 1 6 c) 0)
+selected infoType c = present (Option·getD (typeNumber 2 2 c) 0)
+
+-- request A9's detail of a broken rule: an empty validity lacks a part, and a list beside action 0 is "control 3's list"
+abbrev pub ruleDetail : Rule → ℕ
+ruleDetail always = valueBroken
+ruleDetail integer = valueBroken
+ruleDetail boolean = valueBroken
+ruleDetail bitString = valueBroken
+ruleDetail empty = valueBroken
+ruleDetail zeroOrOne = valueBroken
+ruleDetail true-only = valueBroken
+ruleDetail utcTime = valueBroken
+ruleDetail generalizedTime = valueBroken
+ruleDetail some = partMissing
+ruleDetail never = listOrLocation

@@ -3,8 +3,7 @@ use crate::grammar::codes::*;
 use crate::kinds;
 
 // Where each container's lines start, in the order of the names in specs/meaning/Notation.antt. A start is the one before it plus the number
-// of that container's lines, END included. A constant is written out wherever it is named, and the compiler takes no table of more than
-// 10,000 terms, so three starts count from further back.
+// of that container's lines, END included.
 pub const TOP: usize = 1;
 
 pub const BATCH: usize = TOP + 2;
@@ -35,8 +34,7 @@ pub const EXTENSIONS: usize = ATTRIBUTE + 3;
 
 pub const EXTENSION: usize = EXTENSIONS + 3;
 
-// After all lines of the request, from Top's to Extension's.
-pub const SIGNATURE: usize = TOP + 56;
+pub const SIGNATURE: usize = EXTENSION + 4;
 
 pub const POPOSK_INPUT: usize = SIGNATURE + 4;
 
@@ -46,8 +44,7 @@ pub const PK_MAC: usize = SENDER + 2;
 
 pub const KEY_PROOF: usize = PK_MAC + 3;
 
-// After all lines of the proofs of possession, from Signature's to KeyProof's.
-pub const CONTROLS: usize = SIGNATURE + 19;
+pub const CONTROLS: usize = KEY_PROOF + 6;
 
 pub const CONTROL: usize = CONTROLS + 3;
 
@@ -83,8 +80,7 @@ pub const ARCHIVED: usize = WHERE + 2;
 
 pub const CERT_ID: usize = ARCHIVED + 3;
 
-// After all lines of the controls, from Controls' to CertId's.
-pub const REG_INFO: usize = CONTROLS + 55;
+pub const REG_INFO: usize = CERT_ID + 3;
 
 pub const INFO: usize = REG_INFO + 3;
 
@@ -169,12 +165,12 @@ const ONLY_2_D2: usize = EDITION * 2 + 2;
 const ROW: usize = ROWS;
 
 // An entry: the pass and the identifier; the inside, the mark, the judge and the action; the kinds and how many rows they are; the line to go
-// on with. What isn't named is 0: no inside, both editions, no rule, no row.
+// on with. What isn't named is 0: no inside, both editions, no rule, no row. No NEXT means that the container has no further part.
 pub(crate) const TABLE: [usize; LINES] = [
-    // No container starts here, so an inside of 0 is free.
+    // Line 0: no container starts here, so an inside of 0 is free; and it is an end, so after its last part a container goes on here.
     END,
     // Top: batch 30
-    ONE + ID * 0x30 + INSIDE * BATCH + INTO + KIND * kinds::BATCH + ROW + NEXT * (TOP + 1),
+    ONE + ID * 0x30 + INSIDE * BATCH + INTO + KIND * kinds::BATCH + ROW,
     END,
     // Batch (CertReqMessages): message 30
     ONE + ID * 0x30 + INSIDE * MESSAGE + INTO + KIND * kinds::MESSAGE + ROW + NEXT * (BATCH + 1),
@@ -207,10 +203,7 @@ pub(crate) const TABLE: [usize; LINES] = [
         + (KIND * kinds::KEY_AGREEMENT + ROW)
         + NEXT * (MESSAGE + 5),
     // regInfo 30?
-    (MAYBE + ID * 0x30)
-        + (INSIDE * REG_INFO + INTO)
-        + (KIND * kinds::REG_INFO + ROW)
-        + NEXT * (MESSAGE + 6),
+    MAYBE + ID * 0x30 + INSIDE * REG_INFO + INTO + KIND * kinds::REG_INFO + ROW,
     END,
     // CertReq (CertRequest): certReqId 02
     ONE + ID * 0x02 + A_CERT_REQ_ID + KIND * kinds::CERT_REQ_ID + ROW + NEXT * (CERT_REQ + 1),
@@ -220,10 +213,7 @@ pub(crate) const TABLE: [usize; LINES] = [
         + (KIND * kinds::CERT_TEMPLATE + ROW)
         + NEXT * (CERT_REQ + 2),
     // controls 30?
-    (MAYBE + ID * 0x30)
-        + (INSIDE * CONTROLS + INTO)
-        + (KIND * kinds::CONTROLS + ROW)
-        + NEXT * (CERT_REQ + 3),
+    MAYBE + ID * 0x30 + INSIDE * CONTROLS + INTO + KIND * kinds::CONTROLS + ROW,
     END,
     // Template (CertTemplate): version 80 INTEGER?
     MAYBE + ID * 0x80 + IMPLICIT_INTEGER + KIND * kinds::VERSION + ROW + NEXT * (TEMPLATE + 1),
@@ -256,10 +246,7 @@ pub(crate) const TABLE: [usize; LINES] = [
         + (KIND * kinds::SUBJECT_UID + ROW)
         + NEXT * (TEMPLATE + 9),
     // extensions A9?
-    (MAYBE + ID * 0xA9)
-        + (INSIDE * EXTENSIONS + INTO)
-        + (KIND * kinds::EXTENSIONS + ROW)
-        + NEXT * (TEMPLATE + 10),
+    MAYBE + ID * 0xA9 + INSIDE * EXTENSIONS + INTO + KIND * kinds::EXTENSIONS + ROW,
     END,
     // Validity (OptionalValidity): notBefore A0 (Time)?
     (MAYBE + ID * 0xA0)
@@ -267,28 +254,25 @@ pub(crate) const TABLE: [usize; LINES] = [
         + (KIND * kinds::NOT_BEFORE + ROW)
         + NEXT * (VALIDITY + 1),
     // notAfter A1 (Time)?
-    (MAYBE + ID * 0xA1)
-        + (INSIDE * TIME + INTO)
-        + (KIND * kinds::NOT_AFTER + ROW)
-        + NEXT * (VALIDITY + 2),
+    MAYBE + ID * 0xA1 + INSIDE * TIME + INTO + KIND * kinds::NOT_AFTER + ROW,
     END,
     // Time: 17, YYMMDDHHMMSSZ
-    ONE_OF + ID * 0x17 + JUDGE * UTC_TIME + BY_LINE + NEXT * (TIME + 2),
+    ONE_OF + ID * 0x17 + JUDGE * UTC_TIME + BY_LINE,
     // or 18, YYYYMMDDHHMMSSZ
-    ONE + ID * 0x18 + JUDGE * GENERALIZED_TIME + BY_LINE + NEXT * (TIME + 2),
+    ONE + ID * 0x18 + JUDGE * GENERALIZED_TIME + BY_LINE,
     END,
     // AlgId (AlgorithmIdentifier): 06
     ONE + ID * 0x06 + AN_OBJECT_IDENTIFIER + NEXT * (ALG_ID + 1),
     // any?
-    MAYBE_VALUE + NEXT * (ALG_ID + 2),
+    MAYBE_VALUE,
     END,
     // Spki (SubjectPublicKeyInfo): AlgId 30
     ONE + ID * 0x30 + INTO_ALG_ID + NEXT * (SPKI + 1),
     // 03
-    ONE + ID * 0x03 + A_BIT_STRING + NEXT * (SPKI + 2),
+    ONE + ID * 0x03 + A_BIT_STRING,
     END,
     // OneName (Name): RdnSequence 30
-    ONE + ID * 0x30 + INSIDE * RDN_SEQUENCE + INTO + NEXT * (ONE_NAME + 1),
+    ONE + ID * 0x30 + INSIDE * RDN_SEQUENCE + INTO,
     END,
     // RdnSequence (RDNSequence): 31, any number
     ANY + ID * 0x31 + INTO_RDN + NEXT * RDN_SEQUENCE,
@@ -301,7 +285,7 @@ pub(crate) const TABLE: [usize; LINES] = [
     // Attribute (AttributeTypeAndValue): 06
     ONE + ID * 0x06 + AN_OBJECT_IDENTIFIER + NEXT * (ATTRIBUTE + 1),
     // any
-    ONE_VALUE + NEXT * (ATTRIBUTE + 2),
+    ONE_VALUE,
     END,
     // Extensions: Extension 30
     (ONE + ID * 0x30)
@@ -319,7 +303,7 @@ pub(crate) const TABLE: [usize; LINES] = [
     // 01?, a BOOLEAN present must be FF
     MAYBE + ID * 0x01 + JUDGE * TRUE_ONLY + BY_LINE + NEXT * (EXTENSION + 2),
     // 04
-    ONE + ID * 0x04 + UNSEEN + NEXT * (EXTENSION + 3),
+    ONE + ID * 0x04 + UNSEEN,
     END,
     // Signature (POPOSigningKey): poposkInput A0?
     (MAYBE + ID * 0xA0)
@@ -334,45 +318,35 @@ pub(crate) const TABLE: [usize; LINES] = [
         + ROW
         + NEXT * (SIGNATURE + 2),
     // 03
-    ONE + ID * 0x03 + A_BIT_STRING + KIND * kinds::SIGNATURE_BITS + ROW + NEXT * (SIGNATURE + 3),
+    ONE + ID * 0x03 + A_BIT_STRING + KIND * kinds::SIGNATURE_BITS + ROW,
     END,
     // PoposkInput (POPOSigningKeyInput): sender A0 (GeneralName)
     ONE_OF + ID * 0xA0 + INSIDE * SENDER + INTO + NEXT * (POPOSK_INPUT + 2),
     // or PkMac 30
     ONE + ID * 0x30 + INSIDE * PK_MAC + INTO + NEXT * (POPOSK_INPUT + 2),
     // Spki 30
-    ONE + ID * 0x30 + INTO_SPKI + NEXT * (POPOSK_INPUT + 3),
+    ONE + ID * 0x30 + INTO_SPKI,
     END,
     // Sender: a GeneralName
-    ONE_GENERAL_NAME + NEXT * (SENDER + 1),
+    ONE_GENERAL_NAME,
     END,
     // PkMac (PKMACValue): AlgId 30
     ONE + ID * 0x30 + INTO_ALG_ID + NEXT * (PK_MAC + 1),
     // 03
-    ONE + ID * 0x03 + A_BIT_STRING + NEXT * (PK_MAC + 2),
+    ONE + ID * 0x03 + A_BIT_STRING,
     END,
     // KeyProof (POPOPrivKey): 80 BIT STRING
-    (ONE_OF + ID * 0x80)
-        + IMPLICIT_BIT_STRING
-        + (KIND * kinds::THIS_MESSAGE + ROW)
-        + NEXT * (KEY_PROOF + 5),
+    ONE_OF + ID * 0x80 + IMPLICIT_BIT_STRING + KIND * kinds::THIS_MESSAGE + ROW,
     // or 81 INTEGER 0 or 1
-    (ONE_OF + ID * 0x81)
-        + (JUDGE * ZERO_OR_ONE + BY_LINE)
-        + (KIND * kinds::SUBSEQUENT_MESSAGE + ROW)
-        + NEXT * (KEY_PROOF + 5),
+    ONE_OF + ID * 0x81 + JUDGE * ZERO_OR_ONE + BY_LINE + KIND * kinds::SUBSEQUENT_MESSAGE + ROW,
     // or 82 BIT STRING
-    ONE_OF + ID * 0x82 + IMPLICIT_BIT_STRING + KIND * kinds::DH_MAC + ROW + NEXT * (KEY_PROOF + 5),
+    ONE_OF + ID * 0x82 + IMPLICIT_BIT_STRING + KIND * kinds::DH_MAC + ROW,
     // or A3 PkMac content (D1)
     (ONE_OF + ID * 0xA3)
         + (INSIDE * PK_MAC + MARK * ONLY_2_D1 + BY_LINE)
-        + (KIND * kinds::AGREE_MAC + ROW)
-        + NEXT * (KEY_PROOF + 5),
+        + (KIND * kinds::AGREE_MAC + ROW),
     // or A4 any nest (D1)
-    (ONE + ID * 0xA4)
-        + (MARK * ONLY_2_D1 + BY_LINE)
-        + (KIND * kinds::ENCRYPTED_KEY + ROW)
-        + NEXT * (KEY_PROOF + 5),
+    ONE + ID * 0xA4 + MARK * ONLY_2_D1 + BY_LINE + KIND * kinds::ENCRYPTED_KEY + ROW,
     END,
     // Controls: item 30
     ONE + ID * 0x30 + INSIDE * CONTROL + INTO + NEXT * (CONTROLS + 1),
@@ -397,47 +371,29 @@ pub(crate) const TABLE: [usize; LINES] = [
     WAY + NEXT * PROTOCOL_KEY,
     END,
     // UnknownControl: any value
-    ONE_VALUE + ITEM * kinds::UNKNOWN_CONTROL + ROW + NEXT * (UNKNOWN_CONTROL + 1),
+    ONE_VALUE + ITEM * kinds::UNKNOWN_CONTROL + ROW,
     END,
     // RegToken: 0C, a UTF8String
-    ONE + ID * 0x0C + A_UTF8_STRING + ITEM * kinds::REG_TOKEN + ROW + NEXT * (REG_TOKEN + 1),
+    ONE + ID * 0x0C + A_UTF8_STRING + ITEM * kinds::REG_TOKEN + ROW,
     END,
     // Authenticator: 0C, a UTF8String
-    (ONE + ID * 0x0C)
-        + A_UTF8_STRING
-        + (ITEM * kinds::AUTHENTICATOR + ROW)
-        + NEXT * (AUTHENTICATOR + 1),
+    ONE + ID * 0x0C + A_UTF8_STRING + ITEM * kinds::AUTHENTICATOR + ROW,
     END,
     // PublicationInfo (PKIPublicationInfo): 30
-    (ONE + ID * 0x30)
-        + (INSIDE * PUB_INFO + INTO)
-        + (ITEM * kinds::PKI_PUBLICATION_INFO + ROW)
-        + NEXT * (PUBLICATION_INFO + 1),
+    ONE + ID * 0x30 + INSIDE * PUB_INFO + INTO + ITEM * kinds::PKI_PUBLICATION_INFO + ROW,
     END,
     // ArchiveOptions (PKIArchiveOptions): A0
-    (ONE_OF + ID * 0xA0)
-        + (INSIDE * ARCHIVED + INTO)
-        + (ITEM * kinds::PKI_ARCHIVE_OPTIONS + ROW)
-        + NEXT * (ARCHIVE_OPTIONS + 3),
+    ONE_OF + ID * 0xA0 + INSIDE * ARCHIVED + INTO + ITEM * kinds::PKI_ARCHIVE_OPTIONS + ROW,
     // or 81
-    (ONE_OF + ID * 0x81)
-        + UNSEEN
-        + (ITEM * kinds::PKI_ARCHIVE_OPTIONS + ROW)
-        + NEXT * (ARCHIVE_OPTIONS + 3),
+    ONE_OF + ID * 0x81 + UNSEEN + ITEM * kinds::PKI_ARCHIVE_OPTIONS + ROW,
     // or 82 BOOLEAN
-    (ONE + ID * 0x82)
-        + (JUDGE * BOOLEAN + BY_LINE)
-        + (ITEM * kinds::PKI_ARCHIVE_OPTIONS + ROW)
-        + NEXT * (ARCHIVE_OPTIONS + 3),
+    ONE + ID * 0x82 + JUDGE * BOOLEAN + BY_LINE + ITEM * kinds::PKI_ARCHIVE_OPTIONS + ROW,
     END,
     // OldCertId (CertId): 30
-    (ONE + ID * 0x30)
-        + (INSIDE * CERT_ID + INTO)
-        + (ITEM * kinds::OLD_CERT_ID + ROW)
-        + NEXT * (OLD_CERT_ID + 1),
+    ONE + ID * 0x30 + INSIDE * CERT_ID + INTO + ITEM * kinds::OLD_CERT_ID + ROW,
     END,
     // ProtocolKey (SubjectPublicKeyInfo): Spki 30
-    ONE + ID * 0x30 + INTO_SPKI + ITEM * kinds::PROTOCOL_ENCR_KEY + ROW + NEXT * (PROTOCOL_KEY + 1),
+    ONE + ID * 0x30 + INTO_SPKI + ITEM * kinds::PROTOCOL_ENCR_KEY + ROW,
     END,
     // PubInfo (PKIPublicationInfo): action 02 (0 or 1)
     ONE + ID * 0x02 + JUDGE * BY_ACTION + BY_LINE + NEXT * (PUB_INFO + 1),
@@ -447,10 +403,10 @@ pub(crate) const TABLE: [usize; LINES] = [
     WAY + NEXT * PUBLISHED,
     END,
     // NotPublished: the list (pubInfos) 30?, only with 1
-    MAYBE + ID * 0x30 + INSIDE * LOCATIONS + JUDGE * NEVER + BY_LINE + NEXT * (NOT_PUBLISHED + 1),
+    MAYBE + ID * 0x30 + INSIDE * LOCATIONS + JUDGE * NEVER + BY_LINE,
     END,
     // Published: the list (pubInfos) 30?
-    MAYBE + ID * 0x30 + INSIDE * LOCATIONS + INTO + NEXT * (PUBLISHED + 1),
+    MAYBE + ID * 0x30 + INSIDE * LOCATIONS + INTO,
     END,
     // Locations (pubInfos): 30
     ONE + ID * 0x30 + INSIDE * LOCATION + INTO + NEXT * (LOCATIONS + 1),
@@ -469,20 +425,20 @@ pub(crate) const TABLE: [usize; LINES] = [
     WAY + NEXT * WHERE,
     END,
     // DontCare (pubLocation): GeneralName? (D3)
-    MAYBE_GENERAL_NAME + MARK * ONLY_1_D3 + NEXT * (DONT_CARE + 1),
+    MAYBE_GENERAL_NAME + MARK * ONLY_1_D3,
     END,
     // Where (pubLocation): GeneralName?
-    MAYBE_GENERAL_NAME + NEXT * (WHERE + 1),
+    MAYBE_GENERAL_NAME,
     END,
     // Archived (EncryptedKey): 30
-    ONE_OF + ID * 0x30 + BY_LINE + NEXT * (ARCHIVED + 2),
+    ONE_OF + ID * 0x30 + BY_LINE,
     // or A0
-    ONE + ID * 0xA0 + BY_LINE + NEXT * (ARCHIVED + 2),
+    ONE + ID * 0xA0 + BY_LINE,
     END,
     // CertId: issuer, a GeneralName
     ONE_GENERAL_NAME + NEXT * (CERT_ID + 1),
     // 02
-    ONE + ID * 0x02 + AN_INTEGER + NEXT * (CERT_ID + 2),
+    ONE + ID * 0x02 + AN_INTEGER,
     END,
     // RegInfo: item 30
     ONE + ID * 0x30 + INSIDE * INFO + INTO + NEXT * (REG_INFO + 1),
@@ -499,23 +455,16 @@ pub(crate) const TABLE: [usize; LINES] = [
     WAY + NEXT * CARRIED,
     END,
     // UnknownInfo: any value
-    ONE_VALUE + ITEM * kinds::UNKNOWN_REG_INFO + ROW + NEXT * (UNKNOWN_INFO + 1),
+    ONE_VALUE + ITEM * kinds::UNKNOWN_REG_INFO + ROW,
     END,
     // Pairs: 04, an OCTET STRING (D2)
-    (ONE_OF + ID * 0x04)
-        + (MARK * ONLY_1_D2 + BY_LINE)
-        + (ITEM * kinds::OCTET_PAIRS + ROW)
-        + NEXT * (PAIRS + 2),
+    ONE_OF + ID * 0x04 + MARK * ONLY_1_D2 + BY_LINE + ITEM * kinds::OCTET_PAIRS + ROW,
     // or 0C, UTF8Pairs (D2)
-    (ONE + ID * 0x0C)
-        + (MARK * ONLY_2_D2 + BY_LINE)
-        + (ITEM * kinds::UTF8_PAIRS + ROW)
-        + NEXT * (PAIRS + 2),
+    ONE + ID * 0x0C + MARK * ONLY_2_D2 + BY_LINE + ITEM * kinds::UTF8_PAIRS + ROW,
     END,
     // Carried (CertRequest): certReq 30
     (ONE + ID * 0x30)
         + (INSIDE * CERT_REQ + INTO)
-        + (ITEM * kinds::REG_INFO_CERT_REQ + KIND * kinds::CERT_REQ + ROW * 2)
-        + NEXT * (CARRIED + 1),
+        + (ITEM * kinds::REG_INFO_CERT_REQ + KIND * kinds::CERT_REQ + ROW * 2),
     END,
 ];

@@ -3,6 +3,7 @@ use crate::grammar::codes;
 use der::content;
 ghost use Prim.Native.Nat.{_+_, _≤_, _<_};
 ghost use mathlib.Core.Path.{_≡_};
+ghost use mathlib.Core.Option.{Option·getD};
 ghost use lib.ListN.{length};
 ghost use Rattle.crmf.specs.meaning.Value as value;
 ghost use Rattle.crmf.specs.meaning.Value.{Rule, Selector};
@@ -47,7 +48,7 @@ fn is_digit(octet: u8) -> bool
 // The number that the two decimal digits at i make; 100 if they are not both digits.
 fn pair_at(content: &[u8], i: usize) -> usize
     requires { ⌜ i + 1 < length (now content) ⌝ }
-    ensures { λ r. ⌜ r ≡ value.pairAt (now (content .entry)) i ⌝ }
+    ensures { λ r. ⌜ r ≡ Option·getD (value.pairAt (now (content .entry)) i) 100 ⌝ }
 {
     let tens = content[i];
     let ones = content[i + 1];
@@ -69,7 +70,7 @@ const MONTH_DAYS: [usize; 13] = [0, 31, 28, 31, 30, 31, 30, 31, 31, 30, 31, 30, 
 
 // The days of a month of a year; 0 if the number is no month's.
 fn days_in(year: usize, month: usize) -> usize
-    ensures { λ r. ⌜ r ≡ value.daysIn year month ⌝ }
+    ensures { λ r. ⌜ r ≡ Option·getD (value.daysIn year month) 0 ⌝ }
 {
     if 12 < month {
         return 0;
@@ -84,7 +85,7 @@ fn days_in(year: usize, month: usize) -> usize
 // Whether month, day, hour, minute and second from i on are a moment of the year, with Z after them.
 fn is_moment(year: usize, content: &[u8], i: usize) -> bool
     requires { ⌜ i + 10 < length (now content) ⌝ }
-    ensures { λ r. ⌜ r ≡ value.isMoment year (now (content .entry)) i ⌝ }
+    ensures { λ r. ⌜ r ≡ value.isTime (value.momentAt year (now (content .entry)) i) ⌝ }
 {
     let day = pair_at(content, i + 2);
     let days = days_in(year, pair_at(content, i));
@@ -112,7 +113,7 @@ fn century(year: usize) -> usize
 
 // Whether the octets are the content of a UTCTime.
 fn is_utc_time(content: &[u8]) -> bool
-    ensures { λ r. ⌜ r ≡ value.isUtcTime (now (content .entry)) ⌝ }
+    ensures { λ r. ⌜ r ≡ value.isTime (value.utcMoment (now (content .entry))) ⌝ }
 {
     if content.len() != 13 {
         return false;
@@ -123,7 +124,7 @@ fn is_utc_time(content: &[u8]) -> bool
 
 // Whether the octets are the content of a GeneralizedTime.
 fn is_generalized_time(content: &[u8]) -> bool
-    ensures { λ r. ⌜ r ≡ value.isGeneralizedTime (now (content .entry)) ⌝ }
+    ensures { λ r. ⌜ r ≡ value.isTime (value.generalizedMoment (now (content .entry))) ⌝ }
 {
     if content.len() != 15 {
         return false;
@@ -135,7 +136,7 @@ fn is_generalized_time(content: &[u8]) -> bool
 
 // The value of a single octet, if it is at most `most`; `most` + 1 for any other content.
 fn number(most: u8, content: &[u8]) -> usize
-    ensures { λ r. ⌜ r ≡ value.number most (now (content .entry)) ⌝ }
+    ensures { λ r. ⌜ r ≡ Option·getD (value.number most (now (content .entry))) (most + 1) ⌝ }
 {
     if is_up_to(most, content) {
         return content[0] as usize;
@@ -145,7 +146,7 @@ fn number(most: u8, content: &[u8]) -> usize
 
 // The last octet of a known type with the arc, if it is at most `most`; 0 if the type is unknown.
 fn type_number(arc: u8, most: u8, content: &[u8]) -> usize
-    ensures { λ r. ⌜ r ≡ value.typeNumber arc most (now (content .entry)) ⌝ }
+    ensures { λ r. ⌜ r ≡ Option·getD (value.typeNumber arc most (now (content .entry))) 0 ⌝ }
 {
     if content.len() != 9 {
         return 0;
@@ -184,9 +185,10 @@ pub(crate) fn keeps(code: usize, content: &[u8]) -> bool
     }
 }
 
-// The way that the content selects, by the selector that has the code; 0 if none has it.
+// The way that the content selects, by the selector that has the code, or the number of its ways if the content selects none; 0 if no
+// selector has the code.
 pub(crate) fn selected(code: usize, content: &[u8]) -> usize
-    ensures { λ r. ⌜ ((s : Selector) → judgeCode (choose s) ≡ code → r ≡ value.selected s (now (content .entry))) × (r ≤ 6) ⌝ }
+    ensures { λ r. ⌜ ((s : Selector) → judgeCode (choose s) ≡ code → r ≡ Option·getD (value.selected s (now (content .entry))) (walk.ways s)) × (r ≤ 6) ⌝ }
 {
     match code {
         codes::BY_ACTION => number(1, content),

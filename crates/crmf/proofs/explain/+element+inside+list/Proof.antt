@@ -14,7 +14,6 @@ use Rattle.der.specs.declared.element.reading.Element.{Element}
 use Rattle.der.specs.steps.Reading.{readAt, tree}
 use Rattle.crmf.specs.declared.grammar.element.Fit.{Fit}
 use Rattle.crmf.specs.declared.grammar.element.Fitting.the-variants.{Misfit}
-use Rattle.crmf.specs.declared.explain.Cursor.{Cursor}
 use Rattle.crmf.specs.declared.explain.WalkStep.{WalkStep}
 use Rattle.crmf.specs.declared.explain.WalkStep.the-variants.{On}
 use Rattle.crmf.specs.steps.grammar.Fitting.{Fitted, FitsAt}

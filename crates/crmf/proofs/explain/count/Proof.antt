@@ -1,6 +1,6 @@
 -- `crmf::explain::count` meets its contract: the list of elements from 0 to the input's end is the input's tree. Assumes nothing.
 use borrow.Author.Needs.{needs}
-use mathlib.Core.Path.{ap, _∙_, sym}
+use mathlib.Core.Path.{ap, _∙_}
 use native.Mathlib.Omega.{arith}
 use Rattle.crmf.specs.declared.explain.tally.Tally.{Tally}
 use Rattle.crmf.specs.steps.explain.Walk.{emptyTally}

@@ -1,7 +1,7 @@
 -- `crmf::recognise::list` and `element` meet their contracts, by one induction on the bytes that are left: an inside has fewer. The list's loop
 -- keeps this: the count from its place on is the whole list's. An element's count is what its line and its content say. Assumes nothing.
-use Prim.Native.Nat.{ℕ, suc, _+_, _-_, _*_, _≤_, _<_}
-use mathlib.Core.Path.{_≡_, refl, sym, ap, subst, _∙_}
+use Prim.Native.Nat.{ℕ, _+_, _-_, _*_, _≤_, _<_}
+use mathlib.Core.Path.{_≡_, sym, ap, subst, _∙_}
 use mathlib.Core.List.{List}
 use native.Mathlib.Omega.{arith}
 use borrow.Author.Needs.{needs}
@@ -22,7 +22,7 @@ use Rattle.crmf.specs.declared.recognise.Recognition.the-variants.{Rows,
 use Rattle.crmf.specs.declared.recognise.step.Visit.{Visit}
 use Rattle.crmf.specs.declared.recognise.step.Visit.the-variants.{Descend}
 use Rattle.crmf.specs.steps.explain.Walk.{line, findLine, judged, rowsBy}
-use Rattle.crmf.specs.steps.recognise.Inner.{contentCount, decode, Countable, ListCounted, Sized, VisitJustified, ElementCounted, countAfter}
+use Rattle.crmf.specs.steps.recognise.Inner.{contentCount, Countable, Sized, VisitJustified, ElementCounted}
 use Rattle.crmf.specs.steps.grammar.Packed.{insideField}
 use Rattle.crmf.proofs.theorems.lines.WordFields.{inside-at as inside-field}
 use Rattle.crmf.proofs.theorems.lines.Search.{found-names}

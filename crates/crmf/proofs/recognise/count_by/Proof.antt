@@ -1,6 +1,6 @@
 -- `crmf::recognise::count_by` meets its contract: it counts over the whole input, from the grammar's first line on. Assumes nothing.
 use borrow.Author.Needs.{needs}
-use mathlib.Core.Path.{_≡_, refl, sym, _∙_}
+use mathlib.Core.Path.{sym, _∙_}
 use Rattle.crmf.specs.meaning.Notation.{order}
 use Rattle.crmf.specs.steps.grammar.Lines.{start, startsFrom}
 use Rattle.crmf.specs.steps.recognise.Count.{recognised}

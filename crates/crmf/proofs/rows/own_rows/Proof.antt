@@ -9,7 +9,7 @@ use Rattle.crmf.specs.steps.explain.Walk.{line}
 use Rattle.crmf.specs.meaning.Rows.{Row, rowIf, parentIf}
 use Rattle.crmf.specs.steps.rows.Fill.{ownRows, Wrote}
 use Rattle.crmf.proofs.theorems.lines.WordFields.{item-at, kind-at}
-use Rattle.crmf.proofs.theorems.rows.Writing.{one-at-most, length-written, wrote-two}
+use Rattle.crmf.proofs.theorems.rows.Writing.{one-at-most, wrote-two}
 use Rattle.crmf.proofs.rows.own_rows.Statement.{statement}
 use Rattle.crmf.proofs.rows.own_rows.Tie as tie
 

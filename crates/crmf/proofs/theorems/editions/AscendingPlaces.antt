@@ -12,7 +12,7 @@ use lib.ListN.{length, length-append}
 use Rattle.der.specs.meaning.Identifier.{constructed}
 use Rattle.der.specs.meaning.Tree.{Tree, none, element, header, encode, Formed, WellFormed}
 use Rattle.der.proofs.Laws.{header-some, encode-none, encode-length, well-formed-none, well-formed-deep, well-formed-element}
-use Rattle.crmf.specs.meaning.Notation.{Mark, both, alone, Inside, Part}
+use Rattle.crmf.specs.meaning.Notation.{Mark, both, alone, Inside, Parts}
 use Rattle.crmf.specs.meaning.Language.{Matches, end, pass, take, choose, Within, unseen, parts, Occurrence, occurs, occurrences, occurrencesIn}
 use Rattle.crmf.specs.steps.explain.Walk.{line, trail}
 use Rattle.crmf.proofs.theorems.grammar.Choices.{never-both}
@@ -68,7 +68,7 @@ first-least f low high (x ∷ os) o p order here member taken =
 -- the occurrence that a mark gives has the place of its element
 occurs-ascend : (m : Mark) (p : ℕ) → Ascends p (suc p) (occurs m p)
 occurs-ascend both p = tt
-occurs-ascend (alone e d) p = (omega arith, omega arith, tt)
+occurs-ascend (alone e d detail) p = (omega arith, omega arith, tt)
 
 module _ (left place id first whole : ℕ) (c : List ℕ) (inside rest : Tree) (formed : WellFormed (suc left) place (element id first whole c inside rest)) where
   -- the element by itself is well-formed
@@ -156,7 +156,7 @@ mutual
   unfolding occurrences
 
   -- The places of the occurrences that the grammar's meaning gives ascend likewise.
-  pub occurrences-ascend : {R : ℕ → Bool} {ps : List Part} {t : Tree} (m : Matches R ps t) (left place : ℕ) → WellFormed left place t
+  pub occurrences-ascend : {R : ℕ → Bool} {ps : Parts} {t : Tree} (m : Matches R ps t) (left place : ℕ) → WellFormed left place t
       → Ascends place (place + length (encode t)) (occurrences m)
   occurrences-ascend end left place formed = tt
   occurrences-ascend (pass ok m) left place formed = occurrences-ascend m left place formed

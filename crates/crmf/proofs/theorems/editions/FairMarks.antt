@@ -16,7 +16,7 @@ use Rattle.crmf.proofs.theorems.explain.WalkSteps.{trailIn, Way, lost, 
 -- a mark names edition 1 or 2 and a difference that is not 0
 abbrev pub fair : Mark → Bool
 fair both = true
-fair (alone e d) = (eqb e 1 || eqb e 2) && not (eqb d 0)
+fair (alone e d detail) = (eqb e 1 || eqb e 2) && not (eqb d 0)
 
 -- The lines of the table have such marks, by computing, and so has the line of any number.
 pub line-fair : (n : ℕ) → fair (line n .mark) ≡ true
@@ -26,14 +26,14 @@ line-fair = at-line (λ x. fair (x .mark)) refl
 -- occurrences of such marks
 unfoldable pub fairAll : List Occurrence → Bool
 fairAll [] = true
-fairAll (o ∷ os) = fair (alone (o .edition) (o .difference)) && fairAll os
+fairAll (o ∷ os) = fair (alone (o .edition) (o .difference) (o .detail)) && fairAll os
 
 -- the first of them is of edition 1 or 2, and its difference is not 0
 pub fair-first : (o : Occurrence) (os : List Occurrence) → fairAll (o ∷ os) ≡ true
     → ((eqb (o .edition) 1 || eqb (o .edition) 2) ≡ true) × (eqb (o .difference) 0 ≡ false) × (fairAll os ≡ true)
 unfolding fairAll
 fair-first o os good =
-    let whole = and-eq-true-iff (fair (alone (o .edition) (o .difference))) (fairAll os) .0 good in
+    let whole = and-eq-true-iff (fair (alone (o .edition) (o .difference) (o .detail))) (fairAll os) .0 good in
     let own = and-eq-true-iff (eqb (o .edition) 1 || eqb (o .edition) 2) (not (eqb (o .difference) 0)) .0 (whole .0) in
     (own .0, not-true (eqb (o .difference) 0) (own .1), whole .1)
 
@@ -42,7 +42,7 @@ pub fair-append : (a b : List Occurrence) → fairAll a ≡ true → fairAll b �
 unfolding fairAll
 fair-append [] b left right = right
 fair-append (o ∷ a) b left right =
-    let f = fair (alone (o .edition) (o .difference)) in
+    let f = fair (alone (o .edition) (o .difference) (o .detail)) in
     let whole = and-eq-true-iff f (fairAll a) .0 left in
     and-eq-true-iff f (fairAll (a ++ b)) .1 (whole .0, fair-append a b (whole .1) right)
 
@@ -50,7 +50,7 @@ fair-append (o ∷ a) b left right =
 pub fair-occurs : (m : Mark) (p : ℕ) → fair m ≡ true → fairAll (occurs m p) ≡ true
 unfolding fairAll
 fair-occurs both p good = refl
-fair-occurs (alone e d) p good = rw good
+fair-occurs (alone e d detail) p good = rw good
 
 -- inside an element, from the elements inside it
 pub fair-within : (j : ℕ) (t : Tree) → fairAll (trail j t) ≡ true → fairAll (trailIn j t) ≡ true

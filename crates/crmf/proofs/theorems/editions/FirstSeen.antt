@@ -9,9 +9,11 @@ use lib.Dec.{eqb}
 use borrow.Author.Tests.{eqb-true}
 use Rattle.der.specs.meaning.Tree.{Tree, element}
 use Rattle.der.specs.meaning.Tree as tree
+pub use Rattle.crmf.specs.meaning.Edition.{Edition, first-edition, second-edition}
 use Rattle.crmf.specs.declared.explain.tally.Tally.{Tally}
 use Rattle.crmf.specs.declared.explain.Walked.{Walked}
 use Rattle.crmf.specs.declared.explain.Walked.the-variants.{Passed, Broken}
+pub use Rattle.crmf.specs.meaning.Edition.{Edition, first-edition, second-edition}
 use Rattle.crmf.specs.meaning.Notation.{Mark, both, alone}
 use Rattle.crmf.specs.meaning.Language.{Occurrence, occurs}
 use Rattle.crmf.specs.steps.grammar.Lines.{Line}
@@ -22,11 +24,6 @@ use Rattle.crmf.proofs.theorems.explain.WalkSteps.{trailIn, Way, lost, 
 use Rattle.crmf.proofs.theorems.explain.EveryForm.{all, all-read, inner-passed, inner-broken}
 use Rattle.crmf.proofs.theorems.editions.ReadableSets.{firstOf, first-here, first-later, first-left, first-right}
 use Rattle.crmf.proofs.theorems.editions.FairMarks.{line-fair, fairAll, fair-first, fair-append, fair-occurs, fair-within, trail-fair}
-
--- the two editions
-pub data Edition : ℕ → Type 0 where
-  first-edition : Edition 1
-  second-edition : Edition 2
 
 -- the first form of an edition alone that was met: its difference (0: none) and its place
 abbrev pub firstSeen : ℕ → Tally → ℕ × ℕ
@@ -139,10 +136,10 @@ met-seen {e} ed x p w s = lengthy-seen ed (x .kind) p w (withForm (x .mark) p s)
     go : {e : ℕ} (m : Mark) → Edition e → firstSeen e (withForm m p s) ≡ after e (firstSeen e s) (occurs m p)
     go both first-edition = sym (after-none 1 (firstSeen 1 s))
     go both second-edition = sym (after-none 2 (firstSeen 2 s))
-    go (alone f d) first-edition =
-        noted-first (eqb f 1) (eqb (s .one .number) 0) (eqb f 2 && eqb (s .two .number) 0) (firstSeen 1) s _ _ (record { place = p; edition = f; difference = d }) refl refl
-    go (alone f d) second-edition =
-        noted-second (eqb f 1) (eqb (s .one .number) 0) (eqb f 2) (eqb (s .two .number) 0) (firstSeen 2) s _ _ (record { place = p; edition = f; difference = d })
+    go (alone f d detail) first-edition =
+        noted-first (eqb f 1) (eqb (s .one .number) 0) (eqb f 2 && eqb (s .two .number) 0) (firstSeen 1) s _ _ (record { place = p; edition = f; difference = d; detail = detail }) refl refl
+    go (alone f d detail) second-edition =
+        noted-second (eqb f 1) (eqb (s .one .number) 0) (eqb f 2) (eqb (s .two .number) 0) (firstSeen 2) s _ _ (record { place = p; edition = f; difference = d; detail = detail })
         (apart f) refl refl
 
 -- what a walk has met

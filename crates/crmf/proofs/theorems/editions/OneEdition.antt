@@ -11,9 +11,8 @@ use Rattle.der.specs.meaning.Tree.{Tree}
 use Rattle.crmf.specs.declared.explain.tally.Tally.{Tally}
 use Rattle.crmf.specs.declared.explain.Walked.{Walked}
 use Rattle.crmf.specs.declared.explain.Walked.the-variants.{Broken}
-use Rattle.crmf.specs.meaning.Notation.{alone}
 use Rattle.crmf.specs.meaning.Language.{Occurrence}
-use Rattle.crmf.specs.steps.explain.Walk.{unreadDetail, walk, passes, trail}
+use Rattle.crmf.specs.steps.explain.Walk.{walk, passes, trail}
 use Rattle.crmf.proofs.theorems.explain.EveryForm.{all, isPassed, walk-passes}
 use Rattle.crmf.proofs.theorems.editions.ReadableSets.{firstOf, first-here, first-later, unread, Follows, own-walk}
 use Rattle.crmf.proofs.theorems.editions.FairMarks.{fairAll, fair-first, trail-fair}
@@ -84,20 +83,18 @@ module _ {e : ℕ} (ed : Edition e) (s : Tally) (k around : ℕ) (t : Tree) (fre
           let zero-difference : o .difference ≡ 0 = ap (λ (h : ℕ × ℕ). h .0) (sym (rw is at seen-first)) ∙ clear in
           absurd (eqb-false (o .difference) 0 (first-fair (λ x. eqb x (other e)) (trail k t) o (trail-fair k t) is) zero-difference)
 
-  -- Otherwise it breaks there, with the detail of its difference.
+  -- Otherwise it breaks at the first of the other's, which is the one that was met, with the detail of its form.
   pub own-stops : (foreign e (walk all s k around t) .0 ≡ 0 → ⊥)
-      → (r : Tally) × (walk (λ x. eqb x e) s k around t
-      ≡ Broken (foreign e (walk all s k around t) .1)
-      (unreadDetail (alone (other e) (foreign e (walk all s k around t) .0))) r)
+      → (o : Occurrence) × (firstOf (λ x. eqb x (other e)) (trail k t) ≡ some o) × (foreign e (walk all s k around t) ≡ (o .difference, o .place))
+      × ((r : Tally) × (walk (λ x. eqb x e) s k around t ≡ Broken (foreign e (walk all s k around t) .1) (o .detail) r))
   own-stops seen = go (firstOf (λ x. eqb x (other e)) (trail k t)) refl own-follows
     where
       go : (x : Option Occurrence) → firstOf (λ x. eqb x (other e)) (trail k t) ≡ x
           → Follows (walk (λ x. eqb x e) s k around t) (walk all s k around t) x
-          → (r : Tally) × (walk (λ x. eqb x e) s k around t
-          ≡ Broken (foreign e (walk all s k around t) .1)
-          (unreadDetail (alone (other e) (foreign e (walk all s k around t) .0))) r)
+          → (o : Occurrence) × (firstOf (λ x. eqb x (other e)) (trail k t) ≡ some o) × (foreign e (walk all s k around t) ≡ (o .difference, o .place))
+          × ((r : Tally) × (walk (λ x. eqb x e) s k around t ≡ Broken (foreign e (walk all s k around t) .1) (o .detail) r))
       go none is alike = absurd (seen (ap (λ (h : ℕ × ℕ). h .0) (rw is at seen-first) ∙ fresh))
-      go (some o) is stops = rw (rw is at seen-first) stops
+      go (some o) is stops = let met = rw is at seen-first in (o, is, met, rw met stops)
 
   -- So it passes exactly when the walk that reads every form passes and has met none of the other's.
   pub own-passes : isPassed (walk (λ x. eqb x e) s k around t)
@@ -109,4 +106,4 @@ module _ {e : ℕ} (ed : Edition e) (s : Tally) (k around : ℕ) (t : Tree) (fre
 
       go : (b : Bool) → eqb d 0 ≡ b → isPassed (walk (λ x. eqb x e) s k around t) ≡ (passes k t && b)
       go true clear = ap isPassed (own-alike (eqb-true d 0 clear)) ∙ walk-passes s k around t ∙ sym (and-true (passes k t))
-      go false seen = ap isPassed (own-stops (eqb-false d 0 seen) .1) ∙ sym (and-false (passes k t))
+      go false seen = ap isPassed (own-stops (eqb-false d 0 seen) .3 .1) ∙ sym (and-false (passes k t))

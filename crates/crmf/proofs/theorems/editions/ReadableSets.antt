@@ -14,9 +14,9 @@ use Rattle.crmf.specs.declared.explain.tally.Tally.{Tally}
 use Rattle.crmf.specs.declared.explain.Walked.{Walked}
 use Rattle.crmf.specs.declared.explain.Walked.the-variants.{Passed, Broken}
 use Rattle.crmf.specs.declared.grammar.table.FoundLine.the-variants.{At}
-use Rattle.crmf.specs.meaning.Notation.{Mark, both, alone}
+use Rattle.crmf.specs.meaning.Notation.{Mark, both, alone, detailOf}
 use Rattle.crmf.specs.meaning.Language.{readable, Occurrence, occurs}
-use Rattle.crmf.specs.steps.explain.Walk.{line, findLine, closed, unreadDetail, withElement, walk, trail}
+use Rattle.crmf.specs.steps.explain.Walk.{line, findLine, closed, withElement, walk, trail}
 use Rattle.crmf.proofs.theorems.explain.Passing.{innerWalk, walk-closed, walk-open, walk-nowhere, walk-unread, walk-inner-broken, walk-breaks, walk-next}
 use Rattle.crmf.proofs.theorems.explain.WalkSteps.{trailIn, Way, lost, within, broken, onward, way, trail-end, trail-lost, trail-inside, trail-breaks, trail-on}
 use Rattle.crmf.proofs.theorems.explain.EveryForm.{all, all-read, inner-passed, inner-broken}
@@ -91,21 +91,21 @@ first-split f (x ∷ os) o here = go (f (x .edition)) refl (first-split f os o)
 -- there is none, and otherwise w breaks at its place, with the detail of its form.
 abbrev pub Follows : Walked → Walked → Option Occurrence → Type 0
 Follows w u none = w ≡ u
-Follows w u (some o) = (r : Tally) × (w ≡ Broken (o .place) (unreadDetail (alone (o .edition) (o .difference))) r)
+Follows w u (some o) = (r : Tally) × (w ≡ Broken (o .place) (o .detail) r)
 
 -- a form that may be read gives no occurrence that may not
 occurs-read : (R : ℕ → Bool) (m : Mark) (p : ℕ) → readable R m ≡ true → firstOf (unread R) (occurs m p) ≡ none
 unfolding firstOf
 occurs-read R both p read = refl
-occurs-read R (alone e d) p read = rw (read, firstOf)
+occurs-read R (alone e d detail) p read = rw (read, firstOf)
 
 -- and one that may not gives itself
 occurs-unread : (R : ℕ → Bool) (m : Mark) (p : ℕ) → readable R m ≡ false
     → (o : Occurrence) × (firstOf (unread R) (occurs m p) ≡ some o) × (o .place ≡ p)
-    × (unreadDetail (alone (o .edition) (o .difference)) ≡ unreadDetail m)
+    × (o .detail ≡ detailOf m)
 unfolding firstOf
 occurs-unread R both p no-read = let z : _≡_ {A = ℕ} 0 1 = cc in absurd (omega arith)
-occurs-unread R (alone e d) p no-read = (record { place = p; edition = e; difference = d }, rw (no-read, firstOf), refl, refl)
+occurs-unread R (alone e d detail) p no-read = (record { place = p; edition = e; difference = d; detail = detail }, rw (no-read, firstOf), refl, refl)
 
 -- inside an element, from the elements inside it
 follows-within : (R : ℕ → Bool) (s : Tally) (j place : ℕ) (t : Tree)

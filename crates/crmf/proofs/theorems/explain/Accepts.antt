@@ -9,20 +9,19 @@ use mathlib.Core.Bool.{Bool, true}
 use mathlib.Core.List.{List, [], _∷_}
 use mathlib.Core.Option.{Option, some, none as absent}
 use lib.ListN.{length, getElem?}
-use borrow.Author.Tests.{lt-ltb}
 use Rattle.der.specs.meaning.Tree.{Tree, none, element}
 use Rattle.crmf.specs.declared.explain.tally.Tally.{Tally}
 use Rattle.crmf.specs.declared.explain.Walked.the-variants.{Passed}
 use Rattle.crmf.specs.declared.grammar.judge.Onward.the-variants.{To}
 use Rattle.crmf.specs.declared.grammar.table.FoundLine.{FoundLine}
 use Rattle.crmf.specs.declared.grammar.table.FoundLine.the-variants.{At, Nowhere}
-use Rattle.crmf.specs.meaning.Value.{keeps, selected}
-use Rattle.crmf.specs.meaning.Notation.{Name, Inside, free, holds, Part}
+use Rattle.crmf.specs.meaning.Value.{keeps}
+use Rattle.crmf.specs.meaning.Notation.{Name, Inside, free, holds, Parts}
 use Rattle.crmf.specs.meaning.Grammar.{content}
 use Rattle.crmf.specs.meaning.Language.{readable, Matches, Within, unseen, parts}
 use Rattle.crmf.specs.steps.grammar.Lines.{Line, start, insideLine}
-use Rattle.crmf.specs.steps.explain.Walk.{line, findLine, ways, judged, withElement, walk}
-use Rattle.crmf.proofs.theorems.grammar.Names.{not-there}
+use Rattle.crmf.specs.steps.explain.Walk.{line, findLine, judged, withElement, walk}
+use Rattle.crmf.proofs.theorems.values.ValueRules.{selected-below, way-selected}
 use Rattle.crmf.proofs.theorems.explain.Passing.{innerWalk, Chosen, inner-free, inner-walked, walk-closed, passed-element, element-passes, passed-none, judged-kept, judged-way, kept-onward, way-onward}
 use Rattle.crmf.proofs.theorems.grammar.Choices.{Choice, taking, choosing, choices, chosen, determinate-apart, only-choice, chosen-among}
 use Rattle.crmf.proofs.theorems.lines.LinesOfParts.{Stands, stands-start, starts-past, Shows, Finds, find-line-chooses, closed-skips}
@@ -33,16 +32,10 @@ abbrev pub Accepted : (ℕ → Bool) → Tally → ℕ → ℕ → Tree → Type
 Accepted R s k around t = (r : Tally) × (walk R s k around t ≡ Passed r)
 
 -- a place below a list's length has a name
-name-at : (ns : List Name) (w : ℕ) → w < length ns → (n : Name) × (getElem? ns w ≡ some n)
+pub name-at : (ns : List Name) (w : ℕ) → w < length ns → (n : Name) × (getElem? ns w ≡ some n)
 name-at [] w h = absurd (omega arith)
 name-at (n ∷ ns) zero h = (n, refl)
 name-at (n ∷ ns) (suc w) h = name-at ns w (le-of-suc-le-suc h)
-
--- a place that has a name is below the list's length
-pub name-below : (ns : List Name) (w : ℕ) (n : Name) → getElem? ns w ≡ some n → w < length ns
-name-below [] w n there = not-there there
-name-below (m ∷ ns) zero n there = omega arith
-name-below (m ∷ ns) (suc w) n there = omega (arith, name-below ns w n there)
 
 -- two lines that the search finds are one
 same-line : {m n : ℕ} {f : FoundLine} → f ≡ At m → f ≡ At n → m ≡ n
@@ -54,7 +47,7 @@ found-somewhere p q = let z : _≡_ {A = ℕ} 0 1 = cc in absurd (omega arith)
 
 module _ (R : ℕ → Bool) where
   -- An inside that the walk passes is what its form asks for.
-  within-sound : (m r : Tally) (i : Inside) (first : ℕ) (inside : Tree)
+  pub within-sound : (m r : Tally) (i : Inside) (first : ℕ) (inside : Tree)
       → ((n : Name) → walk R m (start n) first inside ≡ Passed r → Matches R (content n) inside)
       → innerWalk R m (insideLine i) first inside ≡ Passed r → Within R i inside
   unfolding insideLine
@@ -62,7 +55,7 @@ module _ (R : ℕ → Bool) where
   within-sound m r (holds n) first inside each passed = parts (each n (sym (inner-walked R m (start n) first inside (starts-past n)) ∙ passed))
 
   -- The walk passes an inside that is what its form asks for.
-  within-complete : (m : Tally) (i : Inside) (first : ℕ) (inside : Tree)
+  pub within-complete : (m : Tally) (i : Inside) (first : ℕ) (inside : Tree)
       → ((n : Name) → Matches R (content n) inside → Accepted R m (start n) first inside) → Within R i inside
       → (r : Tally) × (innerWalk R m (insideLine i) first inside ≡ Passed r)
   unfolding insideLine
@@ -75,7 +68,7 @@ module _ (R : ℕ → Bool) where
   keeps-sound : (m r : Tally) (x : Line) (h : Choice) (first next : ℕ) (c : List ℕ) (inside rest : Tree) → Shows h x
       → readable R (x .mark) ≡ true → innerWalk R m (x .inside) first inside ≡ Passed r → judged (x .judge) (x .next) c ≡ To next
       → ((n : Name) → walk R m (start n) first inside ≡ Passed r → Matches R (content n) inside)
-      → ((ps : List Part) → Stands next ps → Matches R ps rest) → Keeps R h c inside rest
+      → ((ps : Parts) → Stands next ps → Matches R ps rest) → Keeps R h c inside rest
   keeps-sound m r x (taking f ps) first next c inside rest shows read inner to each further =
       let j = kept-onward (f .rule) (x .next) next c (rw (shows .judging) at to) in
       record {
@@ -85,16 +78,16 @@ module _ (R : ℕ → Bool) where
         further = further ps (subst (λ (k : ℕ). Stands k ps) (j .1) (shows .onward));
       }
   keeps-sound m r x (choosing id s ns) first next c inside rest shows read inner to each further =
-      let j = way-onward s (x .next) next c (rw (shows .judging) at to) in
-      let (n, there) = name-at ns (selected s c) (omega (arith, j .0, shows .counted)) in
-      let place : start n ≡ next = sym (shows .onward (selected s c) n there) ∙ j .1 in
-      record { name = n; way = there; further = further (content n) (subst (λ (k : ℕ). Stands k (content n)) place (stands-start n)) }
+      let (w, is, goes) = way-onward s (x .next) next c (rw (shows .judging) at to) in
+      let (n, there) = name-at ns w (omega (arith, selected-below s c w is, shows .counted)) in
+      let place : start n ≡ next = sym (shows .onward w n there) ∙ goes in
+      record { name = n; way = way-selected s c ns n .1 (w, is, there); further = further (content n) (subst (λ (k : ℕ). Stands k (content n)) place (stands-start n)) }
 
   -- The first element that a walk passes is one of the choices and keeps it.
-  first-sound : (s r : Tally) (k around id first whole : ℕ) (c : List ℕ) (inside rest : Tree) (ps : List Part) → Stands k ps
+  first-sound : (s r : Tally) (k around id first whole : ℕ) (c : List ℕ) (inside rest : Tree) (ps : Parts) → Stands k ps
       → (e : Chosen R s k around id first whole c inside rest r)
       → ((n : Name) → walk R (withElement (line (e .at)) first whole s) (start n) first inside ≡ Passed (e .seen) → Matches R (content n) inside)
-      → ((qs : List Part) → Stands (e .next) qs → Matches R qs rest) → FirstOf R ps id c inside rest
+      → ((qs : Parts) → Stands (e .next) qs → Matches R qs rest) → FirstOf R ps id c inside rest
   first-sound s r k around id first whole c inside rest ps stands e each further =
       go (chosen (choices ps) id) refl (find-line-chooses ps k stands id)
     where
@@ -113,7 +106,7 @@ module _ (R : ℕ → Bool) where
           }
 
   -- Soundness: where the lines of some parts stand, the parts describe what the walk passes over.
-  pub walk-sound : (t : Tree) (s r : Tally) (k around : ℕ) (ps : List Part) → Stands k ps → walk R s k around t ≡ Passed r → Matches R ps t
+  pub walk-sound : (t : Tree) (s r : Tally) (k around : ℕ) (ps : Parts) → Stands k ps → walk R s k around t ≡ Passed r → Matches R ps t
   walk-sound none s r k around ps stands passed =
       begin-matches R ps none (sym (closed-skips ps k stands) ∙ passed-none R s k around r passed .0)
   walk-sound (element id first whole c inside rest) s r k around ps stands passed =
@@ -126,7 +119,7 @@ module _ (R : ℕ → Bool) where
   -- An element that keeps the choice that its line shows is passed.
   first-complete : (s : Tally) (k around id first whole n : ℕ) (c : List ℕ) (inside rest : Tree) (h : Choice) → findLine k id ≡ At n → Shows h (line n)
       → Keeps R h c inside rest → ((m : Tally) (a : Name) → Matches R (content a) inside → Accepted R m (start a) first inside)
-      → ((m : Tally) (j : ℕ) (ps : List Part) → Stands j ps → Matches R ps rest → Accepted R m j around rest)
+      → ((m : Tally) (j : ℕ) (ps : Parts) → Stands j ps → Matches R ps rest → Accepted R m j around rest)
       → (r : Tally) × Chosen R s k around id first whole c inside rest r
   first-complete s k around id first whole n c inside rest (taking f ps) found shows kept each further =
       let x = line n in
@@ -147,9 +140,8 @@ module _ (R : ℕ → Bool) where
   first-complete s k around id first whole n c inside rest (choosing a t ns) found shows kept each further =
       let x = line n in
       let m = withElement x first whole s in
-      let w = selected t c in
-      let (r, passed) = further m (start (kept .name)) (content (kept .name)) (stands-start (kept .name)) (kept .further) in
-      let below = lt-ltb w (ways t) (omega (arith, name-below ns w (kept .name) (kept .way), shows .counted)) in (
+      let (w, is, there) = way-selected t c ns (kept .name) .0 (kept .way) in
+      let (r, passed) = further m (start (kept .name)) (content (kept .name)) (stands-start (kept .name)) (kept .further) in (
         r,
         record {
           at = n;
@@ -158,13 +150,13 @@ module _ (R : ℕ → Bool) where
           seen = m;
           inner = ap (λ (i : ℕ). innerWalk R m i first inside) (shows .entered) ∙ inner-free R m 0 first inside refl;
           next = start (kept .name);
-          onward = rw (shows .judging) (judged-way t (x .next) c below ∙ ap To (shows .onward w (kept .name) (kept .way)));
+          onward = rw (shows .judging) (judged-way t (x .next) c w is ∙ ap To (shows .onward w (kept .name) there));
           further = passed;
         },
       )
 
   -- Completeness: where the lines of some parts stand, the walk passes over what the parts describe.
-  pub walk-complete : (t : Tree) (s : Tally) (k around : ℕ) (ps : List Part) → Stands k ps → Matches R ps t → Accepted R s k around t
+  pub walk-complete : (t : Tree) (s : Tally) (k around : ℕ) (ps : Parts) → Stands k ps → Matches R ps t → Accepted R s k around t
   walk-complete none s k around ps stands m = (s, walk-closed R s k around (closed-skips ps k stands ∙ matches-begin m))
   walk-complete (element id first whole c inside rest) s k around ps stands m =
       let b = matches-begin m in

@@ -44,7 +44,7 @@ passes-within s j place t inner = go (eqb j 0)
 -- every form is readable to the walk that reads every form
 pub all-read : (m : Mark) → readable all m ≡ true
 all-read both = refl
-all-read (alone e d) = refl
+all-read (alone e d detail) = refl
 
 -- The walk that reads every form passes exactly when `passes` says so, whatever was met before.
 pub walk-passes : (s : Tally) (k around : ℕ) (t : Tree) → isPassed (walk all s k around t) ≡ passes k t

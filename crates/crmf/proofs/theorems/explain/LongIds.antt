@@ -17,7 +17,8 @@ use Rattle.crmf.specs.meaning.Grammar.{content}
 use Rattle.crmf.specs.meaning.Language.{Matches}
 use Rattle.crmf.specs.steps.grammar.Lines.{Line, start}
 use Rattle.crmf.specs.steps.explain.Walk.{line, withLongId, withForm, withElement, walk}
-use Rattle.crmf.specs.meaning.Rows.{Row, rowIf, parentIf, rows, longId, longer, firstLong, allShort}
+use Rattle.crmf.specs.meaning.Rows.{Row, rowIf, parentIf, rows, longId, allShort}
+use Rattle.crmf.specs.steps.explain.LongIds.{longer, firstLong}
 use Rattle.crmf.specs.steps.rows.Fill.{rowsFrom}
 use Rattle.crmf.proofs.theorems.lines.WordFields.{computed, at-line}
 use Rattle.crmf.proofs.theorems.explain.Passing.{innerWalk, inner-free, inner-walked, passed-element, passed-none}
@@ -66,13 +67,13 @@ item-long h item p w up e = row-long h item p w up ∙ other-kind h item p w (de
 noted-long : (m : Mark) (p : ℕ) (s : Tally) → known (withForm m p s) ≡ known s
 unfolding withForm
 noted-long both p s = refl
-noted-long (alone e d) p s = by-one (eqb e 1 && eqb (s .one .number) 0) refl
+noted-long (alone e d detail) p s = by-one (eqb e 1 && eqb (s .one .number) 0) refl
   where
-    by-two : (eqb e 1 && eqb (s .one .number) 0) ≡ false → (b : Bool) → (eqb e 2 && eqb (s .two .number) 0) ≡ b → known (withForm (alone e d) p s) ≡ known s
+    by-two : (eqb e 1 && eqb (s .one .number) 0) ≡ false → (b : Bool) → (eqb e 2 && eqb (s .two .number) 0) ≡ b → known (withForm (alone e d detail) p s) ≡ known s
     by-two f true t = rw (withForm, f) (rw t)
     by-two f false t = rw (withForm, f) (rw t)
 
-    by-one : (b : Bool) → (eqb e 1 && eqb (s .one .number) 0) ≡ b → known (withForm (alone e d) p s) ≡ known s
+    by-one : (b : Bool) → (eqb e 1 && eqb (s .one .number) 0) ≡ b → known (withForm (alone e d detail) p s) ≡ known s
     by-one true t = rw (withForm, t)
     by-one false t = by-two t (eqb e 2 && eqb (s .two .number) 0) refl
 

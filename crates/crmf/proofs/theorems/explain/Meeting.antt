@@ -7,7 +7,7 @@ use borrow.Author.Tests.{ltb-true}
 use lib.Dec.{ltb, eqb}
 use Rattle.crmf.specs.declared.explain.tally.Tally.{Tally}
 use Rattle.crmf.specs.steps.grammar.Codes as codes
-use Rattle.crmf.specs.meaning.Notation.{Mark, both, alone}
+use Rattle.crmf.specs.meaning.Notation.{Mark, both, alone, detailOf}
 use Rattle.crmf.specs.steps.grammar.Lines.{Line}
 use Rattle.crmf.specs.steps.grammar.Packed.{markCode}
 use Rattle.crmf.specs.steps.explain.Walk.{line, withForm, withLongId, rowsOfKind, withElement}
@@ -16,7 +16,7 @@ use Rattle.crmf.proofs.theorems.lines.WordFields.{computed, at-line}
 -- a difference's number is below 8
 abbrev small : Mark → Bool
 small both = true
-small (alone e d) = ltb d 8
+small (alone e d detail) = ltb d 8
 
 -- at every line of the table
 small-at : (k : ℕ) → small (line k .mark) ≡ true
@@ -24,18 +24,18 @@ unfolding computed
 small-at = at-line (λ x. small (x .mark)) refl
 
 -- a mark is noted by the edition and the difference of its code
-marked : (m : Mark) (code p : ℕ) (s : Tally) → small m ≡ true → markCode m ≡ code → withForm m p s ≡ withForm (alone (code / codes.edition) (code % codes.edition)) p s
+marked : (m : Mark) (code p : ℕ) (s : Tally) → small m ≡ true → markCode m ≡ code → withForm m p s ≡ withForm (alone (code / codes.edition) (code % codes.edition) (detailOf m)) p s
 unfolding markCode withForm
 marked both code p s h coded = rw (sym coded)
-marked (alone e d) code p s h coded =
+marked (alone e d detail) code p s h coded =
     let l : d < 8 = ltb-true d 8 h in
     let high : e ≡ code / codes.edition = omega arith in
     let low : d ≡ code % codes.edition = omega arith in
-    ap₂ (λ (e′ d′ : ℕ). withForm (alone e′ d′) p s) high low
+    ap₂ (λ (e′ d′ : ℕ). withForm (alone e′ d′ detail) p s) high low
 
 -- what is noted, by the tests of the edition and of what was met before
 module _ (k code p : ℕ) (s : Tally) (coded : markCode (line k .mark) ≡ code) where
-  by-code : withForm (line k .mark) p s ≡ withForm (alone (code / codes.edition) (code % codes.edition)) p s
+  by-code : withForm (line k .mark) p s ≡ withForm (alone (code / codes.edition) (code % codes.edition) (detailOf (line k .mark))) p s
   by-code = marked (line k .mark) code p s (small-at k) coded
 
   pub met-one : (eqb (code / codes.edition) 1 && eqb (s .one .number) 0) ≡ true

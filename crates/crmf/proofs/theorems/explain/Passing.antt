@@ -1,11 +1,11 @@
 -- What a walk that passes says of the first element, part by part, and how the walk over an element is made of those parts. Assumes nothing.
-use Prim.Native.Nat.{ℕ, _+_, _<_}
+use Prim.Native.Nat.{ℕ, _+_}
 use native.Mathlib.Omega.{arith}
 use mathlib.Core.Path.{_≡_, refl, sym, _∙_}
 use mathlib.Core.Bool.{Bool, true, false}
 use mathlib.Core.List.{List}
-use lib.Dec.{eqb, ltb}
-use borrow.Author.Tests.{ltb-true}
+use mathlib.Core.Option.{Option, some, none as absent}
+use lib.Dec.{eqb}
 use Rattle.der.specs.meaning.Tree.{Tree, none, element}
 use Rattle.crmf.specs.declared.explain.tally.Tally.{Tally}
 use Rattle.crmf.specs.declared.explain.Walked.{Walked}
@@ -15,9 +15,10 @@ use Rattle.crmf.specs.declared.grammar.judge.Onward.the-variants.{To, Br
 use Rattle.crmf.specs.declared.grammar.table.FoundLine.{FoundLine}
 use Rattle.crmf.specs.declared.grammar.table.FoundLine.the-variants.{At, Nowhere}
 use Rattle.crmf.specs.meaning.Value.{Rule, keeps, Selector, selected}
+use Rattle.crmf.specs.meaning.Notation.{detailOf}
 use Rattle.crmf.specs.meaning.Language.{readable}
 use Rattle.crmf.specs.steps.grammar.Lines.{keep, choose}
-use Rattle.crmf.specs.steps.explain.Walk.{line, findLine, closed, ruleDetail, ways, judged, unreadDetail, withElement, walk}
+use Rattle.crmf.specs.steps.explain.Walk.{line, findLine, closed, ruleDetail, judged, withElement, walk}
 
 -- the walk inside an element whose inside starts at a line: none if that is 0
 unfoldable pub innerWalk : (ℕ → Bool) → Tally → ℕ → ℕ → Tree → Walked
@@ -34,13 +35,12 @@ unfolding judged
 judged-lost r next c lost = rw (lost, judged)
 
 -- a value that selects a way goes on as that way's line says
-pub judged-way : (s : Selector) (next : ℕ) (c : List ℕ) → ltb (selected s c) (ways s) ≡ true
-    → judged (choose s) next c ≡ To (line (next + selected s c) .next)
+pub judged-way : (s : Selector) (next : ℕ) (c : List ℕ) (w : ℕ) → selected s c ≡ some w → judged (choose s) next c ≡ To (line (next + w) .next)
 unfolding judged
-judged-way s next c ok = rw (ok, judged)
+judged-way s next c w is = rw (is, judged)
 
 -- a value that selects no way does not go on
-pub judged-astray : (s : Selector) (next : ℕ) (c : List ℕ) → ltb (selected s c) (ways s) ≡ false → judged (choose s) next c ≡ Breaks 3
+pub judged-astray : (s : Selector) (next : ℕ) (c : List ℕ) → selected s c ≡ absent → judged (choose s) next c ≡ Breaks 3
 unfolding judged
 judged-astray s next c lost = rw (lost, judged)
 
@@ -58,12 +58,12 @@ kept-onward r next n c to = go (keeps r c) refl
 
 -- only a value that selects a way goes on, as that way's line says
 pub way-onward : (s : Selector) (next n : ℕ) (c : List ℕ) → judged (choose s) next c ≡ To n
-    → (selected s c < ways s) × (line (next + selected s c) .next ≡ n)
-way-onward s next n c to = go (ltb (selected s c) (ways s)) refl
+    → (w : ℕ) × (selected s c ≡ some w) × (line (next + w) .next ≡ n)
+way-onward s next n c to = go (selected s c) refl
   where
-    go : (b : Bool) → ltb (selected s c) (ways s) ≡ b → (selected s c < ways s) × (line (next + selected s c) .next ≡ n)
-    go true e = (ltb-true (selected s c) (ways s) e, cc (judged-way s next c e))
-    go false e = breaks-not-to (sym (judged-astray s next c e) ∙ to)
+    go : (o : Option ℕ) → selected s c ≡ o → (w : ℕ) × (selected s c ≡ some w) × (line (next + w) .next ≡ n)
+    go absent e = breaks-not-to (sym (judged-astray s next c e) ∙ to)
+    go (some w) e = (w, e, cc (judged-way s next c w e))
 
 -- What a walk that passes found for the first element: its line, what was met up to the end of its inside, and the line after it.
 pub record Chosen (R : ℕ → Bool) (s : Tally) (k around id first whole : ℕ) (c : List ℕ) (inside rest : Tree) (r : Tally) : Type 0 where
@@ -109,7 +109,7 @@ module _ (R : ℕ → Bool) (s : Tally) (k around id first whole : ℕ) (c : Lis
 
   -- an element in a form that may not be read
   pub walk-unread : (n : ℕ) → findLine k id ≡ At n → readable R (line n .mark) ≡ false
-      → walk R s k around (element id first whole c inside rest) ≡ Broken first (unreadDetail (line n .mark)) s
+      → walk R s k around (element id first whole c inside rest) ≡ Broken first (detailOf (line n .mark)) s
   unfolding walk
   walk-unread n e u = rw (e, walk) (rw u)
 

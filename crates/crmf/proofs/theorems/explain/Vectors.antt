@@ -1,5 +1,6 @@
 -- Worked examples of the walk, document 01's batches first, computed on the definitions. Assumes nothing.
 use Prim.Native.Nat.{ℕ}
+use mathlib.Core.Option.{bind}
 use mathlib.Core.Path.{_≡_, refl}
 use mathlib.Core.Bool.{Bool, true}
 use mathlib.Core.List.{List, [], _∷_, map}
@@ -13,7 +14,7 @@ use Rattle.der.specs.steps.Reading.{nothingAt, given, read, treeOf, tree}
 use Rattle.crmf.specs.declared.explain.tally.Tally.{Tally}
 use Rattle.crmf.specs.declared.explain.Walked.{Walked}
 use Rattle.crmf.specs.declared.explain.Walked.the-variants.{Passed, Broken}
-use Rattle.crmf.specs.meaning.Value.{isEmpty, isUpTo, number, isTrue, pairAt, leap, daysIn, isMoment, century, isUtcTime, isGeneralizedTime, keeps}
+use Rattle.crmf.specs.meaning.Value.{isEmpty, isUpTo, number, isTrue, pairAt, leap, monthDays, daysIn, isDay, isReal, momentAt, century, utcMoment, generalizedMoment, isTime, keeps}
 use Rattle.crmf.specs.meaning.Lists.{same}
 use Rattle.crmf.specs.meaning.Value.{typeNumber, selected}
 use Rattle.crmf.specs.meaning.Notation.{Top, among, named, order}
@@ -115,7 +116,7 @@ examples =
 worked : Each Walks examples
 unfolding tagNumber constructed allowed valueFrom shortest longForm lengthOf base256 sizedBy headOf
     boolean integer lastOf bitString nothingAt given read treeOf tree
-    same isEmpty isUpTo number isTrue pairAt leap daysIn isMoment century isUtcTime isGeneralizedTime keeps typeNumber selected among named order content
+    same isEmpty isUpTo number isTrue pairAt leap monthDays daysIn isDay isReal momentAt century utcMoment generalizedMoment isTime bind keeps typeNumber selected among named order content
     partSize size startsFrom start insideLine passOf formLines nextLine wayLine partLines containerLines linesFrom lines
     line findLineIn findLine closedIn closed judged withForm withLongId withElement walk
 worked =

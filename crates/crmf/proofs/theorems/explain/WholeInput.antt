@@ -1,6 +1,6 @@
 -- A whole input that is not too long: counting walks over its tree, and the rows that are found in it are as many as were counted, with the
 -- long certReqId that was met. Assumes nothing.
-use Prim.Native.Nat.{ℕ, _+_, _≤_}
+use Prim.Native.Nat.{ℕ, _≤_}
 use native.Mathlib.Omega.{arith}
 use mathlib.Core.Path.{_≡_, sym, ap, _∙_}
 use mathlib.Core.List.{List}
@@ -13,7 +13,8 @@ use Rattle.crmf.specs.declared.explain.Walked.the-variants.{Passed}
 use Rattle.crmf.specs.meaning.Notation.{Top}
 use Rattle.crmf.specs.steps.grammar.Lines.{start}
 use Rattle.crmf.specs.steps.explain.Walk.{walk, every, emptyTally, countOf}
-use Rattle.crmf.specs.meaning.Rows.{Row, firstLong}
+use Rattle.crmf.specs.meaning.Rows.{Row}
+use Rattle.crmf.specs.steps.explain.LongIds.{firstLong}
 use Rattle.crmf.specs.steps.rows.Fill.{rowsFrom, rowsOfInput}
 use Rattle.crmf.proofs.theorems.rows.RowsOfLines.{rows-count}
 use Rattle.crmf.proofs.theorems.explain.LongIds.{rows-long}

@@ -10,40 +10,31 @@ use lib.Dec.{eqb}
 use lib.ListN.{length}
 use borrow.Author.Tests.{eqb-true, not-true}
 use Rattle.crmf.specs.meaning.Value.{Selector}
-use Rattle.crmf.specs.meaning.Notation.{Identifiers, octet, generalName, anything, nothing, among, named, Name, names, Form, Part, part, select}
+use Rattle.crmf.specs.meaning.Notation.{Identifiers, octet, generalName, anything, nothing, among, named, Name, names, Form, Part, part, Parts, done, _then_, select}
 use Rattle.crmf.specs.meaning.Grammar.{content}
 use Rattle.crmf.specs.meaning.Language.{passable, partsAfter}
+pub use Rattle.crmf.specs.meaning.Stops.{Choice, taking, choosing, identifiersOf}
 use Rattle.crmf.specs.steps.grammar.Lines.{passOf}
 use Rattle.crmf.specs.steps.explain.Walk.{goesOn, ways}
 use Rattle.crmf.proofs.theorems.lists.Tests.{all}
 use Rattle.crmf.proofs.theorems.grammar.Names.{at-each, not-there}
 
--- What an element may be: of a form, with the parts after it; or one whose value selects the container's further parts.
-pub data Choice : Type 0 where
-  taking : Form → List Part → Choice
-  choosing : ℕ → Selector → List Name → Choice
-
--- a choice's identifiers
-abbrev pub identifiersOf : Choice → Identifiers
-identifiersOf (taking f ps) = f .identifiers
-identifiersOf (choosing id s ns) = octet id
-
 -- the forms of a part, with the parts after them
-unfoldable pub takings : List Part → List Form → List Choice
+unfoldable pub takings : Parts → List Form → List Choice
 takings ps [] = []
 takings ps (f ∷ fs) = taking f ps ∷ takings ps fs
 
 -- what the next element may be
-unfoldable pub choices : List Part → List Choice
-choices [] = []
-choices (part o fs ∷ ps) = takings (partsAfter o fs ps) fs ++ (elim (passable o) [ true ↦ choices ps | false ↦ [] ])
-choices (select id s ns ∷ ps) = choosing id s ns ∷ []
+unfoldable pub choices : Parts → List Choice
+choices done = []
+choices (part o fs then ps) = takings (partsAfter o fs ps) fs ++ (elim (passable o) [ true ↦ choices ps | false ↦ [] ])
+choices (select id s ns) = choosing id s ns ∷ []
 
 -- whether every part may be passed over
-unfoldable pub skippable : List Part → Bool
-skippable [] = true
-skippable (part o fs ∷ ps) = passable o && skippable ps
-skippable (select id s ns ∷ ps) = false
+unfoldable pub skippable : Parts → Bool
+skippable done = true
+skippable (part o fs then ps) = passable o && skippable ps
+skippable (select id s ns) = false
 
 -- the first choice with the identifier
 unfoldable pub chosen : List Choice → ℕ → Option Choice
@@ -74,15 +65,16 @@ apart [] = true
 apart (h ∷ hs) = apartFrom h hs && apart hs
 
 -- the parts are deterministic: from each of them on, no identifier is of two choices
-unfoldable pub determinate : List Part → Bool
-determinate [] = true
-determinate (p ∷ ps) = apart (choices (p ∷ ps)) && determinate ps
+unfoldable pub determinate : Parts → Bool
+determinate done = true
+determinate (p then ps) = apart (choices (p then ps)) && determinate ps
+determinate (select id s ns) = apart (choices (select id s ns))
 
 -- the parts are complete: a needed part has a form, and a value selects one of as many ways as there are names
-unfoldable pub complete : List Part → Bool
-complete [] = true
-complete (part o fs ∷ ps) = goesOn (passOf o fs) && complete ps
-complete (select id s ns ∷ ps) = eqb (ways s) (length ns) && complete ps
+unfoldable pub complete : Parts → Bool
+complete done = true
+complete (part o fs then ps) = goesOn (passOf o fs) && complete ps
+complete (select id s ns) = eqb (ways s) (length ns)
 
 -- Every container of the grammar is deterministic: a test that computes.
 pub all-determinate : all (λ n. determinate (content n)) names ≡ true
@@ -162,24 +154,44 @@ only-choice h (g ∷ hs) id a (List·Memᴰ·tail m) e =
     go from rest false f = chosen-later g hs id f ∙ rest
 
 -- the choices of deterministic parts hold no identifier twice
-pub determinate-apart : (ps : List Part) → determinate ps ≡ true → apart (choices ps) ≡ true
+pub determinate-apart : (ps : Parts) → determinate ps ≡ true → apart (choices ps) ≡ true
 unfolding determinate apart choices
-determinate-apart [] d = refl
-determinate-apart (p ∷ ps) d = and-eq-true-iff (apart (choices (p ∷ ps))) (determinate ps) .0 d .0
+determinate-apart done d = refl
+determinate-apart (p then ps) d = and-eq-true-iff (apart (choices (p then ps))) (determinate ps) .0 d .0
+determinate-apart (select id s ns) d = d
+
+-- some parts, and others after them
+infixr 67 _followedBy_
+unfoldable pub _followedBy_ : List Part → Parts → Parts
+[] followedBy ps = ps
+(p ∷ before) followedBy ps = p then (before followedBy ps)
 
 -- the parts after some of a container's are deterministic too
-determinate-after : (before ps : List Part) → determinate (before ++ ps) ≡ true → determinate ps ≡ true
-unfolding determinate
+determinate-after : (before : List Part) (ps : Parts) → determinate (before followedBy ps) ≡ true → determinate ps ≡ true
+unfolding determinate _followedBy_
 determinate-after [] ps d = d
 determinate-after (p ∷ before) ps d =
-    determinate-after before ps (and-eq-true-iff (apart (choices (p ∷ (before ++ ps)))) (determinate (before ++ ps)) .0 d .1)
+    determinate-after before ps (and-eq-true-iff (apart (choices (p then (before followedBy ps)))) (determinate (before followedBy ps)) .0 d .1)
+
+-- and complete
+complete-after : (before : List Part) (ps : Parts) → complete (before followedBy ps) ≡ true → complete ps ≡ true
+unfolding complete _followedBy_
+complete-after [] ps c = c
+complete-after (part o fs ∷ before) ps c =
+    complete-after before ps (and-eq-true-iff (goesOn (passOf o fs)) (complete (before followedBy ps)) .0 c .1)
 
 -- The grammar is deterministic: from any part of a container on, an identifier has at most one of the choices that can be reached.
-pub deterministic : (n : Name) (before ps : List Part) → content n ≡ before ++ ps → (id : ℕ) (h g : Choice) → List·Memᴰ h (choices ps)
+pub deterministic : (n : Name) (before : List Part) (ps : Parts) → content n ≡ before followedBy ps → (id : ℕ) (h g : Choice) → List·Memᴰ h (choices ps)
     → List·Memᴰ g (choices ps) → named (identifiersOf h) id ≡ true → named (identifiersOf g) id ≡ true → h ≡ g
 deterministic n before ps whole id h g mh mg eh eg =
     let own = determinate-apart ps (determinate-after before ps (rw whole at (determinate-content n))) in
     cc (only-choice h (choices ps) id own mh eh, only-choice g (choices ps) id own mg eg)
+
+-- A value selects one of as many ways as the grammar names.
+pub ways-parts : (n : Name) (before : List Part) (id : ℕ) (s : Selector) (ns : List Name) → content n ≡ before followedBy select id s ns → length ns ≡ ways s
+unfolding complete
+ways-parts n before id s ns whole =
+    sym (eqb-true (ways s) (length ns) (complete-after before (select id s ns) (rw whole at (complete-content n))))
 
 -- a choice that an identifier has is one of the list's and has the identifier
 pub chosen-among : (h : Choice) (hs : List Choice) (id : ℕ) → chosen hs id ≡ some h → List·Memᴰ h hs × (named (identifiersOf h) id ≡ true)

@@ -8,7 +8,7 @@ use mathlib.Core.Option.{some}
 use lib.Dec.{eqb}
 use lib.ListN.{getElem?}
 use borrow.Author.Tests.{not-true}
-use Rattle.crmf.specs.meaning.Notation.{among, Name, names, Inside, free, holds, Form, Occurs, once, optional, repeated, Part, part, select}
+use Rattle.crmf.specs.meaning.Notation.{among, Name, names, Inside, free, holds, Form, Occurs, once, optional, repeated, part, Parts, done, _then_, select}
 use Rattle.crmf.specs.meaning.Grammar.{content}
 use Rattle.crmf.specs.meaning.Language.{partsAfter, OneOf, first, later}
 use Rattle.crmf.specs.meaning.Value.{Selector}
@@ -39,10 +39,10 @@ unfoldable pub quietIn : (Name → Bool) → Inside → Bool
 quietIn q free = true
 quietIn q (holds n) = q n
 
-unfoldable pub quietParts : (Name → Bool) → List Part → Bool
-quietParts q [] = true
-quietParts q (part o fs ∷ ps) = allForms (λ f. eqb (f .kind) 0 && (eqb (f .item) 0 && quietIn q (f .inside))) fs && quietParts q ps
-quietParts q (select id s ns ∷ ps) = all q ns && quietParts q ps
+unfoldable pub quietParts : (Name → Bool) → Parts → Bool
+quietParts q done = true
+quietParts q (part o fs then ps) = allForms (λ f. eqb (f .kind) 0 && (eqb (f .item) 0 && quietIn q (f .inside))) fs && quietParts q ps
+quietParts q (select id s ns) = all q ns
 
 unfoldable pub quietTo : ℕ → Name → Bool
 quietTo zero n = false
@@ -57,10 +57,10 @@ unfoldable pub givesItem : List Form → Bool
 givesItem [] = false
 givesItem (f ∷ fs) = not (eqb (f .item) 0) || givesItem fs
 
-unfoldable pub early : List Part → Bool
-early [] = false
-early (part o fs ∷ ps) = givesItem fs || early ps
-early (select id s ns ∷ ps) = true
+unfoldable pub early : Parts → Bool
+early done = false
+early (part o fs then ps) = givesItem fs || early ps
+early (select id s ns) = true
 
 unfoldable pub earlyIn : Inside → Bool
 earlyIn free = false
@@ -79,10 +79,10 @@ rightForm b f =
     && (rightIn (bearsIf (f .kind) (bearsIf (f .item) b)) (f .inside) && (eqb (f .kind) 0 || not (earlyIn (f .inside)))))
 
 -- Some parts are right below a row.
-unfoldable pub right : Bool → List Part → Bool
-right b [] = true
-right b (part o fs ∷ ps) = allForms (rightForm b) fs && (not (early (partsAfter o fs ps)) && right b ps)
-right b (select id s ns ∷ ps) = (b || all quiet ns) && right b ps
+unfoldable pub right : Bool → Parts → Bool
+right b done = true
+right b (part o fs then ps) = allForms (rightForm b) fs && (not (early (partsAfter o fs ps)) && right b ps)
+right b (select id s ns) = b || all quiet ns
 
 -- Every container is right below a container's row, and one without rows below any: a test that computes.
 all-right : all (λ n. right true (content n) && (not (quiet n) || right false (content n))) names ≡ true
@@ -146,25 +146,24 @@ right-content b n either = go b either (and-eq-true-iff (right true (content n))
     go false e r = or-second (not (quiet n)) (right false (content n)) (r .1) (rw e)
 
 -- the container that a value selects is right
-pub right-way : (b : Bool) (id i : ℕ) (s : Selector) (ns : List Name) (ps : List Part) (n : Name) → right b (select id s ns ∷ ps) ≡ true
+pub right-way : (b : Bool) (id i : ℕ) (s : Selector) (ns : List Name) (n : Name) → right b (select id s ns) ≡ true
     → getElem? ns i ≡ some n → right b (content n) ≡ true
 unfolding right
-right-way b id i s ns ps n e there =
-    right-content b n (go b (and-eq-true-iff (b || all quiet ns) (right b ps) .0 e .0))
+right-way b id i s ns n e there = right-content b n (go b e)
   where
     go : (c : Bool) → (c || all quiet ns) ≡ true → (c || quiet n) ≡ true
     go true w = refl
     go false w = all-getElem quiet n ns w i there
 
 -- What right parts say: of each form, of the parts after one, and of the parts after the first.
-pub record RightPart (b : Bool) (o : Occurs) (fs : List Form) (ps : List Part) : Type 0 where
+pub record RightPart (b : Bool) (o : Occurs) (fs : List Form) (ps : Parts) : Type 0 where
   pub form : {f : Form} → OneOf f fs → Right b f
   pub late : early (partsAfter o fs ps) ≡ false
   pub after-form : right b (partsAfter o fs ps) ≡ true
   pub past : right b ps ≡ true
 
 -- parts that pass the test say so
-pub right-part : (b : Bool) (o : Occurs) (fs : List Form) (ps : List Part) → right b (part o fs ∷ ps) ≡ true → RightPart b o fs ps
+pub right-part : (b : Bool) (o : Occurs) (fs : List Form) (ps : Parts) → right b (part o fs then ps) ≡ true → RightPart b o fs ps
 unfolding right
 right-part b o fs ps e =
     let one = and-eq-true-iff (allForms (rightForm b) fs) (not (early (partsAfter o fs ps)) && right b ps) .0 e in
@@ -176,7 +175,7 @@ right-part b o fs ps e =
       past = two .1;
     }
   where
-    again : (p : Occurs) → right b (part p fs ∷ ps) ≡ true → right b ps ≡ true → right b (partsAfter p fs ps) ≡ true
+    again : (p : Occurs) → right b (part p fs then ps) ≡ true → right b ps ≡ true → right b (partsAfter p fs ps) ≡ true
     again once whole past = past
     again optional whole past = past
     again repeated whole past = whole

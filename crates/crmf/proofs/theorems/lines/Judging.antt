@@ -3,8 +3,9 @@ use Prim.Native.Nat.{ℕ, _+_, _≤_, _<_}
 use mathlib.Core.Path.{_≡_, refl, sym, ap, _∙_}
 use mathlib.Core.Bool.{Bool, true, false}
 use mathlib.Core.List.{List}
+use mathlib.Core.Option.{Option, some, none, Option·getD}
 use native.Mathlib.Omega.{arith}
-use borrow.Author.Tests.{lt-ltb, le-ltb}
+use Rattle.crmf.specs.declared.grammar.judge.Onward.{Onward}
 use Rattle.crmf.specs.declared.grammar.judge.Onward.the-variants.{To, Breaks}
 use Rattle.crmf.specs.steps.grammar.Codes as codes
 use Rattle.crmf.specs.meaning.Value.{Rule, keeps, Selector, selected}
@@ -13,6 +14,7 @@ use Rattle.crmf.specs.steps.grammar.Packed.{judgeCode}
 use Rattle.crmf.specs.steps.explain.Walk.{line, ruleDetail, ways, judged}
 use Rattle.crmf.specs.steps.rows.Fill.{goes}
 use Rattle.crmf.proofs.theorems.lines.JudgeCodes.{rule-range, selector-range}
+use Rattle.crmf.proofs.theorems.values.ValueRules.{selected-below}
 
 -- what is said by the answers of the functions for a rule's code
 module _ (next code : ℕ) (c : List ℕ) (rule : code < codes.selectors) where
@@ -29,23 +31,27 @@ module _ (next code : ℕ) (c : List ℕ) (rule : code < codes.selectors) where
   lost (choose s) e r f t d g = absurd (omega (arith, selector-range s))
 
 -- and for a selector's
-module _ (next code : ℕ) (c : List ℕ) (selector : codes.selectors ≤ code) (w : ℕ) (way : (s : Selector) → judgeCode (choose s) ≡ code → w ≡ selected s c)
+module _ (next code : ℕ) (c : List ℕ) (selector : codes.selectors ≤ code) (w : ℕ) (way : (s : Selector) → judgeCode (choose s) ≡ code → w ≡ Option·getD (selected s c) (ways s))
     (m : ℕ) (most : (s : Selector) → judgeCode (choose s) ≡ code → m ≡ ways s) where
   pub selects : (j : Judge) → judgeCode j ≡ code → w < m → To (line (next + w) .next) ≡ judged j next c
   unfolding judged
   selects (keep x) e h = absurd (omega (arith, rule-range x))
-  selects (choose s) e h =
-      let v = way s e in
-      let l : selected s c < ways s = omega (arith, most s e) in
-      rw (judged, lt-ltb _ _ l, v)
+  selects (choose s) e h = go (selected s c) (way s e)
+    where
+      go : (o : Option ℕ) → w ≡ Option·getD o (ways s)
+          → To (line (next + w) .next) ≡ elim o as (λ x. Onward) [ some v ↦ To (line (next + v) .next) | none ↦ Breaks 3 ]
+      go none is = absurd (omega (arith, most s e))
+      go (some v) is = rw is
 
   pub selects-none : (j : Judge) → judgeCode j ≡ code → m ≤ w → Breaks 3 ≡ judged j next c
   unfolding judged
   selects-none (keep x) e h = absurd (omega (arith, rule-range x))
-  selects-none (choose s) e h =
-      let v = way s e in
-      let l : ways s ≤ selected s c = omega (arith, most s e) in
-      rw (judged, le-ltb _ _ l)
+  selects-none (choose s) e h = go (selected s c) refl (way s e)
+    where
+      go : (o : Option ℕ) → selected s c ≡ o → w ≡ Option·getD o (ways s)
+          → Breaks 3 ≡ elim o as (λ x. Onward) [ some v ↦ To (line (next + v) .next) | none ↦ Breaks 3 ]
+      go none is coded = refl
+      go (some v) is coded = absurd (omega (arith, most s e, selected-below s c v is))
 
 -- the line to go on with, by the answers of the functions for a rule's code and for a selector's
 pub goes-on : (next code : ℕ) (c : List ℕ) → code < codes.selectors → (j : Judge) → judgeCode j ≡ code → next ≡ goes j next c
@@ -53,7 +59,7 @@ unfolding goes
 goes-on next code c rule (keep x) e = refl
 goes-on next code c rule (choose s) e = absurd (omega (arith, selector-range s))
 
-pub goes-by : (next code : ℕ) (c : List ℕ) → codes.selectors ≤ code → (w : ℕ) → ((s : Selector) → judgeCode (choose s) ≡ code → w ≡ selected s c)
+pub goes-by : (next code : ℕ) (c : List ℕ) → codes.selectors ≤ code → (w : ℕ) → ((s : Selector) → judgeCode (choose s) ≡ code → w ≡ Option·getD (selected s c) (ways s))
     → (j : Judge) → judgeCode j ≡ code → line (next + w) .next ≡ goes j next c
 unfolding goes
 goes-by next code c selector w way (keep x) e = absurd (omega (arith, rule-range x))

@@ -16,10 +16,10 @@ use Rattle.crmf.specs.declared.grammar.table.FoundLine.{FoundLine}
 use Rattle.crmf.specs.declared.grammar.table.FoundLine.the-variants.{At, Nowhere}
 use Rattle.crmf.specs.meaning.Kinds as kinds
 use Rattle.crmf.specs.meaning.Value.{Selector}
-use Rattle.crmf.specs.meaning.Notation.{octet, named, both, Name, names, order, Form, Occurs, once, optional, repeated, Part, part, select}
+use Rattle.crmf.specs.meaning.Notation.{octet, named, both, Name, names, order, Form, Occurs, once, optional, repeated, Part, part, Parts, done, _then_, select}
 use Rattle.crmf.specs.meaning.Grammar.{content}
 use Rattle.crmf.specs.meaning.Language.{passable, partsAfter}
-use Rattle.crmf.specs.steps.grammar.Lines.{keep, choose, needed, Line, endLine, partSize, size, startsFrom, start, insideLine, passOf, formLines, nextLine, wayLine, partLines, containerLines, linesFrom, lines}
+use Rattle.crmf.specs.steps.grammar.Lines.{keep, choose, needed, Line, endLine, partSize, size, startsFrom, start, insideLine, passOf, formLines, lineOf, nextLine, wayLine, partLines, containerLines, linesFrom, lines}
 use Rattle.crmf.specs.steps.explain.Walk.{line, goesOn, findLine, closedIn, closed, ways}
 use Rattle.crmf.proofs.theorems.lists.Tests.{all}
 use Rattle.crmf.proofs.theorems.grammar.Names.{at-each, in-order, not-there}
@@ -27,7 +27,7 @@ use Rattle.crmf.proofs.theorems.lines.Search.{find-line-found, find-lin
 use Rattle.crmf.proofs.theorems.grammar.Choices.{Choice, taking, choosing, identifiersOf, takings, choices, skippable, chosen, apart, determinate, complete, determinate-content, complete-content, never-both, chosen-first, chosen-later}
 
 -- The lines from k on are those of the parts, which are deterministic and complete.
-pub record Stands (k : ℕ) (ps : List Part) : Type 0 where
+pub record Stands (k : ℕ) (ps : Parts) : Type 0 where
   pub more : List Line
   pub there : drop k lines ≡ containerLines k ps ++ more
   pub determined : determinate ps ≡ true
@@ -40,18 +40,19 @@ form-lines-length o next [] = refl
 form-lines-length o next (f ∷ fs) = ap suc (form-lines-length o next fs)
 
 -- a part's lines are as many as its size
-part-lines-length : (at : ℕ) (p : Part) → length (partLines at p) ≡ partSize p
+part-lines-length : (at after : ℕ) (p : Part) → length (partLines at after p) ≡ partSize p
 unfolding partLines partSize
-part-lines-length at (part o fs) = form-lines-length o (nextLine o at (length fs)) fs
-part-lines-length at (select id s ns) = ap suc (length-map ns wayLine)
+part-lines-length at after (part o fs) = form-lines-length o (nextLine o at after) fs
 
 -- a container's lines are as many as its size
-container-lines-length : (at : ℕ) (ps : List Part) → length (containerLines at ps) ≡ size ps
+container-lines-length : (at : ℕ) (ps : Parts) → length (containerLines at ps) ≡ size ps
 unfolding containerLines size
-container-lines-length at [] = refl
-container-lines-length at (p ∷ ps) =
-    length-append (partLines at p) (containerLines (at + partSize p) ps)
-    ∙ omega (arith, part-lines-length at p, container-lines-length (at + partSize p) ps)
+container-lines-length at done = refl
+container-lines-length at (p then ps) =
+    let after = lineOf (at + partSize p) ps in
+    length-append (partLines at after p) (containerLines (at + partSize p) ps)
+    ∙ omega (arith, part-lines-length at after p, container-lines-length (at + partSize p) ps)
+container-lines-length at (select id s ns) = omega (arith, length-append (map wayLine ns) (endLine ∷ []), length-map ns wayLine)
 
 -- From a line on stand the lines of a container.
 record Placed (at : ℕ) (xs : List Line) (n : Name) : Type 0 where
@@ -111,29 +112,36 @@ pub line-after : (k : ℕ) (x : Line) (xs : List Line) → drop k lines ≡ x �
 line-after k x xs e = ap (λ (n : ℕ). drop n lines) (sym (add-one k)) ∙ lines-after k 1 (x ∷ []) xs e refl
 
 -- after a part stand the lines of the parts after it
-pub stands-after : (k : ℕ) (o : Occurs) (fs : List Form) (ps : List Part) → Stands k (part o fs ∷ ps) → Stands (k + length fs) ps
+pub stands-after : (k : ℕ) (o : Occurs) (fs : List Form) (ps : Parts) → Stands k (part o fs then ps) → Stands (k + length fs) ps
 unfolding containerLines partLines partSize determinate complete
 stands-after k o fs ps s =
-    let own = formLines o (nextLine o k (length fs)) fs in
+    let own = formLines o (nextLine o k (lineOf (k + length fs) ps)) fs in
     let rest = containerLines (k + length fs) ps ++ s .more in
     record {
       more = s .more;
       there = lines-after k (length fs) own rest (s .there ∙ append-assoc own (containerLines (k + length fs) ps) (s .more))
-          (form-lines-length o (nextLine o k (length fs)) fs);
-      determined = and-eq-true-iff (apart (choices (part o fs ∷ ps))) (determinate ps) .0 (s .determined) .1;
+          (form-lines-length o (nextLine o k (lineOf (k + length fs) ps)) fs);
+      determined = and-eq-true-iff (apart (choices (part o fs then ps))) (determinate ps) .0 (s .determined) .1;
       completed = and-eq-true-iff (goesOn (passOf o fs)) (complete ps) .0 (s .completed) .1;
     }
 
+-- from the line of some parts on stand their lines: from line 0 on, those of no parts
+stands-line : (k : ℕ) (ps : Parts) → Stands k ps → Stands (lineOf k ps) ps
+unfolding lines containerLines determinate complete
+stands-line k done s = record { more = linesFrom 1 names; there = refl; determined = refl; completed = refl }
+stands-line k (p then ps) s = s
+stands-line k (select id t ns) s = s
+
 -- after an element of a part stand the lines of the parts that may stand there
-pub stands-next : (k : ℕ) (o : Occurs) (fs : List Form) (ps : List Part) → Stands k (part o fs ∷ ps)
-    → Stands (nextLine o k (length fs)) (partsAfter o fs ps)
+pub stands-next : (k : ℕ) (o : Occurs) (fs : List Form) (ps : Parts) → Stands k (part o fs then ps)
+    → Stands (nextLine o k (lineOf (k + length fs) ps)) (partsAfter o fs ps)
 unfolding nextLine
-stands-next k once fs ps s = stands-after k once fs ps s
-stands-next k optional fs ps s = stands-after k optional fs ps s
+stands-next k once fs ps s = stands-line (k + length fs) ps (stands-after k once fs ps s)
+stands-next k optional fs ps s = stands-line (k + length fs) ps (stands-after k optional fs ps s)
 stands-next k repeated fs ps s = s
 
 -- What a line says of a form: the form's own fields, and that the lines of the parts after it stand from the line after it on.
-pub record Takes (f : Form) (ps : List Part) (x : Line) : Type 0 where
+pub record Takes (f : Form) (ps : Parts) (x : Line) : Type 0 where
   pub identified : x .identifiers ≡ f .identifiers
   pub entered : x .inside ≡ insideLine (f .inside)
   pub judging : x .judge ≡ keep (f .rule)
@@ -206,7 +214,7 @@ pass-stops optional fs e = never-both true refl e
 pass-stops repeated fs e = never-both true refl e
 
 -- a part's forms, with other choices after them if the part may be passed over
-track-forms : (o : Occurs) (next k : ℕ) (ps : List Part) (fs : List Form) (xs : List Line) (hs : List Choice)
+track-forms : (o : Occurs) (next k : ℕ) (ps : Parts) (fs : List Form) (xs : List Line) (hs : List Choice)
     → drop k lines ≡ formLines o next fs ++ xs → Stands next ps → goesOn (passOf o fs) ≡ true
     → (passable o ≡ true → Tracks (k + length fs) hs) → (passable o ≡ false → hs ≡ []) → Tracks k (takings ps fs ++ hs)
 unfolding formLines takings
@@ -230,11 +238,11 @@ way-among (m ∷ ns) xs zero n there = let here : m ≡ n = cc in rw here
 way-among (m ∷ ns) xs (suc w) n there = way-among ns xs w n there
 
 -- Where the lines of some parts stand, the search finds the line of what the parts choose.
-pub find-line-chooses : (ps : List Part) (k : ℕ) → Stands k ps → (id : ℕ) → Finds (chosen (choices ps) id) (findLine k id)
+pub find-line-chooses : (ps : Parts) (k : ℕ) → Stands k ps → (id : ℕ) → Finds (chosen (choices ps) id) (findLine k id)
 unfolding containerLines partLines partSize choices chosen complete named wayLine
-find-line-chooses [] k s = λ id. find-line-off k endLine (s .more) (s .there) id refl refl
-find-line-chooses (part o fs ∷ ps) k s =
-    let next = nextLine o k (length fs) in
+find-line-chooses done k s = λ id. find-line-off k endLine (s .more) (s .there) id refl refl
+find-line-chooses (part o fs then ps) k s =
+    let next = nextLine o k (lineOf (k + length fs) ps) in
     let own = formLines o next fs in
     let rest = containerLines (k + length fs) ps in
     let after-it = stands-after k o fs ps s in
@@ -242,11 +250,10 @@ find-line-chooses (part o fs ∷ ps) k s =
     (s .there ∙ append-assoc own rest (s .more)) (stands-next k o fs ps s)
     (and-eq-true-iff (goesOn (passOf o fs)) (complete ps) .0 (s .completed) .0)
     (λ p. rw p (find-line-chooses ps (k + length fs) after-it)) (λ p. rw p)
-find-line-chooses (select id t ns ∷ ps) k s =
+find-line-chooses (select id t ns) k s =
     let x : Line = record { identifiers = octet id; inside = 0; judge = choose t; kind = kinds.none; item = kinds.none; mark = both; next = suc k; pass = needed } in
-    let rest = containerLines (k + suc (length ns)) ps ++ s .more in
-    let e : drop k lines ≡ x ∷ (map wayLine ns ++ rest) = s .there ∙ append-assoc (x ∷ map wayLine ns) (containerLines (k + suc (length ns)) ps) (s .more) in
-    let ways-count = eqb-true (ways t) (length ns) (and-eq-true-iff (eqb (ways t) (length ns)) (complete ps) .0 (s .completed) .0) in
+    let rest = endLine ∷ s .more in
+    let e : drop k lines ≡ x ∷ (map wayLine ns ++ rest) = s .there ∙ append-assoc (x ∷ map wayLine ns) (endLine ∷ []) (s .more) in
     let shows : Selects id t ns x =
     record {
       identified = refl;
@@ -255,7 +262,7 @@ find-line-chooses (select id t ns ∷ ps) k s =
       kinded = refl;
       itemed = refl;
       marked = refl;
-      counted = ways-count;
+      counted = eqb-true (ways t) (length ns) (s .completed);
       onward = λ w n there. ap (λ (y : Line). y .next) (line-among (suc k) w (map wayLine ns ++ rest) (line-after k x (map wayLine ns ++ rest) e) ∙ way-among ns rest w n there);
     } in
     track-line k x (map wayLine ns ++ rest) (choosing id t ns) [] e shows (λ on. never-both true refl (sym on)) (λ off. refl)
@@ -273,14 +280,14 @@ closed-forms repeated next [] xs on = refl
 closed-forms repeated next (f ∷ fs) xs on = closed-forms repeated next fs xs refl
 
 -- Where the lines of some parts stand, they let the container end exactly when the parts do.
-pub closed-skips : (ps : List Part) (k : ℕ) → Stands k ps → closed k ≡ skippable ps
+pub closed-skips : (ps : Parts) (k : ℕ) → Stands k ps → closed k ≡ skippable ps
 unfolding containerLines partLines partSize skippable complete closed closedIn stands-after
-closed-skips [] k s = ap closedIn (s .there)
-closed-skips (part o fs ∷ ps) k s =
-    let own = formLines o (nextLine o k (length fs)) fs in
+closed-skips done k s = ap closedIn (s .there)
+closed-skips (part o fs then ps) k s =
+    let own = formLines o (nextLine o k (lineOf (k + length fs) ps)) fs in
     let rest = containerLines (k + length fs) ps in
     let after-it = stands-after k o fs ps s in
     ap closedIn (s .there ∙ append-assoc own rest (s .more))
-    ∙ closed-forms o (nextLine o k (length fs)) fs (rest ++ s .more) (and-eq-true-iff (goesOn (passOf o fs)) (complete ps) .0 (s .completed) .0)
+    ∙ closed-forms o (nextLine o k (lineOf (k + length fs) ps)) fs (rest ++ s .more) (and-eq-true-iff (goesOn (passOf o fs)) (complete ps) .0 (s .completed) .0)
     ∙ ap (λ (b : Bool). passable o && b) (sym (ap closedIn (after-it .there)) ∙ closed-skips ps (k + length fs) after-it)
-closed-skips (select id t ns ∷ ps) k s = ap closedIn (s .there)
+closed-skips (select id t ns) k s = ap closedIn (s .there)

@@ -2,29 +2,30 @@
 -- runs over the table once, and the laws of tests carry it to every line. Assumes nothing.
 use Prim.Native.Nat.{ℕ, _+_, _<_}
 use mathlib.Core.Bool.{Bool, true, false, _&&_, _||_, and-eq-true-iff, false≢true}
-use mathlib.Core.List.{List, [], _∷_}
+use mathlib.Core.List.{List, _∷_}
 use mathlib.Core.Logic.{_⊎_, inl, inr, ⊎-elim}
-use mathlib.Core.Option.{some}
+use mathlib.Core.Option.{Option, some, none}
 use mathlib.Core.Path.{_≡_, refl}
 use native.Mathlib.Omega.{arith}
-use borrow.Author.Tests.{eqb-true, ltb-true}
-use lib.Dec.{eqb, ltb}
-use lib.ListN.{length, getD, getElem?}
+use borrow.Author.Tests.{eqb-true}
+use lib.Dec.{eqb}
+use lib.ListN.{length, getD}
 use Rattle.der.proofs.theorems.lists.Range.{every, each}
+use Rattle.crmf.specs.declared.grammar.judge.Onward.{Onward}
 use Rattle.crmf.specs.declared.grammar.judge.Onward.the-variants.{To, Breaks}
 use Rattle.crmf.specs.declared.grammar.table.FoundLine.{FoundLine}
 use Rattle.crmf.specs.declared.grammar.table.FoundLine.the-variants.{At, Nowhere}
 use Rattle.crmf.specs.meaning.Kinds as kinds
 use Rattle.crmf.specs.meaning.Value.{keeps, Selector, selected}
-use Rattle.crmf.specs.meaning.Notation.{Identifiers, octet, generalName, anything, nothing, named, among, order, names, Name, Top, Part, part, select}
+use Rattle.crmf.specs.meaning.Notation.{Identifiers, octet, generalName, anything, nothing, named, among, order, names, Name, Top}
 use Rattle.crmf.specs.meaning.Kinds.{rowKinds}
-use Rattle.crmf.specs.meaning.Grammar.{content}
 use Rattle.crmf.specs.steps.grammar.Lines.{Judge, keep, choose, Pass, ends, needed, another, over, Line, endLine, lines, start}
 use Rattle.crmf.specs.steps.grammar.Packed.{passCode, identifiersCode}
 use Rattle.crmf.specs.steps.explain.Walk.{line, findLineIn, findLine, closedIn, closed, ruleDetail, ways, judged}
-use Rattle.crmf.proofs.theorems.lists.Tests.{all, any, all-getElem, any-getD, all-among, either}
+use Rattle.crmf.proofs.theorems.lists.Tests.{any, any-getD, all-among, either}
 use Rattle.crmf.proofs.theorems.lines.WordFields.{computed, at-line, lineCount, next-small}
 use Rattle.crmf.proofs.theorems.grammar.Names.{at-each}
+use Rattle.crmf.proofs.theorems.values.ValueRules.{selected-below}
 
 -- No name stands twice in the names' order.
 pub ordered : (k : ℕ) → k < length names → order (getD names k Top) ≡ k
@@ -150,10 +151,14 @@ onward-lives k c n = go (line k .judge) (line k .next) (going k) (next-small k)
 
     go : (j : Judge) (next : ℕ) → goes-well j next ≡ true → next < lineCount → judged j next c ≡ To n → (n < lineCount) × Lives n
     go (keep r) next t h e = there next h t (to (keeps r c) (ruleDetail r) next n e .1)
-    go (choose s) next t h e =
-        let w = selected s c in
-        let p = to (ltb w (ways s)) 3 (line (next + w) .next) n e in
-        there (line (next + w) .next) (next-small (next + w)) (way s next t w (ltb-true _ _ (p .0)) .1) (p .1)
+    go (choose s) next t h e = by-way (selected s c) refl e
+      where
+        by-way : (o : Option ℕ) → selected s c ≡ o → (elim o as (λ x. Onward) [ some w ↦ To (line (next + w) .next) | none ↦ Breaks 3 ]) ≡ To n
+            → (n < lineCount) × Lives n
+        by-way none is e = let z : _≡_ {A = ℕ} 0 1 = cc in absurd (omega arith)
+        by-way (some w) is e =
+            let same : line (next + w) .next ≡ n = cc in
+            there (line (next + w) .next) (next-small (next + w)) (way s next t w (selected-below s c w is) .1) same
 
 -- The same holds at the line where a container starts.
 pub start-lives : (n : Name) → Lives (start n)
@@ -165,16 +170,8 @@ pub record WayLines (at count : ℕ) : Type 0 where
   pub way : (w : ℕ) → w < count → (line (at + w) .identifiers ≡ nothing) × (line (at + w) .pass ≡ needed)
   pub after : line (at + count) .pass ≡ ends
 
--- A selector's ways are as many as its lines, and as many as the grammar has.
+-- A selector's ways are as many as its lines.
 pub ways-lines : (k : ℕ) (s : Selector) → line k .judge ≡ choose s → WayLines (line k .next) (ways s)
 ways-lines k s e =
     let t = rw e at (going k) in
     record { way = λ w h. way-code (line (line k .next + w)) (way s (line k .next) t w h .0); after = ends-code _ (last s (line k .next) t) }
-
-abbrev ways-right : Part → Bool
-ways-right (part o fs) = true
-ways-right (select id s ns) = eqb (length ns) (ways s)
-
-pub ways-parts : (n : Name) (i id : ℕ) (s : Selector) (ns : List Name) → getElem? (content n) i ≡ some (select id s ns) → length ns ≡ ways s
-unfolding content
-ways-parts n i id s ns e = eqb-true _ _ (all-getElem ways-right (select id s ns) (content n) (at-each (λ m. all ways-right (content m)) refl n) i e)

@@ -19,7 +19,8 @@ use Rattle.der.specs.meaning.Tree.{Tree, none, header, encode, WellFormed, Sing
 use Rattle.der.specs.steps.Reading.{readAt, tree}
 use Rattle.der.proofs.Laws.{take-drop, slice-none, tree-end, tree-at, header-some, sequence-constructed}
 use Rattle.crmf.specs.meaning.Notation.{among, Top}
-use Rattle.crmf.specs.meaning.Fields.{Field, fields, fieldsBetween, octets, StandsAt, firstWith, child, listed}
+use Rattle.crmf.specs.meaning.Fields.{Field, fields, octets, StandsAt, firstWith, child, listed}
+use Rattle.crmf.specs.steps.Fields.{fieldsBetween}
 use Rattle.crmf.specs.meaning.Grammar.{content}
 use Rattle.crmf.specs.meaning.Language.{Matches}
 use Rattle.crmf.specs.meaning.Messages.{proofs, Message, messageOf, batch, messages}

@@ -10,7 +10,7 @@ use lib.Dec.{T, eqb}
 use borrow.Author.Tests.{eqb-true, eq-eqb}
 use Rattle.der.specs.meaning.Tree.{Tree, element}
 use Rattle.crmf.specs.meaning.Value.{keeps}
-use Rattle.crmf.specs.meaning.Notation.{named, Name, holds, Form, Occurs, once, optional, repeated, Part, part, holding, row}
+use Rattle.crmf.specs.meaning.Notation.{named, Name, holds, Form, Occurs, once, optional, repeated, part, Parts, done, _then_, holding, row}
 use Rattle.crmf.specs.meaning.Grammar.{content}
 use Rattle.crmf.specs.meaning.Language.{readable, partsAfter, OneOf, Matches, end, pass, take, Within, parts}
 use Rattle.crmf.specs.meaning.Fields.{Field, fields, listed}
@@ -31,7 +31,7 @@ pub record FitsOne (R : ℕ → Bool) (forms : List Form) (f : Field) : Type 0 w
   pub keeping : Fits R form f
 
 -- A list of elements begins with a field of one of some forms, and goes on as some parts describe.
-pub record Begun (R : ℕ → Bool) (forms : List Form) (ps : List Part) (t : Tree) : Type 0 where
+pub record Begun (R : ℕ → Bool) (forms : List Form) (ps : Parts) (t : Tree) : Type 0 where
   pub item : Field
   pub rest : Tree
   pub keeping : FitsOne R forms item
@@ -39,7 +39,7 @@ pub record Begun (R : ℕ → Bool) (forms : List Form) (ps : List Part) (t : Tr
   pub split : fields t ≡ item ∷ fields rest
 
 -- A list of elements may begin with a field of one of some forms, and goes on as some parts describe.
-pub record MayBegin (R : ℕ → Bool) (forms : List Form) (ps : List Part) (t : Tree) : Type 0 where
+pub record MayBegin (R : ℕ → Bool) (forms : List Form) (ps : Parts) (t : Tree) : Type 0 where
   pub item : Option Field
   pub rest : Tree
   pub keeping : IfAny (FitsOne R forms) item
@@ -47,7 +47,7 @@ pub record MayBegin (R : ℕ → Bool) (forms : List Form) (ps : List Part) (t :
   pub split : fields t ≡ listed item ++ fields rest
 
 -- a part that stands once
-pub once-begun : {R : ℕ → Bool} {forms : List Form} {ps : List Part} {t : Tree} → Matches R (part once forms ∷ ps) t → Begun R forms ps t
+pub once-begun : {R : ℕ → Bool} {forms : List Form} {ps : Parts} {t : Tree} → Matches R (part once forms then ps) t → Begun R forms ps t
 unfolding fields
 once-begun (pass ok m) = absurd ok
 once-begun (take {id = id} {first = p} {whole = w} {c = c} {inside = i} {rest = r} f one fits read kept within m) =
@@ -60,7 +60,7 @@ once-begun (take {id = id} {first = p} {whole = w} {c = c} {inside = i} {rest = 
     }
 
 -- a part that may stand once
-pub optional-begun : {R : ℕ → Bool} {forms : List Form} {ps : List Part} {t : Tree} → Matches R (part optional forms ∷ ps) t → MayBegin R forms ps t
+pub optional-begun : {R : ℕ → Bool} {forms : List Form} {ps : Parts} {t : Tree} → Matches R (part optional forms then ps) t → MayBegin R forms ps t
 unfolding fields listed
 optional-begun (pass {t = t} ok m) = record { item = absent; rest = t; keeping = tt; further = m; split = refl }
 optional-begun (take {id = id} {first = p} {whole = w} {c = c} {inside = i} {rest = r} f one fits read kept within m) =
@@ -73,7 +73,7 @@ optional-begun (take {id = id} {first = p} {whole = w} {c = c} {inside = i} {res
     }
 
 -- a part that stands any number of times and then nothing: every field keeps one of its forms
-pub repeated-keep : {R : ℕ → Bool} {forms : List Form} {t : Tree} → Matches R (part repeated forms ∷ []) t
+pub repeated-keep : {R : ℕ → Bool} {forms : List Form} {t : Tree} → Matches R (part repeated forms then done) t
     → (f : Field) → List·Memᴰ f (fields t) → FitsOne R forms f
 unfolding fields
 repeated-keep (pass ok end) f n = absurd (List·Memᴰ·not-nil n)
@@ -82,7 +82,7 @@ repeated-keep (take g one fits read kept within m) f (List·Memᴰ·head e) =
 repeated-keep (take g one fits read kept within m) f (List·Memᴰ·tail n) = repeated-keep m f n
 
 -- nothing more
-pub end-fields : {R : ℕ → Bool} {t : Tree} → Matches R [] t → fields t ≡ []
+pub end-fields : {R : ℕ → Bool} {t : Tree} → Matches R done t → fields t ≡ []
 unfolding fields
 end-fields end = refl
 
@@ -116,9 +116,9 @@ fits-cons {R} {form} {forms} {f} fit = by-form (fit .one) (fit .keeping)
     by-form {g} (OneOf.later one) k = inr (record { form = g; one = one; keeping = k })
 
 -- a field that holds what a container holds keeps the form of such an element
-pub holding-take : {R : ℕ → Bool} {o : Occurs} {ps : List Part} {t : Tree} (k id : ℕ) (name : Name) (f : Field) → Holding R id name f
+pub holding-take : {R : ℕ → Bool} {o : Occurs} {ps : Parts} {t : Tree} (k id : ℕ) (name : Name) (f : Field) → Holding R id name f
     → Matches R (partsAfter o (row k (holding id name) ∷ []) ps) t
-    → Matches R (part o (row k (holding id name) ∷ []) ∷ ps) (element (f .identifier) (f .place) (f .whole) (f .content) (f .inside) t)
+    → Matches R (part o (row k (holding id name) ∷ []) then ps) (element (f .identifier) (f .place) (f .whole) (f .content) (f .inside) t)
 unfolding named keeps
 holding-take k id name f h m =
     take (row k (holding id name)) OneOf.first (true-holds (eqb (f .identifier) id) (eq-eqb (f .identifier) id (h .0))) tt tt (parts (h .1)) m

@@ -19,7 +19,7 @@ use Rattle.der.proofs.Laws.{encode-none, encode-element, moved-none, moved-elem
 use Rattle.crmf.specs.meaning.Kinds as kinds
 use Rattle.crmf.specs.meaning.Value.{keeps, isEmpty, empty}
 use Rattle.crmf.specs.meaning.Notation
-use Rattle.crmf.specs.meaning.Notation.{among, named, Top, Batch, CertReq, Template, Signature, KeyProof, Controls, RegInfo, Form, repeated, part, plain, holding, ruled, row}
+use Rattle.crmf.specs.meaning.Notation.{among, named, Top, Batch, CertReq, Template, Signature, KeyProof, Controls, RegInfo, Form, repeated, part, done, _then_, plain, holding, ruled, row}
 use Rattle.crmf.specs.meaning.Grammar.{content}
 use Rattle.crmf.specs.meaning.Language.{Matches, end, pass}
 use Rattle.crmf.specs.meaning.Fields.{Field, fields, chain, octets, Runs, Consists, StandsAt, nth, firstWith, listed, movedField}
@@ -222,14 +222,14 @@ batch-fields {R} t m =
     let b = once-begun m in
     (rw (b .split) (omega arith), rw (b .split) (λ f n. each b f (List·Memᴰ·cases-cons n)))
   where
-    each : (b : Begun R (row kinds.message (holding 0x30 Notation.Message) ∷ []) (part repeated (row kinds.message (holding 0x30 Notation.Message) ∷ []) ∷ []) t)
+    each : (b : Begun R (row kinds.message (holding 0x30 Notation.Message) ∷ []) (part repeated (row kinds.message (holding 0x30 Notation.Message) ∷ []) then done) t)
         → (f : Field) → (f ≡ b .item) ⊎ List·Memᴰ f (fields (b .rest)) → Holding R 0x30 Notation.Message f
     each b f (inl e) = rw e (fits-holding 0x30 Notation.Message 2 (b .item) (fits-only (b .keeping)))
     each b f (inr n) = fits-holding 0x30 Notation.Message kinds.message f (fits-only (repeated-keep (b .further) f n))
 
 -- any number of messages
 messages-repeat : (R : ℕ → Bool) (fs : List Field) → ((f : Field) → List·Memᴰ f fs → Holding R 0x30 Notation.Message f)
-    → Matches R (part repeated (row kinds.message (holding 0x30 Notation.Message) ∷ []) ∷ []) (chain fs)
+    → Matches R (part repeated (row kinds.message (holding 0x30 Notation.Message) ∷ []) then done) (chain fs)
 unfolding chain
 messages-repeat R [] each = pass tt end
 messages-repeat R (f ∷ fs) each =

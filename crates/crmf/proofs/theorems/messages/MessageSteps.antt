@@ -1,10 +1,10 @@
 -- The messages of a batch as its octets are read element by element: each field is what is read at its place, and a message's certReqId is
 -- what is read first inside what is read first inside the message. Assumes nothing.
-use Prim.Native.Nat.{ℕ, _-_, _≤_, _<_}
+use Prim.Native.Nat.{ℕ, _≤_, _<_}
 use native.Mathlib.Nat.{lt-of-not-le}
 use native.Mathlib.Omega.{arith}
 use mathlib.Core.Path.{_≡_, sym, ap, _∙_}
-use mathlib.Core.List.{List, [], _∷_, map}
+use mathlib.Core.List.{List, _∷_, map}
 use lib.ListN.{length}
 use Rattle.der.specs.meaning.Identifier.{constructed}
 use Rattle.der.specs.meaning.Tree.{encode}
@@ -12,7 +12,8 @@ use Rattle.der.specs.meaning.Bounds.{longest}
 use Rattle.der.specs.steps.Reading.{readAt, tree}
 use Rattle.der.proofs.Laws.{read-at-in-order, sequence-constructed}
 use Rattle.crmf.specs.meaning.Grammar.{content}
-use Rattle.crmf.specs.meaning.Fields.{Field, fields, fieldsBetween}
+use Rattle.crmf.specs.meaning.Fields.{Field, fields}
+use Rattle.crmf.specs.steps.Fields.{fieldsBetween}
 use Rattle.crmf.specs.meaning.Messages.{messageOf, batch, messages}
 use Rattle.crmf.proofs.theorems.messages.FieldSteps.{fieldAt, fields-end, fields-at, inside-fields, batch-at}
 use Rattle.crmf.proofs.theorems.messages.MessageLaws.{MessageParts, BatchContent}

@@ -12,7 +12,7 @@ use borrow.Author.Tests.{ltb-false, not-true}
 use Rattle.der.specs.meaning.Tree.{Tree}
 use Rattle.crmf.specs.meaning.Kinds as kinds
 use Rattle.crmf.specs.meaning.Notation
-use Rattle.crmf.specs.meaning.Notation.{Name, Top, Batch, CertReq, holds, Form, once, repeated, Part, part, holding, row}
+use Rattle.crmf.specs.meaning.Notation.{Name, Top, Batch, CertReq, holds, Form, once, repeated, part, Parts, done, _then_, holding, row}
 use Rattle.crmf.specs.meaning.Grammar.{content}
 use Rattle.crmf.specs.meaning.Language.{OneOf, Matches, end, pass, take, Within, parts}
 use Rattle.crmf.specs.meaning.Rows.{Row, rowIf, parentIf, rows, rowsIn, batchRows, longId, allShort}
@@ -40,7 +40,7 @@ unfolding allShort
 short-own kind p w up short id = ltb-false 10 w (not-true (ltb 10 w) (both (not (ltb 10 w)) true (rw id at short) .0))
 
 -- The rows of a derivation, from some numbers on, have no long certReqId.
-record NoLong {R : ℕ → Bool} {ps : List Part} {t : Tree} (m : Matches R ps t) : Type 0 where
+record NoLong {R : ℕ → Bool} {ps : Parts} {t : Tree} (m : Matches R ps t) : Type 0 where
   n : ℕ
   up : ℕ
   place : ℕ
@@ -69,7 +69,7 @@ short-only {R} {form} {f} s = by-form (s .one) (s .field)
     by-form OneOf.first field = field
 
 -- The first field of a list of elements, and the elements after it.
-record FirstShort (R : ℕ → Bool) (forms : List Form) (ps : List Part) (t : Tree) : Type 0 where
+record FirstShort (R : ℕ → Bool) (forms : List Form) (ps : Parts) (t : Tree) : Type 0 where
   item : Field
   rest : Tree
   split : fields t ≡ item ∷ fields rest
@@ -78,7 +78,7 @@ record FirstShort (R : ℕ → Bool) (forms : List Form) (ps : List Part) (t : T
   after : NoLong further
 
 -- an element that is taken from a part
-taken-short : {R : ℕ → Bool} {ps : List Part} {rest : Tree} (f : Form) (g : Field) (within : Within R (f .inside) (g .inside))
+taken-short : {R : ℕ → Bool} {ps : Parts} {rest : Tree} (f : Form) (g : Field) (within : Within R (f .inside) (g .inside))
     (m : Matches R ps rest) (n up place whole : ℕ)
     → (let item = rowIf (f .item) place whole up in
     let above = parentIf (f .item) n up in
@@ -108,7 +108,7 @@ taken-short f g within m n up place whole short =
     )
 
 -- a part that stands once
-once-short : {R : ℕ → Bool} {forms : List Form} {ps : List Part} {t : Tree} (m : Matches R (part once forms ∷ ps) t) → NoLong m
+once-short : {R : ℕ → Bool} {forms : List Form} {ps : Parts} {t : Tree} (m : Matches R (part once forms then ps) t) → NoLong m
     → FirstShort R forms ps t
 unfolding fields rows
 once-short (pass ok m) short = absurd ok
@@ -118,7 +118,7 @@ once-short (take {id = id} {first = p} {whole = w} {c = c} {inside = i} {rest = 
     record { item = g; rest = r; split = refl; field = record { form = f; one = one; field = own }; further = m; after = after }
 
 -- a part that stands any number of times and then nothing
-repeated-short : {R : ℕ → Bool} {forms : List Form} {t : Tree} (m : Matches R (part repeated forms ∷ []) t) → NoLong m
+repeated-short : {R : ℕ → Bool} {forms : List Form} {t : Tree} (m : Matches R (part repeated forms then done) t) → NoLong m
     → (f : Field) → List·Memᴰ f (fields t) → ShortOne R forms f
 unfolding fields rows
 repeated-short (pass ok end) short f at = absurd (List·Memᴰ·not-nil at)
@@ -153,7 +153,7 @@ each-short {R} t s f at =
     let b = once-short (s .inside) (s .short) in
     by-place b (List·Memᴰ·cases-cons (subst (List·Memᴰ f) (b .split) at))
   where
-    by-place : (b : FirstShort R (row kinds.message (holding 0x30 Notation.Message) ∷ []) (part repeated (row kinds.message (holding 0x30 Notation.Message) ∷ []) ∷ []) t)
+    by-place : (b : FirstShort R (row kinds.message (holding 0x30 Notation.Message) ∷ []) (part repeated (row kinds.message (holding 0x30 Notation.Message) ∷ []) then done) t)
         → (f ≡ b .item) ⊎ List·Memᴰ f (fields (b .rest)) → ShortInside R Notation.Message (f .inside)
     by-place b (inl e) = rw e (short-inside 2 0x30 Notation.Message (b .item) (short-only (b .field)))
     by-place b (inr n) = short-inside 2 0x30 Notation.Message f (short-only (repeated-short (b .further) (b .after) f n))

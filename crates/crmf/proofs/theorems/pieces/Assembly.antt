@@ -5,6 +5,7 @@ use native.Mathlib.Omega.{arith}
 use mathlib.Core.Path.{_≡_, refl, sym, ap, ap₂, subst, _∙_}
 use mathlib.Core.Bool.{Bool, true, false, _&&_, and-eq-true-iff}
 use mathlib.Core.List.{List, [], _∷_, _++_, append-nil, append-assoc}
+use mathlib.Core.Option.{Option, some, none as absent, Option·getD, Option·some-injective}
 use lib.Dec.{T, eqb, leb}
 use lib.ListN.{length, getD, length-append}
 use Rattle.der.specs.meaning.Identifier.{constructed}
@@ -14,15 +15,15 @@ use Rattle.der.proofs.Laws.{constructed-bit, header-octets, length-some, shorte
 use Rattle.crmf.specs.meaning.Kinds as kinds
 use Rattle.crmf.specs.meaning.Value.{Selector, infoType, typeNumber, selected}
 use Rattle.crmf.specs.meaning.Lists.{same}
-use Rattle.crmf.specs.meaning.Notation.{among, named, Name, Top, Inside, Form, Occurs, once, optional, repeated, Part, part}
+use Rattle.crmf.specs.meaning.Notation.{among, named, Name, Top, Inside, Form, Occurs, once, optional, repeated, part, Parts, done, _then_, select}
 use Rattle.crmf.specs.meaning.Grammar.{content}
 use Rattle.crmf.specs.meaning.Language.{passable, partsAfter, Matches, end, pass, take, choose, Within, unseen, parts}
 use Rattle.crmf.specs.meaning.Rows.{container, parentIf, batchRows}
 use Rattle.crmf.specs.meaning.Pieces.{Piece, piecesOf}
 use Rattle.crmf.specs.steps.rows.Assembly.{identifierOf, implied, assembled, noneLonger}
-use Rattle.crmf.proofs.theorems.values.ValueRules.{same-octets}
+use Rattle.crmf.proofs.theorems.values.ValueRules.{way-selected, same-octets}
 use Rattle.crmf.proofs.theorems.grammar.Choices.{never-both}
-use Rattle.crmf.proofs.theorems.lists.Tests.{all, all-getElem}
+use Rattle.crmf.proofs.theorems.lists.Tests.{all-getElem}
 use Rattle.crmf.proofs.theorems.grammar.ChoicesMatch.{holds-true}
 use Rattle.crmf.proofs.theorems.grammar.Containers.{allForms, forms-at, quietIn, quietParts, quietTo, quiet}
 use Rattle.crmf.proofs.theorems.rows.RowLaws.{batchForm, only-form}
@@ -115,7 +116,7 @@ quiet-name (suc d) name test = (d, test)
 mutual
   unfolding pieces piecesIn quietParts quietIn quietTo
 
-  quiet-pieces : {R : ℕ → Bool} {ps : List Part} {t : Tree} (d : ℕ) (m : Matches R ps t) (n up : ℕ) (around : List ℕ) → quietParts (quietTo d) ps ≡ true
+  quiet-pieces : {R : ℕ → Bool} {ps : Parts} {t : Tree} (d : ℕ) (m : Matches R ps t) (n up : ℕ) (around : List ℕ) → quietParts (quietTo d) ps ≡ true
       → pieces m n up around ≡ []
   quiet-pieces d end n up around ok = refl
   quiet-pieces d (pass {o = o} {fs = fs} {ps = ps} ok m) n up around test =
@@ -129,12 +130,13 @@ mutual
       ∙ ap₂ (λ (a b : List Piece). a ++ b) (quiet-inside d w n up (header id c ++ c) (two .1))
       (quiet-pieces d m _ up around (again o test (both .1)))
     where
-      again : (p : Occurs) → quietParts (quietTo d) (part p fs ∷ ps) ≡ true → quietParts (quietTo d) ps ≡ true → quietParts (quietTo d) (partsAfter p fs ps) ≡ true
+      again : (p : Occurs) → quietParts (quietTo d) (part p fs then ps) ≡ true → quietParts (quietTo d) ps ≡ true → quietParts (quietTo d) (partsAfter p fs ps) ≡ true
       again once whole past = past
       again optional whole past = past
       again repeated whole past = whole
-  quiet-pieces d (choose {s = s} {names = ns} {ps = ps} {c = c} name way m) n up around test =
-      let (e, deeper) = quiet-name d name (all-getElem (quietTo d) name ns (and-eq-true-iff (all (quietTo d) ns) (quietParts (quietTo d) ps) .0 test .0) (selected s c) way) in
+  quiet-pieces d (choose {s = s} {names = ns} {c = c} name way m) n up around test =
+      let (i, is, there) = way-selected s c ns name .0 way in
+      let (e, deeper) = quiet-name d name (all-getElem (quietTo d) name ns test i there) in
       quiet-pieces e m n up around deeper
 
   quiet-inside : {R : ℕ → Bool} {i : Inside} {t : Tree} (d : ℕ) (w : Within R i t) (n up : ℕ) (around : List ℕ) → quietIn (quietTo d) i ≡ true
@@ -214,7 +216,7 @@ module _ (f : Form) (id : ℕ) (c : List ℕ) (inside : Tree) (inner : ℕ → �
       (joined-tiled (pieceAt (f .kind) up octets ∷ inner (suc n) n) (suc n + length (inner (suc n) n)) (omega arith) first)
 
 -- after the last part there is nothing
-nothing-left : {R : ℕ → Bool} {ps : List Part} {t : Tree} (m : Matches R ps t) → ps ≡ [] → (t ≡ none) × ((n up : ℕ) (around : List ℕ) → pieces m n up around ≡ [])
+nothing-left : {R : ℕ → Bool} {ps : Parts} {t : Tree} (m : Matches R ps t) → ps ≡ done → (t ≡ none) × ((n up : ℕ) (around : List ℕ) → pieces m n up around ≡ [])
 unfolding pieces
 nothing-left end is = (refl, λ n up around. refl)
 nothing-left (pass ok m) is = let z : _≡_ {A = ℕ} 0 1 = cc in absurd (omega arith)
@@ -222,11 +224,12 @@ nothing-left (take f among fits read kept w m) is = let z : _≡_ {A = ℕ} 0 1 
 nothing-left (choose name way m) is = let z : _≡_ {A = ℕ} 0 1 = cc in absurd (omega arith)
 
 -- an item has one value
-value-alone : (s : Selector) (i : ℕ) (o : Occurs) (fs : List Form) (ps : List Part) → valueParts s i (part o fs ∷ ps) ≡ true
-    → (passable o ≡ false) × (partsAfter o fs ps ≡ []) × (allForms (valueForm s i) fs ≡ true)
+value-alone : (s : Selector) (i : ℕ) (o : Occurs) (fs : List Form) (ps : Parts) → valueParts s i (part o fs then ps) ≡ true
+    → (passable o ≡ false) × (partsAfter o fs ps ≡ done) × (allForms (valueForm s i) fs ≡ true)
 unfolding valueParts
-value-alone s i once fs [] test = (refl, refl, test)
-value-alone s i once fs (p ∷ ps) test = never-both false test refl
+value-alone s i once fs done test = (refl, refl, test)
+value-alone s i once fs (p then ps) test = never-both false test refl
+value-alone s i once fs (select id u ns) test = never-both false test refl
 value-alone s i optional fs ps test = never-both false test refl
 value-alone s i repeated fs ps test = never-both false test refl
 
@@ -271,9 +274,9 @@ abbrev carriedType : List ℕ
 carriedType = 0x2B ∷ 0x06 ∷ 0x01 ∷ 0x05 ∷ 0x05 ∷ 0x07 ∷ 0x05 ∷ 0x02 ∷ 0x02 ∷ []
 
 -- the way 2 of an item's type in regInfo
-carried-type : (c : List ℕ) → selected infoType c ≡ 2 → c ≡ carriedType
+carried-type : (c : List ℕ) → selected infoType c ≡ some 2 → c ≡ carriedType
 unfolding selected typeNumber
-carried-type c is = go (same c (known n) && leb n 2) refl is
+carried-type c is = go (same c (known n) && leb 1 n && leb n 2) refl (Option·some-injective _ _ is)
   where
     n : ℕ
     n = getD c 8 0
@@ -281,12 +284,15 @@ carried-type c is = go (same c (known n) && leb n 2) refl is
     known : ℕ → List ℕ
     known m = 0x2B ∷ 0x06 ∷ 0x01 ∷ 0x05 ∷ 0x05 ∷ 0x07 ∷ 0x05 ∷ 0x02 ∷ m ∷ []
 
-    go : (b : Bool) → (same c (known n) && leb n 2) ≡ b → _≡_ {A = ℕ} (elim b as (λ x. ℕ) [ true ↦ n | false ↦ 0 ]) 2 → c ≡ carriedType
-    go true test two = same-octets c (known n) (and-eq-true-iff (same c (known n)) (leb n 2) .0 test .0) ∙ ap known two
+    go : (b : Bool) → (same c (known n) && leb 1 n && leb n 2) ≡ b
+        → _≡_ {A = ℕ} (Option·getD (elim b as (λ x. Option ℕ) [ true ↦ some n | false ↦ absent ]) 0) 2 → c ≡ carriedType
+    go true test two =
+        let front = and-eq-true-iff (same c (known n) && leb 1 n) (leb n 2) .0 test .0 in
+        same-octets c (known n) (and-eq-true-iff (same c (known n)) (leb 1 n) .0 front .0) ∙ ap known two
     go false test two = absurd (omega arith)
 
 -- the octets of an item that carries a certReq
-carried-octets : (c d : List ℕ) (p w : ℕ) (i rest : Tree) → selected infoType c ≡ 2 → d ≡ encode (element 0x06 p w c i rest)
+carried-octets : (c d : List ℕ) (p w : ℕ) (i rest : Tree) → selected infoType c ≡ some 2 → d ≡ encode (element 0x06 p w c i rest)
     → header 0x30 d ++ d ≡ front kinds.regInfoCertReq (length (encode rest)) ++ encode rest
 unfolding implied identifierOf
 carried-octets c d p w i rest is filled =
@@ -303,7 +309,7 @@ mutual
   unfolding pieces piecesIn itemParts itemIn showingIn shows valueParts quiet
 
   -- The pieces of a container's elements are together its content.
-  tiled : {R : ℕ → Bool} {ps : List Part} {t : Tree} (m : Matches R ps t) (left q : ℕ) → WellFormed left q t → (n up : ℕ) (around : List ℕ)
+  tiled : {R : ℕ → Bool} {ps : Parts} {t : Tree} (m : Matches R ps t) (left q : ℕ) → WellFormed left q t → (n up : ℕ) (around : List ℕ)
       → shows ps ≡ true → up < n → Tiled n up (pieces m n up around) (encode t)
   tiled end left q wf n up around test below = rw encode-none (tiled-none n up)
   tiled (pass {o = o} {fs = fs} {ps = ps} ok m) left q wf n up around test below = tiled m left q wf n up around (shown-part o fs ps test .past) below
@@ -333,18 +339,19 @@ mutual
   items-in unseen left q wf n up c test filled below = never-both false test refl
   items-in (parts {n = name} m) left q wf n up c test filled below = item-tiled m left q wf n up c test filled below
 
-  item-tiled : {R : ℕ → Bool} {ps : List Part} {t : Tree} (m : Matches R ps t) (left q : ℕ) → WellFormed left q t → (n up : ℕ) (c : List ℕ)
+  item-tiled : {R : ℕ → Bool} {ps : Parts} {t : Tree} (m : Matches R ps t) (left q : ℕ) → WellFormed left q t → (n up : ℕ) (c : List ℕ)
       → itemParts ps ≡ true → c ≡ encode t → up < n → Tiled n up (pieces m n up (header 0x30 c ++ c)) (header 0x30 c ++ c)
   item-tiled end left q wf n up c test filled below = never-both false test refl
   item-tiled (pass ok m) left q wf n up c test filled below = never-both false test refl
   item-tiled (take f among fits read kept w m) left q wf n up c test filled below = never-both false test refl
   item-tiled (choose name way m) zero q wf n up c test filled below = absurd (well-formed-deep _ _ _ _ _ _ _ wf)
-  item-tiled (choose {s = s} {names = ns} {ps = ps} {id = id} {first = p} {whole = w} {c = d} {inside = i} {rest = rest} name way m) (suc left) q wf n up c test filled below =
-      let (six, valued) = item-says id (selected s d) s ns ps name test way in
-      value-tiled m (suc left) (q + w) (well-formed-element left q id p w d i rest .0 wf .1) n up (header 0x30 c ++ c) s (selected s d) valued below (element-two 0x30 c)
-      (λ info two. carried-octets d c p w i rest (rw info at two) (rw six at filled))
+  item-tiled (choose {s = s} {names = ns} {id = id} {first = p} {whole = w} {c = d} {inside = i} {rest = rest} name way m) (suc left) q wf n up c test filled below =
+      let (j, is, there) = way-selected s d ns name .0 way in
+      let (six, valued) = item-says id j s ns name test there in
+      value-tiled m (suc left) (q + w) (well-formed-element left q id p w d i rest .0 wf .1) n up (header 0x30 c ++ c) s j valued below (element-two 0x30 c)
+      (λ info two. carried-octets d c p w i rest (ap (λ (t : Selector). selected t d) (sym info) ∙ is ∙ ap some two) (rw six at filled))
 
-  value-tiled : {R : ℕ → Bool} {ps : List Part} {t : Tree} (m : Matches R ps t) (left q : ℕ) → WellFormed left q t → (n up : ℕ) (around : List ℕ)
+  value-tiled : {R : ℕ → Bool} {ps : Parts} {t : Tree} (m : Matches R ps t) (left q : ℕ) → WellFormed left q t → (n up : ℕ) (around : List ℕ)
       (s : Selector) (i : ℕ) → valueParts s i ps ≡ true → up < n → 2 ≤ length around
       → (s ≡ infoType → i ≡ 2 → around ≡ front kinds.regInfoCertReq (length (encode t)) ++ encode t) → Tiled n up (pieces m n up around) around
   value-tiled end left q wf n up around s i test below two carries = never-both false test refl
@@ -386,7 +393,7 @@ one-together id c inside inner more is filled below nothing =
       short = λ limit fits. front-short 0 0 1 xs e refl below limit (omega arith);
     })
 
-batch-together : {R : ℕ → Bool} {t : Tree} (m : Matches R (part once (batchForm ∷ []) ∷ []) t) (left : ℕ) → WellFormed left 0 t
+batch-together : {R : ℕ → Bool} {t : Tree} (m : Matches R (part once (batchForm ∷ []) then done) t) (left : ℕ) → WellFormed left 0 t
     → Together (pieces m 0 0 []) (encode t)
 unfolding pieces isOctet
 batch-together (pass ok m) left wf = absurd ok

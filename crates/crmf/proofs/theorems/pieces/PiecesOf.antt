@@ -5,7 +5,7 @@ use mathlib.Core.List.{List, [], _∷_, _++_}
 use lib.Dec.{eqb}
 use lib.ListN.{length}
 use Rattle.der.specs.meaning.Tree.{Tree, header}
-use Rattle.crmf.specs.meaning.Notation.{Inside, Part}
+use Rattle.crmf.specs.meaning.Notation.{Inside, Parts}
 use Rattle.crmf.specs.meaning.Language.{Matches, end, pass, take, choose, Within, unseen, parts}
 use Rattle.crmf.specs.meaning.Rows.{container, parentIf}
 use Rattle.crmf.specs.meaning.Pieces.{Piece}
@@ -21,7 +21,7 @@ pieceIf kind parent octets =
 -- The pieces of the elements of a container: n is the number of the next piece, up the number of the piece around them, and around holds
 -- the container's own octets, header and content.
 unfoldable mutual
-  pub pieces : {R : ℕ → Bool} {ps : List Part} {t : Tree} → Matches R ps t → (n up : ℕ) (around : List ℕ) → List Piece
+  pub pieces : {R : ℕ → Bool} {ps : Parts} {t : Tree} → Matches R ps t → (n up : ℕ) (around : List ℕ) → List Piece
   pieces end n up around = []
   pieces (pass ok m) n up around = pieces m n up around
   pieces (take {id = id} {c = c} f among fits read kept within m) n up around =

@@ -11,7 +11,7 @@ use lib.ListN.{getElem?}
 use borrow.Author.Tests.{eqb-true, not-true}
 use Rattle.crmf.specs.meaning.Kinds as kinds
 use Rattle.crmf.specs.meaning.Value.{Selector, action, method, controlType, infoType}
-use Rattle.crmf.specs.meaning.Notation.{Identifiers, octet, generalName, anything, nothing, among, named, Name, names, Batch, order, Inside, free, holds, Form, Occurs, once, optional, repeated, Part, part, select, Message, CertReq, Template, Validity, Extensions, Signature, KeyProof, Controls, RegInfo}
+use Rattle.crmf.specs.meaning.Notation.{Identifiers, octet, generalName, anything, nothing, among, named, Name, names, Batch, order, Inside, free, holds, Form, Occurs, once, optional, repeated, part, Parts, done, _then_, select, Message, CertReq, Template, Validity, Extensions, Signature, KeyProof, Controls, RegInfo}
 use Rattle.crmf.specs.meaning.Grammar.{content}
 use Rattle.crmf.specs.meaning.Language.{partsAfter, OneOf}
 use Rattle.crmf.specs.meaning.Rows.{container}
@@ -76,23 +76,24 @@ valueForm s i f =
       | true ↦ isInfo s && (eqb i 2 && (eqb (f .item) kinds.regInfoCertReq && (eqb (f .kind) kinds.certReq && bears kinds.certReq f)))
     ]
 
-unfoldable pub valueParts : Selector → ℕ → List Part → Bool
-valueParts s i [] = false
-valueParts s i (select id u ns ∷ ps) = false
-valueParts s i (part optional fs ∷ ps) = false
-valueParts s i (part repeated fs ∷ ps) = false
-valueParts s i (part once fs ∷ (p ∷ ps)) = false
-valueParts s i (part once fs ∷ []) = allForms (valueForm s i) fs
+unfoldable pub valueParts : Selector → ℕ → Parts → Bool
+valueParts s i done = false
+valueParts s i (select id u ns) = false
+valueParts s i (part optional fs then ps) = false
+valueParts s i (part repeated fs then ps) = false
+valueParts s i (part once fs then (p then ps)) = false
+valueParts s i (part once fs then select id u ns) = false
+valueParts s i (part once fs then done) = allForms (valueForm s i) fs
 
 unfoldable pub valuesFrom : Selector → ℕ → List Name → Bool
 valuesFrom s i [] = true
 valuesFrom s i (n ∷ ns) = valueParts s i (content n) && valuesFrom s (suc i) ns
 
 -- the parts of an item: a type, and a value that it selects
-unfoldable pub itemParts : List Part → Bool
-itemParts [] = false
-itemParts (part o fs ∷ ps) = false
-itemParts (select id s ns ∷ ps) = eqb id 0x06 && valuesFrom s 0 ns
+unfoldable pub itemParts : Parts → Bool
+itemParts done = false
+itemParts (part o fs then ps) = false
+itemParts (select id s ns) = eqb id 0x06 && valuesFrom s 0 ns
 
 unfoldable pub itemIn : Inside → Bool
 itemIn free = false
@@ -109,10 +110,10 @@ showsForm f =
       ]
     ]
 
-unfoldable pub shows : List Part → Bool
-shows [] = true
-shows (part o fs ∷ ps) = allForms showsForm fs && shows ps
-shows (select id s ns ∷ ps) = false
+unfoldable pub shows : Parts → Bool
+shows done = true
+shows (part o fs then ps) = allForms showsForm fs && shows ps
+shows (select id s ns) = false
 
 -- every container whose elements are all shown passes: a test that computes
 all-shown : all (λ n. not (showing n) || shows (content n)) names ≡ true
@@ -173,18 +174,18 @@ form-shown f test = by-kind (eqb (f .kind) 0) refl (both .1)
     by-kind false kept more = by-container kept (container (f .kind)) refl more
 
 -- What parts that are shown say: of each form, of the parts after one, and of the parts after the first.
-pub record ShownPart (o : Occurs) (fs : List Form) (ps : List Part) : Type 0 where
+pub record ShownPart (o : Occurs) (fs : List Form) (ps : Parts) : Type 0 where
   pub form : {f : Form} → OneOf f fs → Shown f
   pub after-form : shows (partsAfter o fs ps) ≡ true
   pub past : shows ps ≡ true
 
-pub shown-part : (o : Occurs) (fs : List Form) (ps : List Part) → shows (part o fs ∷ ps) ≡ true → ShownPart o fs ps
+pub shown-part : (o : Occurs) (fs : List Form) (ps : Parts) → shows (part o fs then ps) ≡ true → ShownPart o fs ps
 unfolding shows
 shown-part o fs ps test =
     let both = and-eq-true-iff (allForms showsForm fs) (shows ps) .0 test in
     record { form = λ {f} m. form-shown f (forms-at showsForm m (both .0)); after-form = again o test (both .1); past = both .1 }
   where
-    again : (p : Occurs) → shows (part p fs ∷ ps) ≡ true → shows ps ≡ true → shows (partsAfter p fs ps) ≡ true
+    again : (p : Occurs) → shows (part p fs then ps) ≡ true → shows ps ≡ true → shows (partsAfter p fs ps) ≡ true
     again once whole past = past
     again optional whole past = past
     again repeated whole past = whole
@@ -239,10 +240,10 @@ values-at s j (suc i) (m ∷ ns) n test there =
     rw sum (values-at s (suc j) i ns n (and-eq-true-iff (valueParts s j (content m)) (valuesFrom s (suc j) ns) .0 test .1) there)
 
 -- an item's type is an 06, and the value that it selects gives the item its row
-pub item-says : (id i : ℕ) (s : Selector) (ns : List Name) (ps : List Part) (n : Name) → itemParts (select id s ns ∷ ps) ≡ true → getElem? ns i ≡ some n
+pub item-says : (id i : ℕ) (s : Selector) (ns : List Name) (n : Name) → itemParts (select id s ns) ≡ true → getElem? ns i ≡ some n
     → (id ≡ 0x06) × (valueParts s i (content n) ≡ true)
 unfolding itemParts
-item-says id i s ns ps n test there =
+item-says id i s ns n test there =
     let both = and-eq-true-iff (eqb id 0x06) (valuesFrom s 0 ns) .0 test in
     let sum : 0 + i ≡ i = omega arith in
     (eqb-true id 0x06 (both .0), rw sum at (values-at s 0 i ns n (both .1) there))

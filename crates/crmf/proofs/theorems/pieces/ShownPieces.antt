@@ -9,7 +9,7 @@ use lib.ListN.{length}
 use lib.Seq.{slice, take-length}
 use Rattle.der.specs.meaning.Tree.{Tree, element, header, encode, WellFormed}
 use Rattle.der.proofs.Laws.{encode-element, take-drop}
-use Rattle.crmf.specs.meaning.Notation.{Top, Inside, Part}
+use Rattle.crmf.specs.meaning.Notation.{Top, Inside, Parts}
 use Rattle.crmf.specs.meaning.Grammar.{content}
 use Rattle.crmf.specs.meaning.Language.{Matches, end, pass, take, choose, Within, unseen, parts}
 use Rattle.crmf.specs.meaning.Rows.{Row, rowIf, parentIf, rows, rowsIn, batchRows}
@@ -95,7 +95,7 @@ module _ (s : List ℕ) where
     unfolding rows rowsIn rowsOne pieces piecesIn piecesOne piecesOf
 
     -- The rows of elements that stand in some octets, in an element that stands there, show the derivation's pieces.
-    pub rows-pieces : {R : ℕ → Bool} {ps : List Part} {t : Tree} (m : Matches R ps t) (left q : ℕ) → WellFormed left q t
+    pub rows-pieces : {R : ℕ → Bool} {ps : Parts} {t : Tree} (m : Matches R ps t) (left q : ℕ) → WellFormed left q t
         → StandsAt s q (encode t) → (n up place whole : ℕ) (around : List ℕ) → slice place (place + whole) s ≡ around
         → piecesOf s (rows m n up place whole) ≡ pieces m n up around
     rows-pieces end left q wf there n up place whole around outer = refl

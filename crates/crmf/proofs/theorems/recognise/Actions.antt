@@ -69,11 +69,11 @@ alike-same false b e = sym (not-true b e)
 
 abbrev common : Mark → Bool
 common both = true
-common (alone e d) = false
+common (alone e d detail) = false
 
 common-both : (m : Mark) → common m ≡ true → m ≡ both
 common-both both e = refl
-common-both (alone e d) t = absurd (false≢true t)
+common-both (alone e d detail) t = absurd (false≢true t)
 
 by-rule : (j : Judge) (r : Rule) → judgeCode j ≡ judgeCode (keep r) → j ≡ keep r
 by-rule (keep x) r e = ap keep (same-rule x r e)

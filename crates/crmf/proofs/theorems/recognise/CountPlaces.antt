@@ -5,7 +5,7 @@ use mathlib.Core.Bool.{Bool, true, false}
 use mathlib.Core.List.{List, []}
 use native.Mathlib.Omega.{arith}
 use lib.Dec.{eqb}
-use lib.ListN.{length, drop, take, getD, length-drop, drop-of-length-le}
+use lib.ListN.{length, drop, getD, length-drop, drop-of-length-le}
 use lib.Seq.{slice, getD-drop, drop-drop, length-slice}
 use borrow.Author.Tests.{eqb-false, ne-eqb}
 use Rattle.der.specs.declared.element.length.Span.{Span}
@@ -17,7 +17,6 @@ use Rattle.crmf.specs.declared.grammar.judge.Onward.the-variants.{To, Br
 use Rattle.crmf.specs.declared.grammar.table.FoundLine.the-variants.{At, Nowhere}
 use Rattle.crmf.specs.declared.recognise.Advance.{Advance}
 use Rattle.crmf.specs.declared.recognise.Advance.the-variants.{Past, Stop}
-use Rattle.crmf.specs.declared.recognise.Recognition.{Recognition}
 use Rattle.crmf.specs.declared.recognise.Recognition.the-variants.{Rows, Unrecognised}
 use Rattle.crmf.specs.steps.explain.Walk.{line, findLine, closed, judged, rowsBy}
 use Rattle.crmf.specs.steps.recognise.Count.{countsAt}

@@ -2,7 +2,7 @@
 -- breaks its rule, or the count goes on after it. An element has a sound nest if its content has one, since the octets are read as a tree.
 -- Assumes nothing.
 use Prim.Native.Nat.{ℕ, suc, _+_, _≤_, _<_}
-use mathlib.Core.Path.{_≡_, refl, sym, ap, _∙_}
+use mathlib.Core.Path.{_≡_, refl, sym, _∙_}
 use mathlib.Core.Bool.{Bool, true, false, and-eq-true-iff, false≢true}
 use mathlib.Core.List.{List, []}
 use native.Mathlib.Omega.{arith}

@@ -15,7 +15,7 @@ use Rattle.crmf.specs.declared.recognise.Recognition.the-variants.{Rows}
 use Rattle.crmf.specs.declared.explain.tally.Tally.{Tally}
 use Rattle.crmf.specs.declared.explain.Walked.the-variants.{Passed}
 use Rattle.crmf.specs.meaning.Notation.{Top}
-use Rattle.crmf.specs.meaning.Rows.{firstLong}
+use Rattle.crmf.specs.steps.explain.LongIds.{firstLong}
 use Rattle.crmf.specs.steps.grammar.Lines.{start}
 use Rattle.crmf.specs.steps.explain.Walk.{line, rowsBy, withElement, walk, emptyTally}
 use Rattle.crmf.specs.steps.rows.Fill.{rowsOfInput}

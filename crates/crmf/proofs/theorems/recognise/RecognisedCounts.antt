@@ -3,8 +3,8 @@
 use Prim.Native.Nat.{ℕ, _+_, _≤_}
 use native.Mathlib.Omega.{arith}
 use mathlib.Core.Path.{_≡_, refl, sym, _∙_, ap, subst}
-use mathlib.Core.Bool.{Bool, true, false, _&&_, not, and-eq-true-iff}
-use mathlib.Core.List.{List, [], _∷_}
+use mathlib.Core.Bool.{Bool, true, false, not, and-eq-true-iff}
+use mathlib.Core.List.{List}
 use lib.Dec.{eqb}
 use lib.ListN.{length}
 use borrow.Author.Tests.{eqb-true, not-true}
@@ -24,10 +24,11 @@ use Rattle.crmf.specs.declared.grammar.judge.Onward.{Onward}
 use Rattle.crmf.specs.declared.grammar.judge.Onward.the-variants.{To, Breaks}
 use Rattle.crmf.specs.declared.grammar.table.FoundLine.{FoundLine}
 use Rattle.crmf.specs.declared.grammar.table.FoundLine.the-variants.{At, Nowhere}
-use Rattle.crmf.specs.meaning.Notation.{Mark, both, alone, Top, Form, once, part}
+use Rattle.crmf.specs.meaning.Notation.{Mark, both, alone, Top, Form, once, part, done, _then_}
 use Rattle.crmf.specs.meaning.Grammar.{content}
 use Rattle.crmf.specs.meaning.Language.{readable, occurs, Matches, end, pass, take}
-use Rattle.crmf.specs.meaning.Rows.{longId, longer}
+use Rattle.crmf.specs.meaning.Rows.{longId}
+use Rattle.crmf.specs.steps.explain.LongIds.{longer}
 use Rattle.crmf.specs.steps.grammar.Lines.{Line, start}
 use Rattle.crmf.specs.steps.explain.Walk.{line, findLine, closed, judged, rowsBy, withElement, walk, emptyTally, countOf}
 use Rattle.crmf.specs.steps.recognise.Count.{mayStand, counts, countsAt, recognised}
@@ -44,19 +45,19 @@ use Rattle.crmf.proofs.theorems.explain.Accepts.{accepts-sound}
 use Rattle.crmf.proofs.theorems.explain.WholeInput.{count-whole}
 
 -- What the count found for the first of elements that are recognised: its line, the rows up to its end, and the line after it.
-record FirstCounted (e k n id first whole : ℕ) (c : List ℕ) (inside rest : Tree) : Type 0 where
-  at : ℕ
-  found : findLine k id ≡ At at
-  standing : mayStand e (line at) whole ≡ true
-  rows : ℕ
-  within : countsIn e (line at .inside) (n + rowsBy (line at)) inside ≡ Rows rows
-  next : ℕ
-  onward : judged (line at .judge) (line at .next) c ≡ To next
-  same : counts e k n (element id first whole c inside rest) ≡ counts e next rows rest
+pub record FirstCounted (e k n id first whole : ℕ) (c : List ℕ) (inside rest : Tree) : Type 0 where
+  pub at : ℕ
+  pub found : findLine k id ≡ At at
+  pub standing : mayStand e (line at) whole ≡ true
+  pub rows : ℕ
+  pub within : countsIn e (line at .inside) (n + rowsBy (line at)) inside ≡ Rows rows
+  pub next : ℕ
+  pub onward : judged (line at .judge) (line at .next) c ≡ To next
+  pub same : counts e k n (element id first whole c inside rest) ≡ counts e next rows rest
 
 module _ (e k n id first whole : ℕ) (c : List ℕ) (inside rest : Tree) where
   -- Of elements that are recognised, the first has a line in whose form it may stand, an inside that is recognised, and a good value.
-  counted-element : (r : ℕ) → counts e k n (element id first whole c inside rest) ≡ Rows r → FirstCounted e k n id first whole c inside rest
+  pub counted-element : (r : ℕ) → counts e k n (element id first whole c inside rest) ≡ Rows r → FirstCounted e k n id first whole c inside rest
   counted-element r some = by-line (findLine k id) refl
     where
       no : counts e k n (element id first whole c inside rest) ≡ Unrecognised → FirstCounted e k n id first whole c inside rest
@@ -94,9 +95,9 @@ module _ (e k n id first whole : ℕ) (c : List ℕ) (inside rest : Tree) where
 own-after : {e : ℕ} → Edition e → (h : ℕ × ℕ) (m : Mark) (p : ℕ) → readable (λ y. eqb y e) m ≡ true → after (other e) h (occurs m p) ≡ h
 unfolding firstOf
 own-after {e} ed h both p read = after-none (other e) h
-own-after {e} ed h (alone f d) p read = rw (eqb-true f e read) (go ed (eqb (h .0) 0) refl)
+own-after {e} ed h (alone f d detail) p read = rw (eqb-true f e read) (go ed (eqb (h .0) 0) refl)
   where
-    go : {e : ℕ} → Edition e → (b : Bool) → eqb (h .0) 0 ≡ b → after (other e) h (occurs (alone e d) p) ≡ h
+    go : {e : ℕ} → Edition e → (b : Bool) → eqb (h .0) 0 ≡ b → after (other e) h (occurs (alone e d detail) p) ≡ h
     go {e} known-edition false known = after-known (other e) h _ known
     go first-edition true unknown = after-unknown 2 h _ unknown
     go second-edition true unknown = after-unknown 1 h _ unknown
@@ -184,11 +185,11 @@ counts-walk ed (element id first whole c inside rest) =
     walks-element ed id first whole c inside rest (counts-walk ed inside) (counts-walk ed rest)
 
 -- no parts describe no elements
-none-left : {R : ℕ → Bool} {t : Tree} → Matches R [] t → t ≡ none
+none-left : {R : ℕ → Bool} {t : Tree} → Matches R done t → t ≡ none
 none-left end = refl
 
 -- one needed part describes a single element
-one-matched : {R : ℕ → Bool} {fs : List Form} {t : Tree} → Matches R (part once fs ∷ []) t → Single t
+pub one-matched : {R : ℕ → Bool} {fs : List Form} {t : Tree} → Matches R (part once fs then done) t → Single t
 one-matched (pass ok m) = absurd ok
 one-matched (take f among fits read kept within m) = single-element _ _ _ _ _ _ .1 (none-left m)
 
@@ -200,7 +201,7 @@ counts-single ed n m t some =
     one-matched (accepts-sound all emptyTally r Top 0 t passed)
 
 -- an input that is recognised has no fault in its nest
-recognised-sound : (e n : ℕ) (s : List ℕ) → recognised e s ≡ Rows n → (isList depth s ≡ true) × (counts e (start Top) 0 (tree 0 s) ≡ Rows n)
+pub recognised-sound : (e n : ℕ) (s : List ℕ) → recognised e s ≡ Rows n → (isList depth s ≡ true) × (counts e (start Top) 0 (tree 0 s) ≡ Rows n)
 unfolding recognised countsAt
 recognised-sound e n s is = go (isList depth s) refl
   where

@@ -8,7 +8,7 @@ use native.Mathlib.Nat.{add-zero}
 use native.Mathlib.Omega.{arith}
 use lib.Dec.{eqb}
 use lib.ListN.{length, take, drop, getD, length-drop}
-use lib.Seq.{slice, drop-length, drop-drop, getD-drop}
+use lib.Seq.{slice, drop-length, drop-drop}
 use Rattle.der.specs.declared.element.length.Span.{Span}
 use Rattle.der.specs.meaning.Bounds.{longest}
 use Rattle.der.specs.meaning.Identifier.{allowed, constructed}
@@ -16,14 +16,13 @@ use Rattle.der.specs.meaning.Content.{bitString, objectIdentifier}
 use Rattle.der.specs.steps.ContentTest.{holds}
 use Rattle.der.specs.steps.Span.{spanOf}
 use Rattle.der.specs.steps.Recognise.{isElement}
-use Rattle.der.proofs.Laws.{span-fits, is-element-value, holds-object-identifier, holds-bit-string, constructed-octet, known-allowed, take-slice, take-from}
+use Rattle.der.proofs.Laws.{is-element-value, holds-object-identifier, holds-bit-string, constructed-octet, known-allowed, take-slice, take-from}
 use Rattle.crmf.specs.declared.recognise.Recognition.the-variants.{Rows}
 use Rattle.crmf.specs.declared.grammar.judge.Onward.the-variants.{To}
 use Rattle.crmf.specs.declared.grammar.table.FoundLine.the-variants.{At}
 use Rattle.crmf.specs.meaning.Value.{keeps}
-use Rattle.crmf.specs.meaning.Notation.{named, Name, AlgId, Spki, OneName, RdnSequence, Rdn, Attribute}
-use Rattle.crmf.specs.meaning.Grammar as grammar
-use Rattle.crmf.specs.steps.grammar.Lines.{start, size}
+use Rattle.crmf.specs.meaning.Notation.{named, AlgId, Spki, OneName, RdnSequence, Rdn, Attribute}
+use Rattle.crmf.specs.steps.grammar.Lines.{start}
 use Rattle.crmf.specs.steps.explain.Walk.{line, findLineIn, findLine, closedIn, closed, judged, rowsBy}
 use Rattle.crmf.specs.steps.recognise.Count.{mayStand, countsAt}
 use Rattle.crmf.specs.steps.recognise.Inner.{contentCount, RowlessFrom, Leading, Sole}
@@ -78,16 +77,16 @@ module _ (bs : List ℕ) (short : length bs ≤ longest) (some-octets : spanOf b
         rw (contentCount, found .stood e end-of, found .inside, lined)
         (ap (λ (i : ℕ). countsAt e left i n p content) (found .inside) ∙ inner e left n p deep))
 
--- the line at a container's end
-abbrev ending : Name → ℕ
-ending n = start n + size (grammar.content n) - 1
+-- the line to go on with after the last part of a container
+abbrev ending : ℕ
+ending = 0
 
 -- The lines of the small containers, by the identifiers of their elements. An AlgorithmIdentifier's OBJECT IDENTIFIER and value.
 alg-id-type : RowlessLine (start AlgId) 0x06 (start AlgId) 0 (suc (start AlgId))
 unfolding computed line findLine findLineIn named judged keeps
 alg-id-type = record { found = refl; stood = λ e whole. refl; rowless = refl; inside = refl; goes = λ c. refl }
 
-alg-id-value : (id : ℕ) → RowlessLine (suc (start AlgId)) id (suc (start AlgId)) 0 (ending AlgId)
+alg-id-value : (id : ℕ) → RowlessLine (suc (start AlgId)) id (suc (start AlgId)) 0 ending
 unfolding computed line findLine findLineIn named judged keeps
 alg-id-value id = record { found = refl; stood = λ e whole. refl; rowless = refl; inside = refl; goes = λ c. refl }
 
@@ -96,7 +95,7 @@ attribute-type : RowlessLine (start Attribute) 0x06 (start Attribute) 0 (suc (st
 unfolding computed line findLine findLineIn named judged keeps
 attribute-type = record { found = refl; stood = λ e whole. refl; rowless = refl; inside = refl; goes = λ c. refl }
 
-attribute-value : (id : ℕ) → RowlessLine (suc (start Attribute)) id (suc (start Attribute)) 0 (ending Attribute)
+attribute-value : (id : ℕ) → RowlessLine (suc (start Attribute)) id (suc (start Attribute)) 0 ending
 unfolding computed line findLine findLineIn named judged keeps
 attribute-value id = record { found = refl; stood = λ e whole. refl; rowless = refl; inside = refl; goes = λ c. refl }
 
@@ -109,7 +108,7 @@ sequence-rdn : RowlessLine (start RdnSequence) 0x31 (start RdnSequence) (start R
 unfolding computed line findLine findLineIn named judged keeps
 sequence-rdn = record { found = refl; stood = λ e whole. refl; rowless = refl; inside = refl; goes = λ c. refl }
 
-name-sequence : RowlessLine (start OneName) 0x30 (start OneName) (start RdnSequence) (ending OneName)
+name-sequence : RowlessLine (start OneName) 0x30 (start OneName) (start RdnSequence) ending
 unfolding computed line findLine findLineIn named judged keeps
 name-sequence = record { found = refl; stood = λ e whole. refl; rowless = refl; inside = refl; goes = λ c. refl }
 
@@ -118,7 +117,7 @@ key-alg-id : RowlessLine (start Spki) 0x30 (start Spki) (start AlgId) (suc (star
 unfolding computed line findLine findLineIn named judged keeps
 key-alg-id = record { found = refl; stood = λ e whole. refl; rowless = refl; inside = refl; goes = λ c. refl }
 
-key-bits : RowlessLine (suc (start Spki)) 0x03 (suc (start Spki)) 0 (ending Spki)
+key-bits : RowlessLine (suc (start Spki)) 0x03 (suc (start Spki)) 0 ending
 unfolding computed line findLine findLineIn named judged keeps
 key-bits = record { found = refl; stood = λ e whole. refl; rowless = refl; inside = refl; goes = λ c. refl }
 

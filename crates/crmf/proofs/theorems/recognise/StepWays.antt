@@ -34,7 +34,7 @@ use Rattle.crmf.proofs.theorems.recognise.Actions.{Plain, plain-names, 
 -- a mark names an edition that is not 0 and a difference that has room below its weight
 abbrev sure : Mark → Bool
 sure both = true
-sure (alone e d) = leb 1 e && ltb d codes.edition
+sure (alone e d detail) = leb 1 e && ltb d codes.edition
 
 -- at every line of the table
 sure-at : (k : ℕ) → sure (line k .mark) ≡ true
@@ -45,7 +45,7 @@ sure-at = at-line (λ x. sure (x .mark)) refl
 by-code : (m : Mark) (code e : ℕ) → sure m ≡ true → markCode m ≡ code → readable (λ y. eqb y e) m ≡ not (not (eqb code 0) && not (eqb (code / codes.edition) e))
 unfolding markCode
 by-code both code e good coded = rw (sym coded)
-by-code (alone x d) code e good coded =
+by-code (alone x d detail) code e good coded =
     let both-tests = and-eq-true-iff (leb 1 x) (ltb d codes.edition) .0 good in
     let some : 1 ≤ x = leb-true 1 x (both-tests .0) in
     let few : d < codes.edition = ltb-true d 8 (both-tests .1) in

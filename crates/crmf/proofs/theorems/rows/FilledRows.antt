@@ -18,6 +18,7 @@ use Rattle.crmf.specs.meaning.Grammar.{content}
 use Rattle.crmf.specs.meaning.Language.{Matches}
 use Rattle.crmf.specs.steps.explain.Walk.{every, emptyTally, countOf}
 use Rattle.crmf.specs.meaning.Rows.{Row, width, numbers, batchRows}
+pub use Rattle.crmf.specs.meaning.Rows.{Holds}
 use Rattle.crmf.specs.steps.rows.Fill.{written, fits, rowsOfInput, filled}
 use Rattle.crmf.specs.meaning.Lists.{over}
 use Rattle.crmf.proofs.theorems.rows.RowsOfLines.{rows-lines, walk-counts}
@@ -27,14 +28,6 @@ use Rattle.crmf.proofs.theorems.rows.Writing.{numbers-length, length-ov
 pub fits-room : (count : ℕ) (old : List ℕ) → fits count old ≡ leb (width * count) (length old)
 unfolding fits
 fits-room count old = refl
-
--- A table with some rows written into its first numbers, and its other numbers as they were.
-pub record Holds (rs : List Row) (count : ℕ) (old new : List ℕ) : Type 0 where
-  pub counted : length rs ≡ count
-  pub whole : new ≡ over old 0 (numbers rs)
-  pub first : take (width * count) new ≡ numbers rs
-  pub others : drop (width * count) new ≡ drop (width * count) old
-  pub sized : length new ≡ length old
 
 -- all of some rows written from the first number on
 written-all : (old : List ℕ) (count : ℕ) (rs : List Row) → length rs ≡ count → width * count ≤ length old

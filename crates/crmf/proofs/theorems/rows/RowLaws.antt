@@ -11,12 +11,12 @@ use Rattle.der.specs.meaning.Identifier.{constructed}
 use Rattle.der.specs.meaning.Tree.{Tree, none, element, header, encode, WellFormed, Formed}
 use Rattle.der.proofs.Laws.{header-some, encode-none, encode-length, well-formed-none, well-formed-deep, well-formed-element}
 use Rattle.crmf.specs.meaning.Kinds as kinds
-use Rattle.crmf.specs.meaning.Value.{selected}
-use Rattle.crmf.specs.meaning.Notation.{among, Top, Batch, Inside, Form, once, Part, part, holding, row}
+use Rattle.crmf.specs.meaning.Notation.{among, Top, Batch, Inside, Form, once, part, Parts, done, _then_, holding, row}
 use Rattle.crmf.specs.meaning.Grammar.{content}
 use Rattle.crmf.specs.meaning.Language.{partsAfter, OneOf, first, Matches, end, pass, take, choose, Within, unseen, parts}
 use Rattle.crmf.specs.meaning.Rows.{Row, container, rows, rowsIn, batchRows}
 use Rattle.crmf.proofs.theorems.grammar.Choices.{never-both}
+use Rattle.crmf.proofs.theorems.values.ValueRules.{way-selected}
 use Rattle.crmf.proofs.theorems.rows.RowsOfLines.{rowsOne}
 use Rattle.crmf.proofs.theorems.grammar.Containers.{bearsIf, early, earlyIn, givesItem, right, rightIn, item-given, right-content, right-way, right-part}
 use Rattle.crmf.proofs.theorems.rows.RowsInPlace.{noRow, before-at, Fit, Fits, fits-at, Laid, Room, room-less, Early, early-less, one-laid}
@@ -88,7 +88,7 @@ mutual
   unfolding rows rowsIn rowsOne early earlyIn rightIn
 
   -- The rows of a derivation are in place below a row that leaves room for them, after any others, if the grammar's parts are right there.
-  laid : {R : ℕ → Bool} {ps : List Part} {t : Tree} (m : Matches R ps t) (left q : ℕ) → WellFormed left q t → (pre : List Row)
+  laid : {R : ℕ → Bool} {ps : Parts} {t : Tree} (m : Matches R ps t) (left q : ℕ) → WellFormed left q t → (pre : List Row)
       (n up place whole : ℕ) (b : Bool) → length pre ≡ n → right b ps ≡ true → Room pre up b q (q + length (encode t))
       → (early ps ≡ true → Early pre up b place whole q (q + length (encode t)))
       → Laid pre (rows m n up place whole) (q + length (encode t))
@@ -115,13 +115,14 @@ mutual
       (laid m left (p + w) (s .further) new j up place whole b long (parts-right .after-form)
       (room-less new up b (p + w) e (p + w) (p + w + length (encode rest)) r (omega arith) (omega (arith, s .ends)))
       (λ y. never-both (early (partsAfter o fs ps)) y (parts-right .late))))
-  laid (choose {s = s} {names = ns} {ps = ps} {id = id} {first = p} {whole = w} {c = c} {inside = inside} {rest = rest} name way m)
+  laid (choose {s = s} {names = ns} {id = id} {first = p} {whole = w} {c = c} {inside = inside} {rest = rest} name way m)
       left q wf pre n up place whole b sized ok room given =
       let stand = standing q id p w c inside rest left wf in
       let e = q + length (encode (element id p w c inside rest)) in
       let f = p + w + length (encode rest) in
+      let (i, is, there) = way-selected s c ns name .0 way in
       subst (λ (x : ℕ). Laid pre (rows m n up place whole) x) (stand .ends)
-      (laid m left (p + w) (stand .further) pre n up place whole b sized (right-way b id (selected s c) s ns ps name ok way)
+      (laid m left (p + w) (stand .further) pre n up place whole b sized (right-way b id i s ns name ok there)
       (room-less pre up b q e (p + w) f room (omega (arith, stand .at)) (omega (arith, stand .ends)))
       (λ y. early-less pre up b place whole q e (p + w) f (given refl) (omega (arith, stand .at)) (omega (arith, stand .ends))))
 
@@ -149,7 +150,7 @@ pub only-form : {f g : Form} → OneOf f (g ∷ []) → f ≡ g
 only-form first = refl
 
 -- no parts describe no elements, which have no rows
-nothing-left : {R : ℕ → Bool} {t : Tree} (m : Matches R [] t) (n up place whole : ℕ) → (t ≡ none) × (rows m n up place whole ≡ [])
+nothing-left : {R : ℕ → Bool} {t : Tree} (m : Matches R done t) (n up place whole : ℕ) → (t ≡ none) × (rows m n up place whole ≡ [])
 unfolding rows
 nothing-left end n up place whole = (refl, refl)
 
@@ -159,7 +160,7 @@ batchForm = row kinds.batch (holding 0x30 Batch)
 
 -- the rows of the batch's element begin so
 batch-first : {R : ℕ → Bool} {inside rest : Tree} (id p w : ℕ) (c : List ℕ) (f : Form) → f ≡ batchForm → (within : Within R (f .inside) inside)
-    (m : Matches R [] rest) (left : ℕ) → WellFormed left 0 (element id p w c inside rest)
+    (m : Matches R done rest) (left : ℕ) → WellFormed left 0 (element id p w c inside rest)
     → Batched (rowsOne (f .kind) (f .item) p w (λ j u. rowsIn within j u p w) (λ j. rows m j 0 0 0) 0 0 0 0)
     (length (encode (element id p w c inside rest)))
 unfolding rowsOne container among rightIn early earlyIn content givesItem
@@ -188,7 +189,7 @@ batch-first {inside = inside} {rest = rest} id p w c f same within m left wf =
     }
 
 -- a batch's rows begin so
-batched : {R : ℕ → Bool} {t : Tree} (m : Matches R (part once (batchForm ∷ []) ∷ []) t) (left : ℕ) → WellFormed left 0 t
+batched : {R : ℕ → Bool} {t : Tree} (m : Matches R (part once (batchForm ∷ []) then done) t) (left : ℕ) → WellFormed left 0 t
     → Batched (rows m 0 0 0 0) (length (encode t))
 unfolding rows rowsOne
 batched (pass past m) left wf = absurd past

@@ -9,26 +9,25 @@ use mathlib.Core.List.{List, [], _∷_, _++_}
 use mathlib.Core.Option.{Option}
 use lib.Dec.{T, eqb}
 use lib.ListN.{length, length-append}
-use borrow.Author.Tests.{lt-ltb}
 use Rattle.der.specs.meaning.Tree.{Tree, none, element}
 use Rattle.crmf.specs.declared.explain.tally.Tally.{Tally}
 use Rattle.crmf.specs.declared.explain.Walked.the-variants.{Passed}
 use Rattle.crmf.specs.declared.grammar.judge.Onward.the-variants.{To}
 use Rattle.crmf.specs.declared.grammar.table.FoundLine.the-variants.{At, Nowhere}
-use Rattle.crmf.specs.meaning.Value.{keeps, selected}
-use Rattle.crmf.specs.meaning.Notation.{Mark, both, alone, Name, Inside, free, holds, Form, Occurs, Part, part}
+use Rattle.crmf.specs.meaning.Value.{keeps}
+use Rattle.crmf.specs.meaning.Notation.{Mark, both, alone, Name, Inside, free, holds, Form, Occurs, part, Parts, _then_}
 use Rattle.crmf.specs.meaning.Grammar.{content}
 use Rattle.crmf.specs.meaning.Language.{passable, Matches, end, pass, take, choose, Within, unseen, parts}
 use Rattle.crmf.specs.steps.grammar.Lines
 use Rattle.crmf.specs.steps.grammar.Lines.{Judge, keep, Line, start, insideLine}
-use Rattle.crmf.specs.steps.explain.Walk.{line, findLine, ways, judged, rowsOfKind, withLongId, withForm, withElement, walk}
+use Rattle.crmf.specs.steps.explain.Walk.{line, findLine, judged, rowsOfKind, withLongId, withForm, withElement, walk}
 use Rattle.crmf.specs.meaning.Rows.{Row, rowIf, parentIf, rows, rowsIn, longId}
 use Rattle.crmf.specs.steps.rows.Fill.{goes, rowsFrom}
 use Rattle.crmf.proofs.theorems.explain.Passing.{judged-kept, judged-way, kept-onward, way-onward, innerWalk, inner-free, inner-walked, passed-element, passed-none}
 use Rattle.crmf.proofs.theorems.grammar.Choices.{Choice, taking, choosing, choices, determinate-apart, only-choice}
 use Rattle.crmf.proofs.theorems.lines.LinesOfParts.{Stands, stands-start, starts-past, Shows, Finds, find-line-chooses}
 use Rattle.crmf.proofs.theorems.grammar.ChoicesMatch.{holds-true, Keeps, Begins, begins-past, matches-begin}
-use Rattle.crmf.proofs.theorems.explain.Accepts.{name-below}
+use Rattle.crmf.proofs.theorems.values.ValueRules.{way-selected}
 use Rattle.crmf.proofs.theorems.rows.Writing.{rows-given}
 
 -- The rows of an element with the kinds of its own row and of the row that it gives the element around it, and of the elements after it:
@@ -75,7 +74,7 @@ rows-found k id p w c inside rest n up place whole m e = rw (e, rowsFrom)
 judged-goes : (j : Judge) (next : ℕ) (c : List ℕ) (onward : ℕ) → judged j next c ≡ To onward → goes j next c ≡ onward
 unfolding goes
 judged-goes (keep r) next c onward e = kept-onward r next onward c e .1
-judged-goes (Lines.choose s) next c onward e = way-onward s next onward c e .1
+judged-goes (Lines.choose s) next c onward e = let (w, is, goes-on) = way-onward s next onward c e in rw (goes, is) goes-on
 
 -- the rows from a line on, if the element's line and the line after it are known
 pub rows-from-element : (k id p w : ℕ) (c : List ℕ) (inside rest : Tree) (n up place whole m onward : ℕ) → findLine k id ≡ At m
@@ -111,20 +110,20 @@ module _ (R : ℕ → Bool) where
   rowsKept (choosing id s ns) p w c inside rest k n up place whole = rows (k .further) n up place whole
 
   -- the rows of what begins as some parts choose
-  rowsBegun : (ps : List Part) (t : Tree) → Begins R ps t → (n up place whole : ℕ) → List Row
+  rowsBegun : (ps : Parts) (t : Tree) → Begins R ps t → (n up place whole : ℕ) → List Row
   rowsBegun ps none b n up place whole = []
   rowsBegun ps (element id p w c inside rest) b n up place whole =
       rowsKept (b .choice) p w c inside rest (b .keeping) n up place whole
 
   -- a part that is passed over leaves the rows as they are
-  begun-past : (o : Occurs) (fs : List Form) (ps : List Part) (t : Tree) (ok : T (passable o)) (b : Begins R ps t) (n up place whole : ℕ)
-      → rowsBegun ps t b n up place whole ≡ rowsBegun (part o fs ∷ ps) t (begins-past R o fs ps t ok b) n up place whole
+  begun-past : (o : Occurs) (fs : List Form) (ps : Parts) (t : Tree) (ok : T (passable o)) (b : Begins R ps t) (n up place whole : ℕ)
+      → rowsBegun ps t b n up place whole ≡ rowsBegun (part o fs then ps) t (begins-past R o fs ps t ok b) n up place whole
   unfolding rowsBegun begins-past
   begun-past o fs ps none ok b n up place whole = refl
   begun-past o fs ps (element id p w c inside rest) ok b n up place whole = refl
 
   -- A derivation's rows are those of how it begins.
-  rows-begun : {ps : List Part} {t : Tree} (m : Matches R ps t) (n up place whole : ℕ)
+  rows-begun : {ps : Parts} {t : Tree} (m : Matches R ps t) (n up place whole : ℕ)
       → rows m n up place whole ≡ rowsBegun ps t (matches-begin m) n up place whole
   unfolding rows rowsKept rowsBegun rowsOne matches-begin
   rows-begun end n up place whole = refl
@@ -146,7 +145,7 @@ module _ (R : ℕ → Bool) where
   rows-first : (k id p w m : ℕ) (c : List ℕ) (inside rest : Tree) (h : Choice) → findLine k id ≡ At m → Shows h (line m)
       → (kept : Keeps R h c inside rest)
       → ((a : Name) (d : Matches R (content a) inside) (n up place whole : ℕ) → rowsFrom (start a) inside n up place whole ≡ rows d n up place whole)
-      → ((j : ℕ) (ps : List Part) → Stands j ps → (d : Matches R ps rest) (n up place whole : ℕ)
+      → ((j : ℕ) (ps : Parts) → Stands j ps → (d : Matches R ps rest) (n up place whole : ℕ)
       → rowsFrom j rest n up place whole ≡ rows d n up place whole)
       → (n up place whole : ℕ) → rowsFrom k (element id p w c inside rest) n up place whole ≡ rowsKept h p w c inside rest kept n up place whole
   unfolding rowsKept
@@ -162,10 +161,9 @@ module _ (R : ℕ → Bool) where
       (λ j. further (x .next) ps (shows .onward) (kept .further) j up place whole))
   rows-first k id p w m c inside rest (choosing a t ns) found shows kept each further n up place whole =
       let x = line m in
-      let way = selected t c in
-      let below = lt-ltb way (ways t) (omega (arith, name-below ns way (kept .name) (kept .way), shows .counted)) in
+      let (way, is, there) = way-selected t c ns (kept .name) .0 (kept .way) in
       let onward : judged (x .judge) (x .next) c ≡ To (start (kept .name)) =
-      rw (shows .judging) (judged-way t (x .next) c below ∙ ap To (shows .onward way (kept .name) (kept .way))) in
+      rw (shows .judging) (judged-way t (x .next) c way is ∙ ap To (shows .onward way (kept .name) there)) in
       rows-from-element k id p w c inside rest n up place whole m (start (kept .name)) found onward
       ∙ rw (shows .kinded, shows .itemed, shows .entered)
       (rows-one-none p w (λ j u. rowsWithin 0 inside j u p w) (λ j. rowsFrom (start (kept .name)) rest j up place whole) n up place whole
@@ -173,7 +171,7 @@ module _ (R : ℕ → Bool) where
       ∙ further (start (kept .name)) (content (kept .name)) (stands-start (kept .name)) (kept .further) n up place whole
 
   -- Where the lines of some parts stand, the rows from there on are those of a derivation from the parts.
-  pub rows-stand : (t : Tree) (k : ℕ) (ps : List Part) → Stands k ps → (m : Matches R ps t) (n up place whole : ℕ)
+  pub rows-stand : (t : Tree) (k : ℕ) (ps : Parts) → Stands k ps → (m : Matches R ps t) (n up place whole : ℕ)
       → rowsFrom k t n up place whole ≡ rows m n up place whole
   unfolding rowsFrom rowsBegun
   rows-stand none k ps stands m n up place whole = sym (rows-begun m n up place whole)
@@ -216,13 +214,13 @@ parent-own kind n up e = rw (e, parentIf)
 noted-count : (m : Mark) (p : ℕ) (s : Tally) → withForm m p s .count ≡ s .count
 unfolding withForm
 noted-count both p s = refl
-noted-count (alone e d) p s = by-one (eqb e 1 && eqb (s .one .number) 0) refl
+noted-count (alone e d detail) p s = by-one (eqb e 1 && eqb (s .one .number) 0) refl
   where
-    by-two : (eqb e 1 && eqb (s .one .number) 0) ≡ false → (b : Bool) → (eqb e 2 && eqb (s .two .number) 0) ≡ b → withForm (alone e d) p s .count ≡ s .count
+    by-two : (eqb e 1 && eqb (s .one .number) 0) ≡ false → (b : Bool) → (eqb e 2 && eqb (s .two .number) 0) ≡ b → withForm (alone e d detail) p s .count ≡ s .count
     by-two f true t = rw (withForm, f) (rw t)
     by-two f false t = rw (withForm, f) (rw t)
 
-    by-one : (b : Bool) → (eqb e 1 && eqb (s .one .number) 0) ≡ b → withForm (alone e d) p s .count ≡ s .count
+    by-one : (b : Bool) → (eqb e 1 && eqb (s .one .number) 0) ≡ b → withForm (alone e d detail) p s .count ≡ s .count
     by-one true t = rw (withForm, t)
     by-one false t = by-two t (eqb e 2 && eqb (s .two .number) 0) refl
 

@@ -2,8 +2,7 @@
 use Prim.Native.Nat.{ℕ, _+_, _-_, _*_, _≤_, _<_}
 use mathlib.Core.Path.{_≡_, refl, sym, ap, ap₂, subst, _∙_}
 use mathlib.Core.Bool.{Bool, true, false}
-use mathlib.Core.List.{List, [], _∷_, _++_, append-assoc}
-use native.Mathlib.Nat.{add-assoc}
+use mathlib.Core.List.{List, [], _++_, append-assoc}
 use native.Mathlib.Omega.{arith}
 use lib.Dec.{eqb}
 use lib.ListN.{length, length-append}
@@ -21,7 +20,7 @@ use Rattle.crmf.specs.declared.rows.Spot.{Spot}
 use Rattle.crmf.specs.declared.grammar.table.FoundLine.the-variants.{At, Nowhere}
 use Rattle.crmf.specs.meaning.Notation.{order}
 use Rattle.crmf.specs.steps.grammar.Lines.{start, startsFrom}
-use Rattle.crmf.specs.steps.explain.Walk.{line, findLine, rowsOfKind as rowsGiven}
+use Rattle.crmf.specs.steps.explain.Walk.{line, findLine}
 use Rattle.crmf.specs.steps.grammar.Fitting.{FitsAt}
 use Rattle.crmf.specs.meaning.Rows.{Row, rowIf, parentIf, width}
 use Rattle.crmf.specs.steps.rows.Fill.{goes, rowsFrom, rowsAt, ownRows, rowAbove, innerRows, written, fits, rowsOfInput, filled, Wrote, Going, Shown, Inner, aroundInside}

@@ -3,7 +3,8 @@
 use Prim.Native.Nat.{ℕ, suc, _+_}
 use mathlib.Core.Bool.{Bool, true, false, _&&_}
 use mathlib.Core.List.{List, [], _∷_, _++_}
-use lib.Dec.{leb, ltb, eqb}
+use mathlib.Core.Option.{some as present, none as absent}
+use lib.Dec.{leb, eqb}
 use lib.ListN.{length, getD, drop}
 use Rattle.der.specs.meaning.Tree.{Tree, none, element}
 use Rattle.der.specs.meaning.Bounds.{longest}
@@ -16,10 +17,10 @@ use Rattle.crmf.specs.declared.grammar.judge.Onward.the-variants.{To, Br
 use Rattle.crmf.specs.declared.grammar.table.FoundLine.{FoundLine}
 use Rattle.crmf.specs.declared.grammar.table.FoundLine.the-variants.{At, Nowhere}
 use Rattle.crmf.specs.meaning.Kinds as kinds
-use Rattle.crmf.specs.meaning.Value.{Rule, always, integer, boolean, bitString, empty, zeroOrOne, true-only, utcTime, generalizedTime, some, never}
 use Rattle.crmf.specs.meaning.Value.{keeps, Selector, action, method, controlType, infoType, selected}
-use Rattle.crmf.specs.meaning.Notation.{named, Mark, both, alone, Top}
+use Rattle.crmf.specs.meaning.Notation.{named, Mark, both, alone, detailOf, Top}
 use Rattle.crmf.specs.meaning.Language.{readable, Occurrence, occurs}
+pub use Rattle.crmf.specs.meaning.Value.{ruleDetail}
 use Rattle.crmf.specs.meaning.Rows.{longId}
 use Rattle.crmf.specs.steps.grammar.Lines.{Judge, keep, choose, Pass, ends, needed, another, over, Line, endLine, lines, start}
 
@@ -51,20 +52,6 @@ closedIn (x ∷ xs) = elim (x .pass) [ ends ↦ true | needed ↦ false | anothe
 unfoldable pub closed : ℕ → Bool
 closed k = closedIn (drop k lines)
 
--- request A9's detail of a broken rule: 2 if a part is missing, 4 for control 3's list, else 3
-abbrev pub ruleDetail : Rule → ℕ
-ruleDetail always = 3
-ruleDetail integer = 3
-ruleDetail boolean = 3
-ruleDetail bitString = 3
-ruleDetail empty = 3
-ruleDetail zeroOrOne = 3
-ruleDetail true-only = 3
-ruleDetail utcTime = 3
-ruleDetail generalizedTime = 3
-ruleDetail some = 2
-ruleDetail never = 4
-
 -- how many ways a selector has
 abbrev pub ways : Selector → ℕ
 ways action = 2
@@ -75,14 +62,7 @@ ways infoType = 3
 -- what is judged after an element's inside: the line to go on with, or the detail of the rule that its value breaks
 unfoldable pub judged : Judge → ℕ → List ℕ → Onward
 judged (keep r) next c = elim (keeps r c) [ true ↦ To next | false ↦ Breaks (ruleDetail r) ]
-judged (choose s) next c =
-    let w = selected s c in
-    elim (ltb w (ways s)) [ true ↦ To (line (next + w) .next) | false ↦ Breaks 3 ]
-
--- request A9's detail of a form that may not be read: 4 for D3's location, else 1, that the element fits no part
-abbrev pub unreadDetail : Mark → ℕ
-unreadDetail both = 1
-unreadDetail (alone e d) = elim (eqb d 3) [ true ↦ 4 | false ↦ 1 ]
+judged (choose s) next c = elim (selected s c) [ present w ↦ To (line (next + w) .next) | absent ↦ Breaks 3 ]
 
 -- how many rows a kind gives: 0 for none, 1 for any other
 abbrev pub rowsOfKind : ℕ → ℕ
@@ -95,7 +75,7 @@ rowsBy x = rowsOfKind (x .item) + rowsOfKind (x .kind)
 -- the tally after an element at a place in a form with a mark: the first of each edition stays
 unfoldable pub withForm : Mark → ℕ → Tally → Tally
 withForm both p s = s
-withForm (alone e d) p s =
+withForm (alone e d detail) p s =
     elim (eqb e 1 && eqb (s .one .number) 0) [
       | true ↦ record { count = s .count; one = record { number = d; place = p }; two = s .two; long = s .long }
       | false ↦ elim (eqb e 2 && eqb (s .two .number) 0) [
@@ -131,7 +111,7 @@ walk R s k around (element id first whole c inside rest) =
           let x = line n in
           let m = withElement x first whole s in
           elim (readable R (x .mark)) [
-            | false ↦ Broken first (unreadDetail (x .mark)) s
+            | false ↦ Broken first (detailOf (x .mark)) s
             | true ↦
                 let within : Walked = elim (eqb (x .inside) 0) [ true ↦ Passed m | false ↦ walk R m (x .inside) first inside ] in
                 elim within [

@@ -5,7 +5,7 @@ use mathlib.Core.List.{List, [], _∷_, _++_, map}
 use lib.ListN.{length, getD}
 use Rattle.crmf.specs.meaning.Kinds as kinds
 use Rattle.crmf.specs.meaning.Value.{Rule, always, Selector}
-use Rattle.crmf.specs.meaning.Notation.{Identifiers, octet, nothing, Mark, both, Name, Inside, free, holds, Form, Occurs, once, optional, repeated, Part, part, select}
+use Rattle.crmf.specs.meaning.Notation.{Identifiers, octet, nothing, Mark, both, Name, Inside, free, holds, Form, Occurs, once, optional, repeated, Part, part, Parts, done, _then_, select}
 use Rattle.crmf.specs.meaning.Notation.{order, names}
 use Rattle.crmf.specs.meaning.Grammar.{content}
 
@@ -19,7 +19,8 @@ pub data Judge : Type 0 where
 pub data Pass : Type 0 where
   ends needed another over : Pass
 
--- A line: an element's form, the line at which its inside starts (0: it is free), and the line to go on with after it.
+-- A line: an element's form, the line at which its inside starts (0: it is free), and the line to go on with after it (0: the container has no
+-- further part).
 pub record Line : Type 0 where
   pub identifiers : Identifiers
   pub inside : ℕ
@@ -34,14 +35,14 @@ pub record Line : Type 0 where
 abbrev pub endLine : Line
 endLine = record { identifiers = nothing; inside = 0; judge = keep always; kind = kinds.none; item = kinds.none; mark = both; next = 0; pass = ends }
 
--- how many lines a part takes, and a container
+-- how many lines a part takes, and a container with the line at its end
 unfoldable pub partSize : Part → ℕ
 partSize (part o fs) = length fs
-partSize (select id s ns) = suc (length ns)
 
-unfoldable pub size : List Part → ℕ
-size [] = 1
-size (p ∷ ps) = partSize p + size ps
+unfoldable pub size : Parts → ℕ
+size done = 1
+size (p then ps) = partSize p + size ps
+size (select id s ns) = suc (length ns) + 1
 
 -- the starts of some containers, which come one after the other from a line on
 unfoldable pub startsFrom : ℕ → List Name → List ℕ
@@ -71,26 +72,33 @@ formLines o next (f ∷ fs) =
     record { identifiers = f .identifiers; inside = insideLine (f .inside); judge = keep (f .rule); kind = f .kind; item = f .item; mark = f .mark; next = next; pass = passOf o fs }
     ∷ formLines o next fs
 
--- the line to go on with after an element of a part that has `size` lines from a line on: the part's own, or that of the part after it
-unfoldable pub nextLine : Occurs → ℕ → ℕ → ℕ
-nextLine once at size = at + size
-nextLine optional at size = at + size
-nextLine repeated at size = at
+-- the line of some parts that stand from a line on; if there are none, it is 0, an end line like the container's own
+abbrev pub lineOf : ℕ → Parts → ℕ
+lineOf at done = 0
+lineOf at (p then ps) = at
+lineOf at (select id s ns) = at
+
+-- the line to go on with after an element of a part: that of the parts after it, or the part's own
+unfoldable pub nextLine : Occurs → (own after : ℕ) → ℕ
+nextLine once own after = after
+nextLine optional own after = after
+nextLine repeated own after = own
 
 -- the line of one of the ways that a value selects: it only says where to go on
 unfoldable pub wayLine : Name → Line
 wayLine n = record { identifiers = nothing; inside = 0; judge = keep always; kind = kinds.none; item = kinds.none; mark = both; next = start n; pass = needed }
 
--- a part's lines, from a line on
-unfoldable pub partLines : ℕ → Part → List Line
-partLines at (part o fs) = formLines o (nextLine o at (length fs)) fs
-partLines at (select id s ns) =
-    record { identifiers = octet id; inside = 0; judge = choose s; kind = kinds.none; item = kinds.none; mark = both; next = suc at; pass = needed } ∷ map wayLine ns
+-- a part's lines, from a line on; the parts after it have the line `after`
+unfoldable pub partLines : (at after : ℕ) → Part → List Line
+partLines at after (part o fs) = formLines o (nextLine o at after) fs
 
 -- a container's lines, from a line on
-unfoldable pub containerLines : ℕ → List Part → List Line
-containerLines at [] = endLine ∷ []
-containerLines at (p ∷ ps) = partLines at p ++ containerLines (at + partSize p) ps
+unfoldable pub containerLines : ℕ → Parts → List Line
+containerLines at done = endLine ∷ []
+containerLines at (p then ps) = partLines at (lineOf (at + partSize p) ps) p ++ containerLines (at + partSize p) ps
+containerLines at (select id s ns) =
+    (record { identifiers = octet id; inside = 0; judge = choose s; kind = kinds.none; item = kinds.none; mark = both; next = suc at; pass = needed } ∷ map wayLine ns)
+    ++ (endLine ∷ [])
 
 -- the lines of some containers, from a line on
 unfoldable pub linesFrom : ℕ → List Name → List Line

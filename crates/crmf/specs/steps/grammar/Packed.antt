@@ -44,7 +44,7 @@ judgeCode (choose infoType) = 19
 -- the edition that alone allows the form, and the difference's number; 0 if both editions allow it
 unfoldable pub markCode : Mark → ℕ
 markCode both = 0
-markCode (alone e d) = e * codes.edition + d
+markCode (alone e d detail) = e * codes.edition + d
 
 -- the number beside the first entry i in a list of pairs; `other` if there is none
 unfoldable pub beside : List (ℕ × ℕ) → ℕ → ℕ → ℕ

@@ -2,6 +2,7 @@
 use Prim.Native.Nat.{ℕ, _+_, _-_, _*_, _≤_, _<_}
 use mathlib.Core.Bool.{Bool, true, false}
 use mathlib.Core.List.{List, [], _∷_, _++_}
+use mathlib.Core.Option.{Option·getD}
 use lib.Dec.{eqb, leb}
 use lib.Seq.{slice}
 use lib.ListN.{length, take}
@@ -21,13 +22,14 @@ use Rattle.crmf.specs.meaning.Value.{selected}
 use Rattle.crmf.specs.meaning.Notation.{among, Top, Time, AlgId, Spki, OneName, Extension}
 use Rattle.crmf.specs.steps.grammar.Lines.{Judge, keep, choose, Line, start}
 use Rattle.crmf.specs.steps.grammar.Packed.{packed}
-use Rattle.crmf.specs.steps.explain.Walk.{line, findLine, rowsOfKind as rowsGiven}
+use Rattle.crmf.specs.steps.explain.Walk.{line, findLine, ways, rowsOfKind as rowsGiven}
 use Rattle.crmf.specs.meaning.Rows.{Row, rowIf, parentIf, width, numbers}
 
--- the line to go on with after an element whose value is known to keep its rule
+-- the line to go on with after an element whose value is known to keep its rule; as in the code, a value that selects no way would take the
+-- line after those of the ways
 unfoldable pub goes : Judge → ℕ → List ℕ → ℕ
 goes (keep r) next c = next
-goes (choose s) next c = line (next + selected s c) .next
+goes (choose s) next c = line (next + Option·getD (selected s c) (ways s)) .next
 
 -- the rows from a line on, as `rows` has them from the parts
 unfoldable pub rowsFrom : ℕ → Tree → (n up place whole : ℕ) → List Row

@@ -1,10 +1,9 @@
 -- `crmf::explain::tally::with_element` meets its contract: the word's fields are the line's, and the form, the certReqId and the rows are tallied one after another. Assumes nothing.
-use Prim.Native.Nat.{ℕ, _+_, _-_, _≤_}
+use Prim.Native.Nat.{ℕ, _-_}
 use borrow.Author.Needs.{needs}
-use mathlib.Core.Path.{_≡_, sym, ap, _∙_}
+use mathlib.Core.Path.{sym, ap, _∙_}
 use native.Mathlib.Omega.{arith}
-use lib.ListN.{getD}
-use Rattle.crmf.specs.steps.grammar.Packed.{packed, markCode, kindField, itemField, markField}
+use Rattle.crmf.specs.steps.grammar.Packed.{kindField, itemField, markField}
 use Rattle.crmf.specs.steps.explain.Walk.{line, withLongId, rowsOfKind}
 use Rattle.crmf.proofs.theorems.lines.WordFields.{kind-at, item-at, mark-at}
 use Rattle.crmf.proofs.theorems.explain.Meeting.{met-with}

@@ -1,24 +1,21 @@
 -- `crmf::grammar::value::days_in` meets its contract: a number above 12 is no month, and the table has one day less than February has in a leap
 -- year. Assumes nothing.
-use mathlib.Core.Bool.{and-false}
-use mathlib.Core.Path.{_≡_, sym}
-use native.Mathlib.Nat.{add-zero}
+use mathlib.Core.Bool.{and-true}
+use mathlib.Core.Path.{sym, _∙_}
 use native.Mathlib.Omega.{arith}
 use borrow.Author.Needs.{needs}
-use borrow.Author.Tests.{eqb-true, ne-eqb}
+use borrow.Author.Tests.{eqb-true, eq-eqb}
 use lib.Dec.{eqb}
 use lib.ListN.{List·getD-eq-default}
-use Rattle.crmf.specs.meaning.Value.{leap, monthDays, daysIn}
 use Rattle.crmf.proofs.theorems.values.ValueRules.{both}
+use Rattle.crmf.proofs.theorems.values.Moments.{monthTable, days-tabled, days-leap}
 use Rattle.crmf.proofs.grammar.value.days_in.Statement.{statement}
 use Rattle.crmf.proofs.grammar.value.days_in.Tie as tie
 
 returns : tie.Need-returns
-unfolding daysIn
 returns c =
     let a = c .before .args in
-    let h : a .month ≡ 2 → ⊥ = omega arith in
-    rw (daysIn, List·getD-eq-default monthDays 0 (c .if1 .taken), ne-eqb (a .month) 2 h, and-false (leap (a .year)))
+    sym (List·getD-eq-default monthTable 0 (c .if1 .taken)) ∙ days-tabled (a .year) (a .month) (λ two. absurd (omega arith))
 
 mul-days : tie.Need-mul-days
 mul-days c = search needs
@@ -35,12 +32,17 @@ add-result c =
     rw (eqb-true month 2 (both (c .before .leap .result) (eqb month 2) (c .if2 .taken) .1)) (search needs)
 
 returns-2 : tie.Need-returns-2
-unfolding daysIn
-returns-2 c = rw (daysIn, sym (c .before .leap .ensures), c .if2 .taken)
+returns-2 c =
+    let a = c .before .before .before .args in
+    let leaps = c .before .leap in
+    let two = both (leaps .result) (eqb (a .month) 2) (c .if2 .taken) in
+    rw (eqb-true (a .month) 2 (two .1), days-leap (a .year) (sym (leaps .ensures) ∙ two .0))
 
 returns-3 : tie.Need-returns-3
-unfolding daysIn
-returns-3 c = rw (daysIn, sym (c .before .leap .ensures), c .if2 .left) (sym (add-zero _))
+returns-3 c =
+    let a = c .before .before .before .args in
+    let leaps = c .before .leap in
+    days-tabled (a .year) (a .month) (λ two. sym (leaps .ensures) ∙ rw (eq-eqb (a .month) 2 two, and-true (leaps .result)) at (c .if2 .left))
 
 pub days-in-spec : {M : Type 1} → statement M
 days-in-spec =

@@ -1,17 +1,19 @@
 -- `crmf::grammar::value::is_generalized_time` meets its contract: 15 octets are judged as the definition does, and any other length is refused. Assumes nothing.
-use Prim.Native.Nat.{_≤_}
-use mathlib.Core.Path.{sym}
+use Prim.Native.Nat.{_+_, _*_, _≤_}
+use mathlib.Core.Bool.{and-assoc}
+use mathlib.Core.Option.{Option·getD, bind}
 use borrow.Author.Needs.{needs}
 use borrow.Author.Tests.{eq-eqb, ne-eqb}
 use native.Mathlib.Omega.{arith}
-use Rattle.crmf.specs.meaning.Value.{isGeneralizedTime}
-use Rattle.crmf.proofs.theorems.values.ValueRules.{pair-bound}
+use Rattle.crmf.specs.meaning.Value.{pairAt, momentAt, generalizedMoment, isTime}
+use Rattle.crmf.proofs.theorems.values.ValueRules.{pair-most, pair-bound}
+use Rattle.crmf.proofs.theorems.values.Moments.{part-tested}
 use Rattle.crmf.proofs.grammar.value.is_generalized_time.Statement.{statement}
 use Rattle.crmf.proofs.grammar.value.is_generalized_time.Tie as tie
 
 returns : tie.Need-returns
-unfolding isGeneralizedTime
-returns c = rw (isGeneralizedTime, ne-eqb _ _ (c .if1 .taken))
+unfolding generalizedMoment isTime
+returns c = rw (generalizedMoment, ne-eqb _ _ (c .if1 .taken))
 
 pair-at-requires : tie.Need-pair-at-requires
 pair-at-requires c κs = search needs
@@ -32,16 +34,14 @@ is-moment-requires : tie.Need-is-moment-requires
 is-moment-requires c κs = search needs
 
 returns-2 : tie.Need-returns-2
-unfolding isGeneralizedTime
+unfolding generalizedMoment
 returns-2 c =
     let b = c .before .before in
-    rw (
-      isGeneralizedTime,
-      eq-eqb _ _ (b .before .if1 .left),
-      sym (b .pair-at .ensures),
-      sym (c .before .pair-at2 .ensures),
-      sym (c .is-moment .ensures),
-    )
+    let s = b .before .before .before .args .content .now in
+    let hundreds = Option·getD (pairAt s 0) 100 in
+    rw (generalizedMoment, eq-eqb _ _ (b .before .if1 .left), c .is-moment .ensures, c .before .pair-at2 .ensures, b .pair-at .ensures, and-assoc)
+    (rw (part-tested (pairAt s 2) (pair-most s 2) (λ rest. momentAt (hundreds * 100 + rest) s 4))
+    (part-tested (pairAt s 0) (pair-most s 0) (λ h. bind (pairAt s 2) (λ rest. momentAt (h * 100 + rest) s 4))))
 
 pub is-generalized-time-spec : {M : Type 1} → statement M
 is-generalized-time-spec =

@@ -1,6 +1,10 @@
 -- `crmf::grammar::value::is_moment` meets its contract: the numbers that it reads are the definition's, and so are its tests. Assumes nothing.
+use Prim.Native.Nat.{_+_}
 use borrow.Author.Needs.{needs}
-use Rattle.crmf.specs.meaning.Value.{isMoment}
+use lib.Dec.{eqb}
+use lib.ListN.{getD}
+use Rattle.crmf.specs.meaning.Value.{pairAt, momentAt}
+use Rattle.crmf.proofs.theorems.values.Moments.{moment-tested}
 use Rattle.crmf.proofs.grammar.value.is_moment.Statement.{statement}
 use Rattle.crmf.proofs.grammar.value.is_moment.Tie as tie
 
@@ -41,10 +45,13 @@ shared-slice-read-result : tie.Need-shared-slice-read-result
 shared-slice-read-result c = search needs
 
 returns : tie.Need-returns
-unfolding isMoment
+unfolding momentAt
 returns c =
     let b = c .before .before .before in
-    simp (
+    let a = b .before .before .before .before .before .args in
+    let s = a .content .now in
+    let i = a .i in
+    rw (
       c .before .pair-at5 .ensures,
       c .before .before .pair-at4 .ensures,
       b .pair-at3 .ensures,
@@ -52,6 +59,7 @@ returns c =
       b .before .before .pair-at2 .ensures,
       b .before .before .before .pair-at .ensures,
     )
+    (moment-tested (a .year) (eqb (getD s (i + 10) 0) 0x5A) (pairAt s i) (pairAt s (i + 2)) (pairAt s (i + 4)) (pairAt s (i + 6)) (pairAt s (i + 8)))
 
 pub is-moment-spec : {M : Type 1} → statement M
 is-moment-spec =

@@ -1,9 +1,10 @@
 -- `crmf::grammar::value::type_number` meets its contract: nine octets are compared as the definition does, and any other length is refused.
 -- Assumes nothing.
+use mathlib.Core.Bool.{true, false}
 use borrow.Author.Needs.{needs}
 use native.Mathlib.Omega.{arith}
 use Rattle.crmf.specs.meaning.Value.{typeNumber}
-use Rattle.crmf.proofs.theorems.values.ValueRules.{other-length, same-type}
+use Rattle.crmf.proofs.theorems.values.ValueRules.{type-coded, other-length}
 use Rattle.crmf.proofs.grammar.value.type_number.Statement.{statement}
 use Rattle.crmf.proofs.grammar.value.type_number.Tie as tie
 
@@ -42,16 +43,16 @@ cast-result : tie.Need-cast-result
 cast-result c = omega (arith, c .before .shared-slice-known9 .given 8)
 
 returns-2 : tie.Need-returns-2
-unfolding typeNumber
 returns-2 c =
     let b = c .before .before .before .before .before .before .before .before .before .before in
-    rw (typeNumber, same-type (b .before .args .content .now) (b .if1 .left) (b .before .args .arc), c .if2 .taken)
+    let a = b .before .args in
+    type-coded (a .content .now) (b .if1 .left) (a .arc) (a .most) true (c .if2 .taken)
 
 returns-3 : tie.Need-returns-3
-unfolding typeNumber
 returns-3 c =
     let b = c .before .before .before .before .before .before .before .before .before .before in
-    rw (typeNumber, same-type (b .before .args .content .now) (b .if1 .left) (b .before .args .arc), c .if2 .left)
+    let a = b .before .args in
+    type-coded (a .content .now) (b .if1 .left) (a .arc) (a .most) false (c .if2 .left)
 
 pub type-number-spec : {M : Type 1} → statement M
 type-number-spec =

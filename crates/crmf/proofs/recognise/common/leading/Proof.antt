@@ -1,7 +1,7 @@
 -- `crmf::recognise::common::leading` meets its contract: a span that it answers is the measured one, and the identifier was compared. Assumes nothing.
 use Prim.Native.Nat.{_+_, _≤_}
 use borrow.Author.Needs.{needs}
-use mathlib.Core.Path.{refl, sym, ap, _∙_}
+use mathlib.Core.Path.{refl, ap, _∙_}
 use lib.ListN.{length}
 use Rattle.der.proofs.Laws.{span-fits}
 use Rattle.der.specs.declared.element.length.Span.{Span}

@@ -1,5 +1,4 @@
 -- `crmf::recognise::common::type_and_value` meets its contract: an OBJECT IDENTIFIER, and a primitive element after it or nothing. Assumes nothing.
-use native.Mathlib.Omega.{arith}
 use borrow.Author.Needs.{needs}
 use borrow.Author.Tests.{not-true, not-false}
 use mathlib.Core.Bool.{false≢true}
