@@ -1,10 +1,15 @@
 -- The theorems and laws about the definitions.
+pub mod Accepting
 pub mod Answers
-pub mod Demand2
-pub mod Demand3
+pub mod AnswersExactly
+pub mod Demands
+pub mod Differing
+pub mod OctetVectors
 pub mod OneElement
 pub mod OneWalk
 pub mod PaperVectors
+pub mod ReadsExactly
 pub mod RecognisedAnswer
 pub mod RefusalNumbers
+pub mod RefusalVectors
 pub mod Tables

@@ -1,2 +1,3 @@
--- Document 01's batches.
+-- Document 01's batches, and refusals worked out from it.
 pub mod Paper
+pub mod Refusals

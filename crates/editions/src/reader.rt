@@ -22,7 +22,9 @@ ghost use lib.Dec.{eqb};
 ghost use lib.ListN.{length};
 ghost use Rattle.der.specs.meaning.Bounds.{longest};
 ghost use Rattle.editions.specs.meaning.Edition.{rfc2511, rfc4211};
-ghost use Rattle.editions.specs.meaning.Reading.{refusal, accepted, batchAnswer, answer, readAnswer, tableAfter};
+ghost use Rattle.editions.specs.meaning.Answers.{Answers};
+ghost use Rattle.editions.specs.meaning.Reads.{Reads};
+ghost use Rattle.editions.specs.steps.Reading.{refusal, accepted, batchAnswer, answer};
 ghost use Rattle.editions.specs.steps.OneWalk.{formOf, stopNumber, passedAnswer, brokenAnswer, shownAnswer};
 
 // What a call answers: document 01's number (`der::refusal`), the place, and the count of rows. C gets it in this layout.
@@ -36,8 +38,7 @@ pub struct Answer {
 // Reads a batch in an edition and answers the count of its rows, with the rows in the table; or answers the refusal, and leaves the table as
 // it was.
 pub fn read(edition: usize, bytes: &[u8], table: &mut [usize]) -> Answer
-    ensures { λ r. ⌜ (r ≡ readAnswer edition (now (bytes .entry)) (now (table .entry)))
-        × (now (table .exit) ≡ tableAfter edition (now (bytes .entry)) (now (table .entry))) ⌝ }
+    ensures { λ r. ⌜ Reads edition (now (bytes .entry)) (now (table .entry)) (r .number) (r .place) (r .count) (now (table .exit)) ⌝ }
 {
     if is_unknown(edition) {
         return refuse(UNKNOWN_EDITION, 0);
@@ -60,7 +61,7 @@ fn shown(count: usize, room: usize) -> Answer
 
 // Judges a batch in an edition without a table. The answer is that of `read`, except that it is never NO_ROOM.
 pub fn accept(edition: usize, bytes: &[u8]) -> Answer
-    ensures { λ r. ⌜ r ≡ answer edition (now (bytes .entry)) ⌝ }
+    ensures { λ r. ⌜ Answers edition (now (bytes .entry)) (r .number) (r .place) (r .count) ⌝ }
 {
     if is_unknown(edition) {
         return refuse(UNKNOWN_EDITION, 0);

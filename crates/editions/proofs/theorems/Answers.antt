@@ -14,7 +14,7 @@ use Rattle.der.specs.steps.Explain.{walkAt}
 use Rattle.crmf.specs.declared.explain.tally.Tally.{Tally}
 use Rattle.editions.specs.declared.reader.Answer.{Answer}
 use Rattle.editions.specs.meaning.Edition.{opposite}
-use Rattle.editions.specs.meaning.Reading.{refusal, accepted, batchAnswer, answer}
+use Rattle.editions.specs.steps.Reading.{refusal, accepted, batchAnswer, answer}
 use Rattle.editions.specs.steps.OneWalk.{formOf, stopNumber, passedAnswer, brokenAnswer}
 
 -- the first form of edition 1 alone that was met, or of edition 2 alone

@@ -15,7 +15,7 @@ use Rattle.der.specs.steps.Explain.{walkAt}
 use Rattle.der.proofs.Laws.{fault-number}
 use Rattle.crmf.proofs.Laws.{Edition}
 use Rattle.editions.specs.declared.reader.Answer.{Answer}
-use Rattle.editions.specs.meaning.Reading.{batchAnswer, answer}
+use Rattle.editions.specs.steps.Reading.{batchAnswer, answer}
 use Rattle.editions.proofs.theorems.Answers.{no-edition, in-range, too-long, nest-fault, bytes-after, one-element}
 use Rattle.editions.proofs.theorems.OneWalk.{edition}
 

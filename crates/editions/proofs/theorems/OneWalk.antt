@@ -18,11 +18,11 @@ use Rattle.crmf.specs.meaning.Notation.{Top}
 use Rattle.crmf.specs.steps.grammar.Lines.{start}
 use Rattle.crmf.specs.steps.explain.Walk.{walk, every, emptyTally, countOf}
 use Rattle.crmf.specs.steps.explain.Walk as lines
-use Rattle.crmf.specs.meaning.Rows.{firstLong}
+use Rattle.crmf.specs.steps.explain.LongIds.{firstLong}
 use Rattle.crmf.specs.steps.rows.Fill.{rowsOfInput}
 use Rattle.crmf.proofs.Laws.{Edition, first-edition, second-edition, isPassed, foreign, own-alike, own-stops, own-passes, walk-passes, seenOf, count-whole, whole-count, whole-long, none-met}
 use Rattle.editions.specs.meaning.Edition.{opposite}
-use Rattle.editions.specs.meaning.Reading.{refusal, ownWalk, walkPasses, eightOrNine, longIdOrAccepted, batchAnswer}
+use Rattle.editions.specs.steps.Reading.{refusal, ownWalk, walkPasses, eightOrNine, longIdOrAccepted, batchAnswer}
 use Rattle.editions.specs.steps.OneWalk.{formOf, stopNumber, passedAnswer, brokenAnswer}
 
 -- a number from 1 to 2 is an edition
@@ -79,9 +79,9 @@ module _ {e : ℕ} (ed : Edition e) (s : List ℕ) (short : length s ≤ longest
   own-stop : eqb (formOf (opposite e) (seenOf w) .0) 0 ≡ false
       → (d : ℕ) × ((r : Tally) × (ownWalk e t ≡ Broken (formOf (opposite e) (seenOf w) .1) d r))
   own-stop some =
-      let (r, stops) =
+      let (o, first, met, (r, stops)) =
       own-stops ed emptyTally (start Top) 0 t (none-met ed) (λ z. eqb-false _ _ some (sym (ap (λ (v : Walked). foreign e v .0) walked) ∙ z)) in
-      subst (λ (v : Walked). (d : ℕ) × ((r : Tally) × (ownWalk e t ≡ Broken (foreign e v .1) d r))) walked (_, (r, stops))
+      subst (λ (v : Walked). (d : ℕ) × ((r : Tally) × (ownWalk e t ≡ Broken (foreign e v .1) d r))) walked (o .detail, (r, stops))
 
   -- the opposite edition's walk passes if the walk that reads every form does and has met no form of this edition alone
   opposite-passes : walkPasses (ownWalk (opposite e) t) ≡ (isPassed w && eqb (formOf e (seenOf w) .0) 0)

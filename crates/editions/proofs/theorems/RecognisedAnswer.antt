@@ -19,10 +19,10 @@ use Rattle.crmf.specs.steps.rows.Fill.{fits}
 use Rattle.crmf.specs.steps.recognise.Count.{recognised, recognisedTable}
 use Rattle.crmf.proofs.Laws.{not-recognised, recognised-walk, walk-recognised, recognised-fills, fits-room}
 use Rattle.editions.specs.declared.reader.Answer.{Answer}
-use Rattle.editions.specs.meaning.Reading.{refusal, accepted, answer, readAnswer, tableAfter}
+use Rattle.editions.specs.steps.Reading.{refusal, accepted, answer, readAnswer, tableAfter}
 use Rattle.editions.specs.steps.OneWalk.{shownAnswer}
 use Rattle.editions.proofs.theorems.Answers.{no-edition, in-range, passed-accepted, one-element}
-use Rattle.editions.proofs.theorems.Demand2.{batch-inverse}
+use Rattle.editions.proofs.theorems.Accepting.{batch-inverse}
 use Rattle.editions.proofs.theorems.OneElement.{late-accepted, one-whole}
 use Rattle.editions.proofs.theorems.OneWalk.{edition, batch-passed}
 use Rattle.editions.proofs.theorems.Tables.{read-refused, read-short, read-accepted}

@@ -17,11 +17,11 @@ use Rattle.der.specs.steps.Reading.{tree}
 use Rattle.der.proofs.Laws.{fault-number}
 use Rattle.crmf.specs.declared.explain.Walked.{Walked}
 use Rattle.crmf.specs.declared.explain.Walked.the-variants.{Passed, Broken}
-use Rattle.crmf.specs.meaning.Rows.{firstLong}
+use Rattle.crmf.specs.steps.explain.LongIds.{firstLong}
 use Rattle.crmf.specs.steps.rows.Fill.{rowsOfInput}
 use Rattle.editions.specs.declared.reader.Answer.{Answer}
 use Rattle.editions.specs.meaning.Edition.{opposite}
-use Rattle.editions.specs.meaning.Reading.{refusal, accepted, ownWalk, walkPasses, eightOrNine, stopped, longIdOrAccepted, batchAnswer, answer}
+use Rattle.editions.specs.steps.Reading.{refusal, accepted, ownWalk, walkPasses, eightOrNine, stopped, longIdOrAccepted, batchAnswer, answer}
 
 module _ (e : ℕ) (s : List ℕ) where
   stopped-number : (b : Bool) → eightOrNine b ≤ unknownEdition

@@ -12,13 +12,14 @@ use Rattle.der.specs.meaning.Octets.{Octets}
 use Rattle.der.specs.steps.Reading.{tree}
 use Rattle.crmf.specs.declared.explain.Walked.{Walked}
 use Rattle.crmf.specs.declared.explain.Walked.the-variants.{Passed, Broken}
-use Rattle.crmf.specs.meaning.Rows.{numbers, firstLong}
+use Rattle.crmf.specs.meaning.Rows.{numbers}
+use Rattle.crmf.specs.steps.explain.LongIds.{firstLong}
 use Rattle.crmf.specs.steps.rows.Fill.{fits, rowsOfInput, filled}
 use Rattle.crmf.specs.meaning.Lists.{over}
 use Rattle.crmf.proofs.Laws.{filled-whole, filled-short}
 use Rattle.editions.specs.declared.reader.Answer.{Answer}
 use Rattle.editions.specs.meaning.Edition.{opposite}
-use Rattle.editions.specs.meaning.Reading.{refusal, accepted, ownWalk, walkPasses, eightOrNine, longIdOrAccepted, batchAnswer, answer, readAnswer, tableAfter}
+use Rattle.editions.specs.steps.Reading.{refusal, accepted, ownWalk, walkPasses, eightOrNine, longIdOrAccepted, batchAnswer, answer, readAnswer, tableAfter}
 use Rattle.editions.proofs.theorems.OneElement.{late-accepted, one-whole}
 
 -- if an answer's number is 0, its count is the number of rows

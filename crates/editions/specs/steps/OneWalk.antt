@@ -7,7 +7,7 @@ use Rattle.crmf.specs.declared.explain.tally.Tally.{Tally}
 use Rattle.crmf.specs.meaning.Rows.{width}
 use Rattle.editions.specs.declared.reader.Answer.{Answer}
 use Rattle.editions.specs.meaning.Edition.{rfc2511, opposite}
-use Rattle.editions.specs.meaning.Reading.{refusal, accepted, eightOrNine, longIdOrAccepted}
+use Rattle.editions.specs.steps.Reading.{refusal, accepted, eightOrNine, longIdOrAccepted}
 
 -- the first form of an edition alone that was met: its difference's number, 0 if there is none, and its place
 abbrev pub formOf : ℕ → Tally → ℕ × ℕ

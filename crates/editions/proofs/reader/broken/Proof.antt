@@ -1,6 +1,5 @@
 -- `editions::reader::broken` meets its contract: a form of the opposite edition before the break, or none. Assumes nothing.
 use borrow.Author.Needs.{needs}
-use native.Mathlib.Omega.{arith}
 use mathlib.Core.Path.{_∙_}
 use Rattle.editions.proofs.theorems.Answers.{broken-before, broken-there}
 use Rattle.editions.proofs.reader.broken.Statement.{statement}

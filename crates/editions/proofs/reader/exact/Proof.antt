@@ -1,6 +1,9 @@
 -- `editions::reader::exact` meets its contract: the refusals in document 01's order. Assumes nothing.
 use borrow.Author.Needs.{needs}
-use mathlib.Core.Path.{sym, _∙_}
+use mathlib.Core.Path.{_≡_, sym, _∙_}
+use lib.ListN.{length}
+use Rattle.der.specs.steps.Explain.{walkAt}
+use Rattle.der.proofs.Laws.{octets-each, explained-walk}
 use Rattle.editions.proofs.theorems.Answers.{an-edition, too-long, nest-fault, bytes-after, one-element}
 use Rattle.editions.proofs.reader.exact.Statement.{statement}
 use Rattle.editions.proofs.reader.exact.Tie as tie
@@ -15,6 +18,13 @@ returns c =
 
 explain-requires : tie.Need-explain-requires
 explain-requires c κs = search needs
+
+-- the walk over the nest answers what was explained
+walks : (walked : tie.After-explain) → let a = walked .before .before .before .args in walkAt (a .bytes .now) 0 (length (a .bytes .now)) ≡ walked .explain .result
+walks walked =
+    let start = walked .before .before .before in
+    let a = start .args in
+    sym (explained-walk (a .bytes .now) (octets-each (a .bytes .now) (λ i. walked .before .before .shared-slice-known .given i .fits)) 0 (length (a .bytes .now)) _ (walked .explain .ensures))
 
 enum-known-number : tie.Need-enum-known-number
 enum-known-number c = search needs
@@ -35,7 +45,7 @@ returns-2 c =
     let a = start .args in
     c .refuse3 .ensures
     ∙ bytes-after (a .edition) (a .bytes .now) (an-edition _ (start .pre)) (walked .before .if1 .left) _
-    (sym (walked .explain .ensures) ∙ c .before .before .before .end .given .1) (c .before .if2 .taken)
+    (walks walked ∙ c .before .before .before .end .given .1) (c .before .if2 .taken)
 
 batch-requires : tie.Need-batch-requires
 batch-requires c κs =
@@ -50,7 +60,7 @@ returns-3 c =
     let a = start .args in
     c .refuse2 .ensures
     ∙ nest-fault (a .edition) (a .bytes .now) (an-edition _ (start .pre)) (walked .before .if1 .left) _ _ _
-    (sym (walked .explain .ensures) ∙ c .before .before .number .given .1)
+    (walks walked ∙ c .before .before .number .given .1)
 
 returns-4 : tie.Need-returns-4
 returns-4 c =
@@ -59,7 +69,7 @@ returns-4 c =
     let a = start .args in
     c .batch .ensures
     ∙ one-element (a .edition) (a .bytes .now) (an-edition _ (start .pre)) (walked .before .if1 .left) _
-    (sym (walked .explain .ensures) ∙ c .before .before .before .end .given .1) (c .before .if2 .left)
+    (walks walked ∙ c .before .before .before .end .given .1) (c .before .if2 .left)
 
 pub exact-spec : {M : Type 1} → statement M
 exact-spec =

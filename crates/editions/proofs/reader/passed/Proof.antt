@@ -2,7 +2,7 @@
 use Prim.Native.Nat.{ℕ}
 use borrow.Author.Needs.{needs}
 use mathlib.Core.Path.{ap, _∙_}
-use Rattle.editions.specs.meaning.Reading.{refusal}
+use Rattle.editions.specs.steps.Reading.{refusal}
 use Rattle.editions.proofs.theorems.Answers.{passed-foreign, passed-long, passed-accepted}
 use Rattle.editions.proofs.reader.passed.Statement.{statement}
 use Rattle.editions.proofs.reader.passed.Tie as tie

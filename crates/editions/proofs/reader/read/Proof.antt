@@ -2,14 +2,13 @@
 -- is that without a table. Assumes nothing.
 use borrow.Author.Needs.{needs}
 use mathlib.Core.Path.{sym, ap, _∙_}
-use Rattle.der.specs.meaning.Octets.{Octets}
-use Prim.Native.Nat.{_-_}
 use Rattle.der.proofs.Laws.{octets-each}
 use Rattle.crmf.proofs.Laws.{unrecognised-stays}
 use Rattle.editions.specs.declared.reader.Answer.{Answer}
 use Rattle.editions.specs.steps.OneWalk.{shownAnswer}
 use Rattle.editions.proofs.theorems.Answers.{in-range}
 use Rattle.editions.proofs.theorems.Tables.{read-refused}
+use Rattle.editions.proofs.theorems.ReadsExactly.{equal-reading}
 use Rattle.editions.proofs.theorems.RecognisedAnswer.{unrecognised-refused, recognised-shown, refused-thirteen}
 use Rattle.editions.proofs.reader.read.Statement.{statement}
 use Rattle.editions.proofs.reader.read.Tie as tie
@@ -25,7 +24,8 @@ returns c =
     let tested = c .before .before in
     let a = tested .before .before .before .args in
     let (answered, after) = refused-thirteen (a .edition) (a .bytes .now) (a .table .now) (sym (tested .is-unknown .ensures) ∙ c .before .if1 .taken) in
-    (c .refuse .ensures ∙ answered, after)
+    let octets = octets-each (a .bytes .now) (λ i. tested .before .before .shared-slice-known .given i .fits) in
+    equal-reading (a .edition) (a .bytes .now) (a .table .now) octets _ _ (c .refuse .ensures ∙ answered, after)
 
 read-requires : tie.Need-read-requires
 read-requires c κs = search needs
@@ -55,9 +55,11 @@ returns-2 c =
     let tested = r .before .before .before in
     let a = tested .before .before .before .args in
     let counted = c .before .before .count .given in
+    let octets = octets-each (a .bytes .now) (λ i. tested .before .before .shared-slice-known .given i .fits) in
     let (answered, after) =
-    recognised-shown (a .edition) (a .bytes .now) (a .table .now) (octets-each (a .bytes .now) (λ i. tested .before .before .shared-slice-known .given i .fits)) (sym (tested .is-unknown .ensures) ∙ r .before .before .if1 .left) _
+    recognised-shown (a .edition) (a .bytes .now) (a .table .now) octets (sym (tested .is-unknown .ensures) ∙ r .before .before .if1 .left) _
     (sym (r .read .ensures .0) ∙ counted .1) in
+    equal-reading (a .edition) (a .bytes .now) (a .table .now) octets _ _
     (c .shown .ensures ∙ ap (shownAnswer (counted .0 .0)) (r .read .kept .1 .1 .0) ∙ answered, r .read .ensures .1 ∙ after)
 
 same-length-2 : tie.Need-same-length-2
@@ -75,7 +77,7 @@ returns-3 c =
     let (answered, after) =
     read-refused (a .edition) (a .bytes .now) (a .table .now) (found .result) (found .ensures)
     (λ zero. unrecognised-refused (a .edition) (a .bytes .now) octets none (ap (λ (x : Answer). x .number) (sym (found .ensures)) ∙ zero)) in
-    (answered, stays ∙ after)
+    equal-reading (a .edition) (a .bytes .now) (a .table .now) octets _ _ (answered, stays ∙ after)
 
 pub read-spec : {M : Type 1} → statement M
 read-spec =

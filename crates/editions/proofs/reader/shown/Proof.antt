@@ -1,7 +1,7 @@
 -- `editions::reader::shown` meets its contract: a table is too short exactly if a quarter of its length is below the count. Assumes nothing.
 use borrow.Author.Needs.{needs}
 use native.Mathlib.Omega.{arith}
-use mathlib.Core.Path.{sym, _∙_}
+use mathlib.Core.Path.{_∙_}
 use Rattle.editions.proofs.theorems.RecognisedAnswer.{shown-short, shown-whole}
 use Rattle.editions.proofs.reader.shown.Statement.{statement}
 use Rattle.editions.proofs.reader.shown.Tie as tie

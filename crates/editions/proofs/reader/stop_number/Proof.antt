@@ -1,7 +1,7 @@
 -- `editions::reader::stop_number` meets its contract. Assumes nothing.
 use mathlib.Core.Path.{sym, ap}
 use borrow.Author.Tests.{eq-eqb, ne-eqb}
-use Rattle.editions.specs.meaning.Reading.{eightOrNine}
+use Rattle.editions.specs.steps.Reading.{eightOrNine}
 use Rattle.editions.proofs.reader.stop_number.Statement.{statement}
 use Rattle.editions.proofs.reader.stop_number.Tie as tie
 

@@ -1,5 +1,5 @@
--- Demand 3: what one edition accepts, the opposite edition accepts with the same rows if no difference occurs in it, and refuses with 9 if one
--- does. For any bytes, 9 is answered exactly if a difference occurs in them, at the first. Assumes nothing.
+-- How the computed answers of the two editions differ: what one accepts, the other accepts with the same rows if no difference occurs in it,
+-- and refuses with 9 if one does. For any bytes, 9 is answered exactly if a difference occurs in them, at the first. Assumes nothing.
 use Prim.Native.Nat.{ℕ, _+_, _*_, _≤_}
 use native.Mathlib.Omega.{arith}
 use mathlib.Core.Logic.{_↔_, _⊎_, inl, inr}
@@ -20,17 +20,18 @@ use Rattle.crmf.specs.meaning.Notation.{Top}
 use Rattle.crmf.specs.meaning.Language.{Occurrence, occurrences}
 use Rattle.crmf.specs.steps.grammar.Lines.{start}
 use Rattle.crmf.specs.steps.explain.Walk.{emptyTally, trail}
-use Rattle.crmf.specs.meaning.Rows.{width, numbers, firstLong}
+use Rattle.crmf.specs.meaning.Rows.{width, numbers}
+use Rattle.crmf.specs.steps.explain.LongIds.{firstLong}
 use Rattle.crmf.specs.steps.rows.Fill.{fits, rowsOfInput}
 use Rattle.crmf.proofs.Laws.{Edition, accepts, trail-occurrences, Ascends, ascends-least, occurrences-ascend, StopsAt, other-walk, fits-room}
 use Rattle.editions.specs.declared.reader.Answer.{Answer}
 use Rattle.editions.specs.meaning.Membership.{InGrammar, Difference, FirstDifference}
 use Rattle.editions.specs.meaning.Edition.{opposite}
-use Rattle.editions.specs.meaning.Reading.{refusal, accepted, ownWalk, walkPasses, eightOrNine, longIdOrAccepted, batchAnswer, answer, readAnswer, tableAfter}
+use Rattle.editions.specs.steps.Reading.{refusal, accepted, ownWalk, walkPasses, eightOrNine, longIdOrAccepted, batchAnswer, answer, readAnswer, tableAfter}
 use Rattle.editions.proofs.theorems.OneElement.{OneElement, late-nine, one-whole}
 use Rattle.editions.proofs.theorems.OneWalk.{back, other-edition, stops-at}
 use Rattle.editions.proofs.theorems.Tables.{shown, with-room, read-alike, not-short}
-use Rattle.editions.proofs.theorems.Demand2.{accepted-in, in-element, in-counted, nest-read, nest-rows, one-nest, rows-shown, walk-in}
+use Rattle.editions.proofs.theorems.Accepting.{accepted-in, in-element, in-counted, nest-read, nest-rows, one-nest, computed-rows, walk-in}
 
 -- 10 or acceptance is not 9
 never-nine : (long : ℕ × ℕ) (n : ℕ) → longIdOrAccepted long n .number ≡ otherEdition → ⊥
@@ -109,7 +110,7 @@ nine-in e s octets nine =
     by-walk one (Broken p d r) own is = by-other one p (ownWalk (opposite e) (tree 0 s)) refl (rw (batchAnswer, own) at is)
 
 -- so it is the refusal at the first difference
-nine-first : {e : ℕ} → Edition e → (s : List ℕ) → Octets s → answer e s .number ≡ otherEdition
+pub nine-first : {e : ℕ} → Edition e → (s : List ℕ) → Octets s → answer e s .number ≡ otherEdition
     → (p : ℕ) × ((answer e s ≡ refusal otherEdition p) × FirstDifference (opposite e) s p)
 nine-first {e} ed s octets nine = go (occurrences (g .batch)) refl
   where
@@ -124,7 +125,7 @@ nine-first {e} ed s octets nine = go (occurrences (g .batch)) refl
     go (o ∷ os) is = (o .place, (rw (back ed) at (differing-answer s g (other-edition ed) octets o os is), first-difference s g o os is))
 
 -- if a difference of the opposite edition occurs, the answer is 9, whatever the table
-nine-where : {e : ℕ} → Edition e → (s old : List ℕ) → Octets s → (p : ℕ) → Difference (opposite e) s p → readAnswer e s old .number ≡ otherEdition
+pub nine-where : {e : ℕ} → Edition e → (s old : List ℕ) → Octets s → (p : ℕ) → Difference (opposite e) s p → readAnswer e s old .number ≡ otherEdition
 nine-where {e} ed s old octets p d = go (occurrences (d .within .batch)) refl
   where
     go : (os : List Occurrence) → occurrences (d .within .batch) ≡ os → readAnswer e s old .number ≡ otherEdition
@@ -138,10 +139,10 @@ nine-where {e} ed s old octets p d = go (occurrences (d .within .batch)) refl
 module _ {e : ℕ} (ed : Edition e) (s old others : List ℕ) (octets : Octets s) where
   -- "if none of the listed differences occurs in the bytes, the opposite reader, lent a table of the same length, accepts them with the same
   -- count and the same rows, number for number"
-  pub same-rows : length others ≡ length old → readAnswer e s old .number ≡ acceptance → ((p : ℕ) → Difference e s p → ⊥)
+  pub computed-same-rows : length others ≡ length old → readAnswer e s old .number ≡ acceptance → ((p : ℕ) → Difference e s p → ⊥)
       → (readAnswer (opposite e) s others ≡ readAnswer e s old)
       × (take (width * readAnswer e s old .count) (tableAfter (opposite e) s others) ≡ take (width * readAnswer e s old .count) (tableAfter e s old))
-  same-rows sized zero none =
+  computed-same-rows sized zero none =
       let found = shown e s old zero in
       let g = accepted-in e s octets (found .zero) .0 in
       let clear : occurrences (g .batch) ≡ [] = empty g (occurrences (g .batch)) refl in
@@ -152,8 +153,8 @@ module _ {e : ℕ} (ed : Edition e) (s old others : List ℕ) (octets : Octets s
       ∙ sym (fits-room (answer e s .count) old) ∙ found .room in
       let accepts-too = with-room (opposite e) s others (ap (λ (a : Answer). a .number) alike ∙ found .zero) room in
       let same = accepts-too ∙ alike ∙ sym (found .same) in
-      let own = rows-shown s old octets zero g in
-      let opposed = rows-shown s others octets (ap (λ (a : Answer). a .number) same ∙ zero) h in
+      let own = computed-rows s old octets zero g in
+      let opposed = computed-rows s others octets (ap (λ (a : Answer). a .number) same ∙ zero) h in
       (same, rw same at (opposed .first) ∙ ap numbers (sym (nest-rows s h) ∙ nest-rows s g) ∙ sym (own .first))
     where
       empty : (g : InGrammar e s) (os : List Occurrence) → occurrences (g .batch) ≡ os → os ≡ []
@@ -161,16 +162,16 @@ module _ {e : ℕ} (ed : Edition e) (s old others : List ℕ) (octets : Octets s
       empty g (o ∷ os) is = absurd (none (o .place) (first-difference s g o os is .here))
 
   -- "if one occurs, it answers refusal 9"
-  pub differing : readAnswer e s old .number ≡ acceptance → (p : ℕ) → Difference e s p → readAnswer (opposite e) s others .number ≡ otherEdition
-  differing zero p d = nine-where (other-edition ed) s others octets p (rw (back ed) d)
+  pub computed-differing : readAnswer e s old .number ≡ acceptance → (p : ℕ) → Difference e s p → readAnswer (opposite e) s others .number ≡ otherEdition
+  computed-differing zero p d = nine-where (other-edition ed) s others octets p (rw (back ed) d)
 
   -- "a reader answers refusal 9 .. always at the first in byte order"
-  pub nine-least : readAnswer e s old .number ≡ otherEdition → FirstDifference (opposite e) s (readAnswer e s old .place)
-  nine-least nine =
+  pub computed-nine-least : readAnswer e s old .number ≡ otherEdition → FirstDifference (opposite e) s (readAnswer e s old .place)
+  computed-nine-least nine =
       let same = not-short e s old (λ zero. omega arith) (λ eleven. omega arith) in
       let (p, (is, first)) = nine-first ed s octets (ap (λ (a : Answer). a .number) (sym same) ∙ nine) in
       subst (FirstDifference (opposite e) s) (sym (ap (λ (a : Answer). a .place) (same ∙ is))) first
 
   -- "exactly when they are in the opposite edition's grammar and a listed difference occurs in them"
-  pub nine-exactly : (readAnswer e s old .number ≡ otherEdition) ↔ ((p : ℕ) × Difference (opposite e) s p)
-  nine-exactly = (λ nine. (readAnswer e s old .place, nine-least nine .here), λ (p, d). nine-where ed s old octets p d)
+  pub computed-nine : (readAnswer e s old .number ≡ otherEdition) ↔ ((p : ℕ) × Difference (opposite e) s p)
+  computed-nine = (λ nine. (readAnswer e s old .place, computed-nine-least nine .here), λ (p, d). nine-where ed s old octets p d)

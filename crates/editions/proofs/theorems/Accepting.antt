@@ -1,5 +1,5 @@
--- Demand 2, reading: a batch is accepted exactly if it is in the edition's grammar with every certReqId of at most 8 octets. Its rows are
--- those of its tree, and it has only one. Assumes nothing.
+-- What is accepted, by the computed answer: exactly the bytes in the edition's grammar with every certReqId of at most 8 octets. Their rows
+-- are those of their tree, and they have only one. Assumes nothing.
 use Prim.Native.Nat.{ℕ, _*_, _≤_}
 use native.Mathlib.Omega.{arith}
 use mathlib.Core.Logic.{_↔_}
@@ -23,13 +23,14 @@ use Rattle.crmf.specs.meaning.Notation.{Top}
 use Rattle.crmf.specs.meaning.Grammar.{content}
 use Rattle.crmf.specs.meaning.Language.{Matches}
 use Rattle.crmf.specs.steps.explain.Walk.{emptyTally}
-use Rattle.crmf.specs.meaning.Rows.{Row, width, batchRows, firstLong, allShort}
+use Rattle.crmf.specs.meaning.Rows.{Row, width, batchRows, allShort}
+use Rattle.crmf.specs.steps.explain.LongIds.{firstLong}
 use Rattle.crmf.specs.steps.rows.Fill.{fits, rowsOfInput}
 use Rattle.crmf.proofs.Laws.{Edition, first-edition, second-edition, accepts, rows-of, long-none, Holds, over-holds, fits-room}
 use Rattle.editions.specs.declared.reader.Answer.{Answer}
 use Rattle.editions.specs.meaning.Membership.{InGrammar}
 use Rattle.editions.specs.meaning.Edition.{opposite}
-use Rattle.editions.specs.meaning.Reading.{refusal, accepted, ownWalk, walkPasses, eightOrNine, longIdOrAccepted, batchAnswer, answer, readAnswer, tableAfter}
+use Rattle.editions.specs.steps.Reading.{refusal, accepted, ownWalk, walkPasses, eightOrNine, longIdOrAccepted, batchAnswer, answer, readAnswer, tableAfter}
 use Rattle.editions.proofs.theorems.Answers.{one-element}
 use Rattle.editions.proofs.theorems.OneElement.{OneElement, late-accepted, one-whole}
 use Rattle.editions.proofs.theorems.OneWalk.{goes-through}
@@ -72,16 +73,40 @@ walk-in {e} s octets one r passed =
     }
 
 -- an edition is 1 or 2
-known : {e : ℕ} → Edition e → (not (eqb e 1) && not (eqb e 2)) ≡ false
+pub known : {e : ℕ} → Edition e → (not (eqb e 1) && not (eqb e 2)) ≡ false
 known first-edition = refl
 known second-edition = refl
+
+-- Bytes that are the encoding of a well-formed element.
+module _ (s : List ℕ) (t : Tree) (short : length s ≤ longest) (formed : WellFormed depth 0 t) (single : Single t) (encoded : encode t ≡ s) where
+  -- the tree that is read is the one whose encoding they are
+  pub encoded-read : tree 0 s ≡ t
+  encoded-read =
+      let size : length (encode t) ≤ longest = omega (arith, ap length encoded, short) in
+      rw encoded at (tree-encode depth 0 t formed size)
+
+  -- they are in the grammar of an edition whose own walk passes
+  pub encoded-in : {f : ℕ} (r : Tally) → ownWalk f (tree 0 s) ≡ Passed r → InGrammar f s
+  encoded-in {f} r passed = record {
+    short = short;
+    nest = t;
+    formed = formed;
+    single = single;
+    encoded = encoded;
+    batch = accepts (λ x. eqb x f) emptyTally Top 0 t .0 (r, rw encoded-read at passed);
+  }
+
+  -- any edition's answer is its grammar's
+  pub encoded-element : {f : ℕ} → Edition f → Octets s → answer f s ≡ batchAnswer f s
+  encoded-element {f} ed octets =
+      let all : take (length s) s ≡ s = take-all (length s) s (omega arith) in
+      let ends = exact s (length s) octets short .1 (omega arith, (t, formed, single, encoded ∙ sym all)) in
+      sym (one-element f s (known ed) short (length s) ends (omega arith))
 
 module _ {e : ℕ} (s : List ℕ) (g : InGrammar e s) where
   -- the tree that is read is the one whose encoding the bytes are
   pub nest-read : tree 0 s ≡ g .nest
-  nest-read =
-      let size : length (encode (g .nest)) ≤ longest = omega (arith, ap length (g .encoded), g .short) in
-      rw (g .encoded) at (tree-encode depth 0 (g .nest) (g .formed) size)
+  nest-read = encoded-read s (g .nest) (g .short) (g .formed) (g .single) (g .encoded)
 
   -- The rows that reading finds are that tree's.
   pub nest-rows : rowsOfInput s ≡ batchRows (g .batch)
@@ -90,16 +115,16 @@ module _ {e : ℕ} (s : List ℕ) (g : InGrammar e s) where
 
   -- the bytes are one element, so any edition's answer is its grammar's
   pub in-element : {f : ℕ} → Edition f → Octets s → answer f s ≡ batchAnswer f s
-  in-element {f} ed octets =
-      let all : take (length s) s ≡ s = take-all (length s) s (omega arith) in
-      let ends = exact s (length s) octets (g .short) .1 (omega arith, (g .nest, g .formed, g .single, g .encoded ∙ sym all)) in
-      sym (one-element f s (known ed) (g .short) (length s) ends (omega arith))
+  in-element = encoded-element s (g .nest) (g .short) (g .formed) (g .single) (g .encoded)
+
+  -- this edition's own walk passes
+  pub in-walks : (r : Tally) × (ownWalk e (tree 0 s) ≡ Passed r)
+  in-walks = accepts (λ x. eqb x e) emptyTally Top 0 (tree 0 s) .1 (subst (Matches (λ x. eqb x e) (content Top)) (sym nest-read) (g .batch))
 
   -- What is in the grammar is judged by its rows alone.
   pub in-counted : Edition e → Octets s → answer e s ≡ longIdOrAccepted (firstLong (0, 0) (rowsOfInput s)) (length (rowsOfInput s))
   in-counted ed octets =
-      let m = subst (Matches (λ x. eqb x e) (content Top)) (sym nest-read) (g .batch) in
-      let (r, passed) = accepts (λ x. eqb x e) emptyTally Top 0 (tree 0 s) .1 m in
+      let (r, passed) = in-walks in
       in-element ed octets ∙ goes-through e r s passed
 
   -- If every certReqId fits, it is accepted with the count of its rows.
@@ -118,21 +143,15 @@ accepted-in e s octets zero =
     let g = walk-in s octets one r passed in
     (g, sym (long-none (batchRows (g .batch))) ∙ ap (λ (rs : List Row). eqb (firstLong (0, 0) rs .0) 0) (sym (nest-rows s g)) ∙ fit)
 
--- Acceptance without a table, exactly: in the edition's grammar, with every certReqId of at most 8 octets.
-pub accepted-exactly : {e : ℕ} → Edition e → (s : List ℕ) → Octets s
-    → (answer e s .number ≡ acceptance) ↔ ((g : InGrammar e s) × (allShort (batchRows (g .batch)) ≡ true))
-accepted-exactly {e} ed s octets =
-    (accepted-in e s octets, λ h. ap (λ (a : Answer). a .number) (in-accepted s (h .0) ed octets (h .1)))
-
 -- The tree is unique.
 pub one-nest : {e : ℕ} (s : List ℕ) (g h : InGrammar e s) → g .nest ≡ h .nest
 one-nest s g h = sym (nest-read s g) ∙ nest-read s h
 
 module _ {e : ℕ} (s old : List ℕ) (octets : Octets s) where
   -- Reading accepts exactly that, given room for the rows.
-  pub read-exactly : Edition e → (readAnswer e s old .number ≡ acceptance)
+  pub computed-read : Edition e → (readAnswer e s old .number ≡ acceptance)
       ↔ ((g : InGrammar e s) × (allShort (batchRows (g .batch)) ≡ true) × (width * length (batchRows (g .batch)) ≤ length old))
-  read-exactly ed = (there, back)
+  computed-read ed = (there, back)
     where
       there : readAnswer e s old .number ≡ acceptance
           → (g : InGrammar e s) × (allShort (batchRows (g .batch)) ≡ true) × (width * length (batchRows (g .batch)) ≤ length old)
@@ -151,9 +170,9 @@ module _ {e : ℕ} (s old : List ℕ) (octets : Octets s) where
           ap (λ (a : Answer). a .number) (with-room e s old zero enough) ∙ zero
 
   -- The table then holds the rows of that tree, as many as the count says, and its other numbers are as they were.
-  pub rows-shown : readAnswer e s old .number ≡ acceptance → (g : InGrammar e s)
+  pub computed-rows : readAnswer e s old .number ≡ acceptance → (g : InGrammar e s)
       → Holds (batchRows (g .batch)) (readAnswer e s old .count) old (tableAfter e s old)
-  rows-shown zero g =
+  computed-rows zero g =
       let found = shown e s old zero in
       let count : readAnswer e s old .count ≡ length (rowsOfInput s) =
       ap (λ (a : Answer). a .count) (found .same) ∙ answer-counts e s octets (found .zero) in

@@ -1,5 +1,5 @@
--- Reading a batch in an edition, the answer and the table for every input: SPECIFICATION 4 and 5. The refusals are in document 01's order.
--- Assumes nothing.
+-- Reading a batch in an edition as it is computed, by walks over the nest and the lines: the answer and the table for every input. `Answers`
+-- and `Reads` of the meaning say what these are. Assumes nothing.
 use Prim.Native.Nat.{ℕ}
 use mathlib.Core.Bool.{Bool, true, false, _||_}
 use mathlib.Core.List.{List}
@@ -16,7 +16,8 @@ use Rattle.crmf.specs.declared.explain.Walked.the-variants.{Passed, Broken}
 use Rattle.crmf.specs.meaning.Notation.{Top}
 use Rattle.crmf.specs.steps.grammar.Lines.{start}
 use Rattle.crmf.specs.steps.explain.Walk.{walk, emptyTally}
-use Rattle.crmf.specs.meaning.Rows.{numbers, firstLong}
+use Rattle.crmf.specs.meaning.Rows.{numbers}
+use Rattle.crmf.specs.steps.explain.LongIds.{firstLong}
 use Rattle.crmf.specs.steps.rows.Fill.{fits, rowsOfInput}
 use Rattle.crmf.specs.meaning.Lists.{over}
 use Rattle.editions.specs.declared.reader.Answer.{Answer}

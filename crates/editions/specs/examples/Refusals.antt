@@ -1,0 +1,89 @@
+-- Refusals worked out by hand from document 01 and request A9: number, place and detail in each edition. Assumes nothing.
+use Prim.Native.Nat.{ℕ}
+use mathlib.Core.List.{List, [], _∷_}
+
+-- What is answered: the number, the place and the detail.
+pub record Refusal : Type 0 where
+  pub number : ℕ
+  pub place : ℕ
+  pub detail : ℕ
+
+-- A batch, its octets as the digits of a number, and its refusals in edition 1 and in edition 2.
+pub record Refused : Type 0 where
+  pub octets : ℕ
+  pub one : Refusal
+  pub two : Refusal
+
+abbrev at : ℕ → ℕ → ℕ → Refusal
+at n p d = record { number = n; place = p; detail = d }
+
+abbrev each : ℕ → Refusal → Refusal → Refused
+each bs a b = record { octets = bs; one = a; two = b }
+
+-- the same refusal in both editions
+abbrev alike : ℕ → Refusal → Refused
+alike bs a = each bs a a
+
+-- Refusals of the nest and of the grammar.
+abbrev pub explained : List Refused
+explained =
+    -- an empty input, as the number 0: "identifier missing (2)"
+    alike 0 (at 2 0 1)
+    -- "All length octets have to be there before they are judged": 30 82 00 is cut short, 30 82 00 00 isn't the shortest
+    ∷ alike 0x308200 (at 2 0 2)
+    ∷ alike 0x30820000 (at 4 0 0)
+    -- "30 80", "30 81 00" and 30 FF: "80 and FF are 4"
+    ∷ alike 0x3080 (at 4 0 0)
+    ∷ alike 0x308100 (at 4 0 0)
+    ∷ alike 0x30FF (at 4 0 0)
+    -- missing is counted to the parent's end
+    ∷ alike 0x300230820080 (at 2 2 2)
+    -- "content past the end (2)"
+    ∷ alike 0x300430050201 (at 2 2 3)
+    -- "1F 00: 3 at 0", and inside a batch
+    ∷ alike 0x1F00 (at 3 0 0)
+    ∷ alike 0x300430021F00 (at 3 4 0)
+    -- the identifier is judged before the length octets: 1F with a length that isn't the shortest
+    ∷ alike 0x1F80 (at 3 0 0)
+    -- "BOOLEAN one octet, 00 or FF", with the tag number
+    ∷ alike 0x30053003010101 (at 5 4 1)
+    -- "element deeper than 20": 21 elements, one inside the other
+    ∷ alike 0x30283026302430223020301E301C301A30183016301430123010300E300C300A30083006300430023000 (at 6 40 0)
+    -- "30 00: 8 at 0", a part missing; a first element other than 30 fits no part
+    ∷ alike 0x3000 (at 8 0 2)
+    ∷ alike 0x3100 (at 8 0 1)
+    ∷ alike 0x020100 (at 8 0 1)
+    -- "parts left to right, insides first": the certReq lacks its template before the 05 after it is looked at; an element that fits no part
+    -- isn't entered, so edition 1 stops at the choice and edition 2 inside it
+    ∷ alike 0x3009300530030201000500 (at 8 4 2)
+    ∷ each 0x300F300D30050201003000A204A3020500 (at 8 13 1) (at 8 15 1)
+    -- "a needed part never being passed over": signature without its AlgId; with the AlgId alone
+    ∷ alike 0x300E300C30050201003000A103030100 (at 8 13 1)
+    ∷ alike 0x3010300E30050201003000A1053003060155 (at 8 11 2)
+    -- an empty validity lacks a part
+    ∷ alike 0x300B300930070201003002A400 (at 8 11 2)
+    -- "the list of control 3 beside action 0 (judged after its inside)", which edition 2 stops in; an empty list misses its part
+    ∷ each 0x3026302430220201003000301B301906092B0601050507050103300C020100300730050201008600 (at 8 31 4) (at 8 38 4)
+    ∷ alike 0x301F301D301B02010030003014301206092B060105050705010330050201003000 (at 8 31 2)
+    -- two locations beside method 0: the second fits no part, the first isn't edition 2's
+    ∷ each 0x3028302630240201003000301D301B06092B0601050507050103300E0201013009300702010086008600 (at 8 40 1) (at 8 38 4)
+    -- 9 needs the whole batch in the other grammar: pairs of edition 2, and a second message that lacks its certReq
+    ∷ each 0x301C301830050201003000300F300D06092B06010505070502010C003000 (at 8 26 1) (at 8 28 2)
+    -- "A batch using differences of both sides is 8", in each edition at its own stop
+    ∷ each 0x301E301C30050201003000A202A400300F300D06092B06010505070502010400 (at 8 13 1) (at 8 30 1)
+    -- a choice of edition 2, and an element after it that fits no part
+    ∷ each 0x300F300D30050201003000A202A4000500 (at 8 13 1) (at 8 15 1)
+    ∷ []
+
+-- Other refusals, by number and place; the detail is 0.
+abbrev pub told : List Refused
+told =
+    -- "7 stands before 8", at the first byte after the first element; "S and 00: 7 at 11"
+    alike 0x300000 (at 7 2 0)
+    ∷ alike 0x050000 (at 7 2 0)
+    ∷ alike 0x300930073005020100300000 (at 7 11 0)
+    -- "9 before 10": a certReqId of 9 octets beside a choice of edition 2
+    ∷ each 0x30153013300D02090101010101010101013000A202A400 (at 9 21 0) (at 10 6 0)
+    -- the first of two long certReqIds
+    ∷ alike 0x3022300F300D02090101010101010101013000300F300D02090101010101010101013000 (at 10 6 0)
+    ∷ []
