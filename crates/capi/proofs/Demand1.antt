@@ -1,5 +1,6 @@
 -- Demand 1: every public call ends with document 01's answer, for any bytes, tables and numbers, and a refusal changes nothing that is lent.
--- A call's statement is its contract in src. Each theorem here says that a call meets its contract. Assumes nothing.
+-- A call's statement is its contract in src: one relation from the memory that is lent to the answer and the memory afterwards. Each theorem
+-- here says that a call meets its contract. Assumes nothing.
 use Rattle.editions.proofs.reader.accept.Statement as accept
 use Rattle.editions.proofs.reader.accept.Met as accept-met
 use Rattle.editions.proofs.reader.read.Statement as read
@@ -25,27 +26,27 @@ use Rattle.capi.proofs.phagundro_verdict_number.Met as c-number-met
 use Rattle.capi.proofs.phagundro_duplicates.Statement as c-duplicates
 use Rattle.capi.proofs.phagundro_duplicates.Met as c-duplicates-met
 
--- Judging a batch: `editions/src/reader.rt`, by `answer`.
+-- Judging a batch: `editions/src/reader.rt`, by `Answers`.
 pub accepting : {M : Type 1} → accept.statement M
 accepting = accept-met.met
 
--- Reading a batch into a table: `editions/src/reader.rt`, by `readAnswer` and `tableAfter`.
+-- Reading a batch into a table: `editions/src/reader.rt`, by `Reads`.
 pub reading : {M : Type 1} → read.statement M
 reading = read-met.met
 
--- Writing a draft: `writer/src/writer.rt`, by `writeAnswer` and `outputAfter`.
+-- Writing a draft: `writer/src/writer.rt`, by `Writes`.
 pub writing : {M : Type 1} → write.statement M
 writing = write-met.met
 
--- Judging a message's proof: `verdict/src/verdict.rt`, by `verdictAnswer`.
+-- Judging a message's proof: `verdict/src/verdict.rt`, by `Judges`.
 pub judging : {M : Type 1} → judge.statement M
 judging = judge-met.met
 
--- Handing back the signed part: `verdict/src/verdict.rt`, by `signedOctets`.
+-- Handing back the signed part: `verdict/src/verdict.rt`, by `verdictAnswer` and `HandedBack`.
 pub signed-part : {M : Type 1} → part.statement M
 signed-part = part-met.met
 
--- Searching for duplicates: `verdict/src/duplicates.rt`, by `duplicatesAnswer`.
+-- Searching for duplicates: `verdict/src/duplicates.rt`, by `Searches`.
 pub searching : {M : Type 1} → search.statement M
 searching = search-met.met
 

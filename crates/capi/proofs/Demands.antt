@@ -6,6 +6,15 @@
 -- those of the crates, and the same calls from C.
 pub use Rattle.capi.proofs.Demand1.{accepting, reading, writing, judging, signed-part, searching}
 pub use Rattle.capi.proofs.Demand1.{c-accepting, c-reading, c-writing, c-judging, c-judging-number, c-searching}
+-- The one number of `c-judging-number` is never both: a verdict is at most 7, and a refusal is 256 and more.
+pub use Rattle.capi.proofs.NumberTells.{number-tells}
+-- For each input there is exactly one answer, and one table or output afterwards, that the relation of a call allows: the computed ones.
+pub use Rattle.editions.proofs.Laws.{answers-exactly, answers-once, reads-exactly, reads-once}
+pub use Rattle.writer.proofs.Laws.{writes-exactly, writes-once}
+pub use Rattle.verdict.proofs.Laws.{judges-exactly, searches-exactly}
+-- "A refused call leaves every lent table and output unchanged."
+pub use Rattle.editions.proofs.Laws.{table-stays}
+pub use Rattle.writer.proofs.Laws.{output-stays}
 -- Demand 2. "Given room, a batch is accepted exactly when it is the DER encoding of CertReqMessages in the chosen edition (RFC 2511 or RFC
 -- 4211), as document 01 bounds and defines it": by reading, and without a table.
 pub use Rattle.editions.proofs.Laws.{read-exactly, accepted-exactly}
@@ -13,10 +22,12 @@ pub use Rattle.editions.proofs.Laws.{read-exactly, accepted-exactly}
 pub use Rattle.editions.proofs.Laws.{rows-shown, one-nest}
 -- "Writing the rows of an accepted batch into enough room gives its bytes again."
 pub use Rattle.writer.proofs.Laws.{writes-again}
--- "A draft is refused as describing nothing exactly when no acceptable batch has its rows and leaf bytes"
-pub use Rattle.writer.proofs.Laws.{describes-nothing}
--- "otherwise, given room, that batch is written": there is only one such batch, the answer has its length, and the output begins with it.
-pub use Rattle.writer.proofs.Laws.{one-batch, written-answer, written-output}
+-- "A draft is refused as describing nothing exactly when no acceptable batch has its rows and leaf bytes"; document 01: "also if the row
+-- numbers aren't a multiple of four, none, or a leaf leaves the slice".
+pub use Rattle.writer.proofs.Laws.{describes-nothing, misshapen-refused}
+-- "otherwise, given room, that batch is written": there is only one such batch, the answer has its length, and the output begins with it; and
+-- if 0 is answered, what was written has the draft's rows.
+pub use Rattle.writer.proofs.Laws.{one-batch, written-answer, written-output, written-has-rows}
 -- "and reading it shows the draft's fields."
 pub use Rattle.writer.proofs.Laws.{reads-back}
 -- Demand 3. "Take either edition's reader; the other edition's is the opposite one. For all bytes that the one accepts, and whatever the two

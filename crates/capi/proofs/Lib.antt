@@ -1,3 +1,4 @@
 -- The laws of the crate.
+pub mod NumberTells
 pub mod Demand1
 pub mod Demands

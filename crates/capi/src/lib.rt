@@ -4,20 +4,19 @@ use editions::reader::Answer;
 use verdict::duplicates::Duplicates;
 use verdict::verdict::Position;
 use verdict::verdict::Verdict;
-ghost use mathlib.Core.Path.{_≡_};
-ghost use Rattle.editions.specs.meaning.Reading.{answer, readAnswer, tableAfter};
-ghost use Rattle.writer.specs.meaning.Writing.{writeAnswer, outputAfter};
-ghost use Rattle.verdict.specs.meaning.Verdict.{verdictAnswer};
-ghost use Rattle.verdict.specs.meaning.Duplicates.{duplicatesAnswer};
-ghost use Rattle.capi.specs.OneNumber.{oneNumber};
+ghost use Rattle.editions.specs.meaning.Reads.{Reads};
+ghost use Rattle.writer.specs.meaning.Writes.{Writes};
+ghost use Rattle.verdict.specs.meaning.Judges.{Judges};
+ghost use Rattle.verdict.specs.meaning.Searches.{Searches};
+ghost use Rattle.capi.specs.OneNumber.{AcceptsBy, JudgesBy};
 
-// What is added to a refusal's number if a verdict may come back in the same number. Verdicts are smaller.
+// What is added to a refusal's number if a verdict may come back in the same number. Verdicts are at most 7 (`number-tells`).
 const REFUSED: usize = 256;
 
 // Judges a batch in an edition and answers 0, or the refusal's number.
 #[no_mangle]
 pub extern "C" fn phagundro_accept(edition: usize, bytes: &[u8]) -> usize
-    ensures { λ r. ⌜ r ≡ answer edition (now (bytes .entry)) .number ⌝ }
+    ensures { λ r. ⌜ AcceptsBy edition (now (bytes .entry)) r ⌝ }
 {
     editions::reader::accept(edition, bytes).number
 }
@@ -26,8 +25,7 @@ pub extern "C" fn phagundro_accept(edition: usize, bytes: &[u8]) -> usize
 // it was.
 #[no_mangle]
 pub extern "C" fn phagundro_read(edition: usize, bytes: &[u8], table: &mut [usize]) -> Answer
-    ensures { λ r. ⌜ (r ≡ readAnswer edition (now (bytes .entry)) (now (table .entry)))
-        × (now (table .exit) ≡ tableAfter edition (now (bytes .entry)) (now (table .entry))) ⌝ }
+    ensures { λ r. ⌜ Reads edition (now (bytes .entry)) (now (table .entry)) (r .number) (r .place) (r .count) (now (table .exit)) ⌝ }
 {
     editions::reader::read(edition, bytes, table)
 }
@@ -41,8 +39,7 @@ pub extern "C" fn phagundro_write(
     slice: &[u8],
     output: &mut [u8],
 ) -> Answer
-    ensures { λ r. ⌜ (r ≡ writeAnswer edition (now (draft .entry)) (now (slice .entry)) (now (output .entry)))
-        × (now (output .exit) ≡ outputAfter edition (now (draft .entry)) (now (slice .entry)) (now (output .entry))) ⌝ }
+    ensures { λ r. ⌜ Writes edition (now (draft .entry)) (now (slice .entry)) (now (output .entry)) (r .number) (r .place) (r .count) (now (output .exit)) ⌝ }
 {
     writer::writer::write(edition, draft, slice, output)
 }
@@ -50,7 +47,7 @@ pub extern "C" fn phagundro_write(
 // Judges the proof of the message at a position and answers the verdict and the signed part's place and length; or answers the refusal.
 #[no_mangle]
 pub extern "C" fn phagundro_verdict(edition: usize, bytes: &[u8], position: usize) -> Verdict
-    ensures { λ r. ⌜ r ≡ verdictAnswer edition (now (bytes .entry)) position ⌝ }
+    ensures { λ r. ⌜ Judges edition (now (bytes .entry)) position (r .number) (r .place) (r .verdict) (r .from) (r .length) ⌝ }
 {
     verdict::verdict::judge(edition, bytes, Position(position))
 }
@@ -58,7 +55,7 @@ pub extern "C" fn phagundro_verdict(edition: usize, bytes: &[u8], position: usiz
 // The same in one number: the verdict, or 256 plus the refusal's number.
 #[no_mangle]
 pub extern "C" fn phagundro_verdict_number(edition: usize, bytes: &[u8], position: usize) -> usize
-    ensures { λ r. ⌜ r ≡ oneNumber (verdictAnswer edition (now (bytes .entry)) position) ⌝ }
+    ensures { λ r. ⌜ JudgesBy edition (now (bytes .entry)) position r ⌝ }
 {
     let found = verdict::verdict::judge(edition, bytes, Position(position));
     if found.number == ACCEPTED {
@@ -71,7 +68,7 @@ pub extern "C" fn phagundro_verdict_number(edition: usize, bytes: &[u8], positio
 // Searches a batch for two messages with the same certReqId and answers the first pair, or that there is none; or answers the refusal.
 #[no_mangle]
 pub extern "C" fn phagundro_duplicates(edition: usize, bytes: &[u8]) -> Duplicates
-    ensures { λ r. ⌜ r ≡ duplicatesAnswer edition (now (bytes .entry)) ⌝ }
+    ensures { λ r. ⌜ Searches edition (now (bytes .entry)) (r .number) (r .place) (r .found) (r .earlier .0) (r .later .0) ⌝ }
 {
     verdict::duplicates::search(edition, bytes)
 }

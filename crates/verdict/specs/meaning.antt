@@ -1,3 +1,6 @@
--- What a reader has to believe: document 01's verdict (SPECIFICATION 7) and its duplicate search (8), on the messages of the accepted batch.
+-- What a reader has to believe of messages: document 01's verdict and signed part (SPECIFICATION 7), the first equal pair of certReqIds (8), and
+-- the answers of the two calls.
 pub mod Verdict
 pub mod Duplicates
+pub mod Judges
+pub mod Searches

@@ -1,11 +1,14 @@
 // The search for two messages with the same certReqId (SPECIFICATION 8).
+use crate::verdict::Position;
 use der::element::reading;
 use der::refusal::ACCEPTED;
 ghost use Prim.Native.Nat.{_≤_};
 ghost use mathlib.Core.Path.{_≡_};
 ghost use lib.ListN.{length};
 ghost use lib.Seq.{slice};
-ghost use Rattle.verdict.specs.meaning.Duplicates.{magnitudeOctet, signed, sameNumber, pairOf, searched, duplicatesAnswer};
+ghost use Rattle.verdict.specs.meaning.Duplicates.{signed};
+ghost use Rattle.verdict.specs.meaning.Searches.{Searches};
+ghost use Rattle.verdict.specs.steps.SearchAnswer.{magnitudeOctet, sameNumber, pairOf, searched};
 ghost use Rattle.verdict.specs.steps.Collecting.{Accepted, mostMessages, Collected, idIn, Short};
 
 // A message's certReqId, a signed whole number. It is never a position.
@@ -18,8 +21,8 @@ pub struct Duplicates {
     pub number: usize,
     pub place: usize,
     pub found: usize,
-    pub earlier: usize,
-    pub later: usize,
+    pub earlier: Position,
+    pub later: Position,
 }
 
 // The most messages that a batch can have: each has at least 9 of its 65,535 octets.
@@ -28,7 +31,7 @@ const MOST_MESSAGES: usize = 7281;
 // Searches the messages of a batch, read in an edition, for two with the same certReqId, and answers the first pair or that there is none.
 // Refuses what `editions::reader::accept` refuses.
 pub fn search(edition: usize, bytes: &[u8]) -> Duplicates
-    ensures { λ r. ⌜ r ≡ duplicatesAnswer edition (now (bytes .entry)) ⌝ }
+    ensures { λ r. ⌜ Searches edition (now (bytes .entry)) (r .number) (r .place) (r .found) (r .earlier .0) (r .later .0) ⌝ }
 {
     let judged = editions::reader::accept(edition, bytes);
     if judged.number != ACCEPTED {
@@ -36,8 +39,8 @@ pub fn search(edition: usize, bytes: &[u8]) -> Duplicates
             number: judged.number,
             place: judged.place,
             found: 0,
-            earlier: 0,
-            later: 0,
+            earlier: Position(0),
+            later: Position(0),
         };
     }
     let mut numbers = [0i64; MOST_MESSAGES];
@@ -123,16 +126,16 @@ fn first_pair(numbers: &[i64]) -> Duplicates
             number: ACCEPTED,
             place: 0,
             found: 1,
-            earlier,
-            later,
+            earlier: Position(earlier),
+            later: Position(later),
         };
     }
     Duplicates {
         number: ACCEPTED,
         place: 0,
         found: 0,
-        earlier: 0,
-        later: 0,
+        earlier: Position(0),
+        later: Position(0),
     }
 }
 

@@ -8,10 +8,13 @@ ghost use mathlib.Core.Path.{_≡_};
 ghost use mathlib.Core.List.{List, [], _∷_};
 ghost use mathlib.Core.Option.{Option};
 ghost use lib.ListN.{drop};
-ghost use Rattle.crmf.specs.meaning.Fields.{Field, fieldsBetween, firstWith};
+ghost use Rattle.crmf.specs.meaning.Fields.{Field, firstWith};
+ghost use Rattle.crmf.specs.steps.Fields.{fieldsBetween};
 ghost use Rattle.crmf.specs.meaning.Messages.{Message};
 ghost use Rattle.crmf.proofs.Laws.{MessageParts};
-ghost use Rattle.verdict.specs.meaning.Verdict.{hasSubjectAndKey, enciphermentVerdict, agreementVerdict, refused, verdictOn, verdictAnswer, HandedBack};
+ghost use Rattle.verdict.specs.meaning.Verdict.{hasSubjectAndKey, enciphermentVerdict, agreementVerdict};
+ghost use Rattle.verdict.specs.meaning.Judges.{Judges, SignedPart};
+ghost use Rattle.verdict.specs.steps.JudgeAnswer.{refused, verdictOn};
 ghost use Rattle.verdict.specs.steps.Judging.{Places, holds, FieldFound, told, bare, signatureAnswer, proofAnswer};
 
 // The verdicts.
@@ -41,6 +44,7 @@ pub const KEY_AGREEMENT: usize = 6;
 pub const MISPLACED_DH_MAC: usize = 7;
 
 // A message's position in its batch, from 0. It is never a certReqId.
+#[repr(C)]
 pub struct Position(pub usize);
 
 // What `judge` answers: document 01's number (`der::refusal`; ACCEPTED with a verdict), the place, the verdict, and the signed part's place and
@@ -63,7 +67,7 @@ struct Extent {
 // Judges the proof of the message at a position and answers the verdict and the signed part's place and length, 0 and 0 if there is none.
 // Refuses what `accept` refuses, and then a position without a message (NO_SUCH_MESSAGE).
 pub fn judge(edition: usize, bytes: &[u8], position: Position) -> Verdict
-    ensures { λ r. ⌜ r ≡ verdictAnswer edition (now (bytes .entry)) (position .0) ⌝ }
+    ensures { λ r. ⌜ Judges edition (now (bytes .entry)) (position .0) (r .number) (r .place) (r .verdict) (r .from) (r .length) ⌝ }
 {
     let found = accept(edition, bytes);
     if found.number != ACCEPTED {
@@ -81,7 +85,7 @@ pub fn judge(edition: usize, bytes: &[u8], position: Position) -> Verdict
 // Hands back the part of the bytes that the signature of the message at a position covers: the certReq with SIGNED_CERT_REQ, the poposkInput
 // with SIGNED_POPOSK_INPUT, and an empty part with any other verdict or a refusal.
 pub fn signed_part(edition: usize, bytes: &[u8], position: Position) -> &[u8]
-    ensures { λ r. ⌜ HandedBack (bytes .entry) r (verdictAnswer edition (now (bytes .entry)) (position .0)) ⌝ }
+    ensures { λ r. ⌜ SignedPart edition (bytes .entry) (position .0) r ⌝ }
 {
     let found = judge(edition, bytes, position);
     let from = found.from;

@@ -7,5 +7,7 @@ pub mod Demand2
 pub mod Described
 pub mod Describing
 pub mod DraftRows
+pub mod Misshapen
 pub mod OctetRuns
 pub mod WholeLengths
+pub mod WritesExactly

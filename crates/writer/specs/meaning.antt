@@ -1,3 +1,3 @@
--- What a reader has to believe (SPECIFICATION 6): what it means that a batch has a draft's rows, and document 01's answer.
+-- What a reader has to believe (SPECIFICATION 6): what it means that a batch has a draft's rows, and what writing answers and leaves.
 pub mod Draft
-pub mod Writing
+pub mod Writes

@@ -3,7 +3,7 @@ use crate::draft::row_at;
 use crate::draft::rows;
 use crate::octets::put;
 use der::bounds::LONGEST;
-ghost use Rattle.writer.specs.meaning.Writing.{candidate};
+ghost use Rattle.writer.specs.steps.Writing.{candidate};
 ghost use Rattle.writer.specs.steps.Inner.{Lent, Begins};
 
 // Writes the candidate into a scratch and answers its length, or a number above LONGEST if it is too long.

@@ -13,7 +13,7 @@ ghost use mathlib.Core.Bool.{true};
 ghost use lib.ListN.{length};
 ghost use Rattle.der.specs.meaning.Bounds.{longest};
 ghost use Rattle.crmf.specs.meaning.Rows.{width};
-ghost use Rattle.writer.specs.meaning.Writing.{rowsIn, shaped, candidate, shows};
+ghost use Rattle.writer.specs.steps.Writing.{rowsIn, shaped, candidate, shows};
 ghost use Rattle.writer.specs.steps.Inner.{few, Room, AddedUp, Built};
 
 // What a draft is found to describe: a batch, by its length, or nothing.

@@ -7,7 +7,7 @@ use crate::draft::rows;
 ghost use mathlib.Core.Path.{_≡_};
 ghost use Rattle.crmf.specs.meaning.Lists.{same};
 ghost use Rattle.crmf.specs.meaning.Pieces.{pieceOf};
-ghost use Rattle.writer.specs.meaning.Writing.{drafted, samePieces};
+ghost use Rattle.writer.specs.steps.Writing.{drafted, samePieces};
 ghost use Rattle.writer.specs.steps.Inner.{rowOf, samePiece};
 
 // Whether a draft's pieces are the same as another's, row by row.

@@ -7,7 +7,7 @@ ghost use mathlib.Core.List.{_∷_};
 ghost use lib.ListN.{length, drop};
 ghost use lib.Seq.{slice};
 ghost use Rattle.crmf.specs.meaning.Rows.{container as isContainer};
-ghost use Rattle.writer.specs.meaning.Writing.{rowsIn};
+ghost use Rattle.writer.specs.steps.Writing.{rowsIn};
 ghost use Rattle.writer.specs.steps.Inner.{rowOf};
 
 // A row of a draft.

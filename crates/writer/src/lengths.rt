@@ -9,7 +9,7 @@ ghost use lib.ListN.{length};
 ghost use Rattle.der.specs.meaning.Length.{lengthOctets};
 ghost use Rattle.der.specs.meaning.Bounds.{longest};
 ghost use Rattle.crmf.specs.steps.rows.Assembly.{implied};
-ghost use Rattle.writer.specs.meaning.Writing.{mostRows};
+ghost use Rattle.writer.specs.steps.Writing.{mostRows};
 ghost use Rattle.writer.specs.steps.Inner.{rowOf, Stands, Whole};
 
 // The whole length of a row whose children have `inner` octets together; more than LONGEST if it is too long, or if the row is a leaf that

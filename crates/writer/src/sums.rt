@@ -8,7 +8,7 @@ ghost use mathlib.Core.Path.{_≡_};
 ghost use mathlib.Core.Bool.{true};
 ghost use lib.ListN.{length, getD};
 ghost use Rattle.der.specs.meaning.Bounds.{longest};
-ghost use Rattle.writer.specs.meaning.Writing.{rowsIn, mostRows};
+ghost use Rattle.writer.specs.steps.Writing.{rowsIn, mostRows};
 ghost use Rattle.writer.specs.steps.Inner.{sound, Summed, Blank, Added};
 
 // Adds up the sums in a table and answers whether every leaf lies in the slice and no row is too long.

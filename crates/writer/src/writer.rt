@@ -14,15 +14,15 @@ use editions::edition::RFC2511;
 use editions::edition::RFC4211;
 use editions::reader::Answer;
 ghost use mathlib.Core.Path.{_≡_};
-ghost use Rattle.editions.specs.meaning.Reading.{refusal};
-ghost use Rattle.writer.specs.meaning.Writing as spec;
+ghost use Rattle.editions.specs.steps.Reading.{refusal};
+ghost use Rattle.writer.specs.meaning.Writes.{Writes};
+ghost use Rattle.writer.specs.steps.Writing as spec;
 
 // Writes the batch that a draft over `bytes` describes in an edition, and answers its length as the count. Refuses a number that is neither 1
 // nor 2, a draft that describes no batch, and an output that is too short. A refusal leaves the output as it was; otherwise the output
 // begins with the batch, and its other bytes stay.
 pub fn write(edition: usize, draft: &[usize], bytes: &[u8], output: &mut [u8]) -> Answer
-    ensures { λ r. ⌜ (r ≡ spec.writeAnswer edition (now (draft .entry)) (now (bytes .entry)) (now (output .entry)))
-        × (now (output .exit) ≡ spec.outputAfter edition (now (draft .entry)) (now (bytes .entry)) (now (output .entry))) ⌝ }
+    ensures { λ r. ⌜ Writes edition (now (draft .entry)) (now (bytes .entry)) (now (output .entry)) (r .number) (r .place) (r .count) (now (output .exit)) ⌝ }
 {
     if (edition != RFC2511) & (edition != RFC4211) {
         return refuse(UNKNOWN_EDITION);

@@ -4,4 +4,5 @@ pub mod FirstPairs
 pub mod Magnitudes
 pub mod Numbers
 pub mod SearchAnswers
+pub mod SearchesExactly
 pub mod SearchVectors

@@ -1,31 +1,21 @@
--- The duplicate search over the messages' own certReqIds: SPECIFICATION 8. Assumes nothing.
-use Prim.Native.Nat.{ℕ, zero, suc, _-_, _<_, _≤_}
+-- The messages' own certReqIds as signed whole numbers, and the first equal pair of them: SPECIFICATION 8. Assumes nothing.
+use Prim.Native.Nat.{ℕ, _-_, _<_, _≤_}
 use mathlib.Core.Path.{_≡_}
-use mathlib.Core.Bool.{Bool, true, false}
-use mathlib.Core.List.{List, [], _∷_, map}
-use mathlib.Core.Option.{Option, some, none as absent}
-use lib.Dec.{eqb, ltb}
+use mathlib.Core.Bool.{true, false}
+use mathlib.Core.List.{List, map}
+use lib.Dec.{ltb}
 use lib.IntN.{ℤ, pos, negsuc}
-use lib.ListN.{length, getD, take}
-use Rattle.der.specs.meaning.Refusal.{accepted}
+use lib.ListN.{length, getD}
 use Rattle.der.specs.meaning.Length.{valueFrom}
-use Rattle.der.specs.steps.Reading.{tree}
-use Rattle.crmf.specs.meaning.Messages.{Message, messages}
-use Rattle.editions.specs.meaning.Reading.{answer}
-use Rattle.verdict.specs.declared.duplicates.Duplicates.{Duplicates}
+use Rattle.crmf.specs.meaning.Messages.{Message}
 
 -- "a signed whole number": what an INTEGER's octets give in two's complement, the most significant first
 unfoldable pub signed : List ℕ → ℤ
 signed c = elim (ltb (getD c 0 0) 0x80) [ true ↦ pos (valueFrom 0 c) | false ↦ negsuc (valueFrom 0 (map (λ b. 255 - b) c)) ]
 
--- an octet's part in the magnitude of a negative number is its complement
-abbrev pub magnitudeOctet : Bool → ℕ → ℕ
-magnitudeOctet true b = 255 - b
-magnitudeOctet false b = b
-
 -- "messages' own certReqIds", by position
-unfoldable pub ids : List ℕ → List ℤ
-ids s = map (λ (m : Message). signed (m .certReqId .content)) (messages (tree 0 s))
+unfoldable pub ownIds : List Message → List ℤ
+ownIds ms = map (λ (m : Message). signed (m .certReqId .content)) ms
 
 -- Two positions with equal numbers, the earlier first.
 pub record Equal (ns : List ℤ) (earlier later : ℕ) : Type 0 where
@@ -37,39 +27,3 @@ pub record Equal (ns : List ℤ) (earlier later : ℕ) : Type 0 where
 pub record FirstEqual (ns : List ℤ) (earlier later : ℕ) : Type 0 where
   pub pair : Equal ns earlier later
   pub first : (i j : ℕ) → Equal ns i j → (later ≤ j) × (j ≡ later → earlier ≤ i)
-
--- the same number
-abbrev pub sameNumber : ℤ → ℤ → Bool
-sameNumber (pos m) (pos n) = eqb m n
-sameNumber (pos m) (negsuc n) = false
-sameNumber (negsuc m) (pos n) = false
-sameNumber (negsuc m) (negsuc n) = eqb m n
-
--- the first position that has the number k, in a list whose first position is i
-unfoldable pub find : ℤ → ℕ → List ℤ → Option ℕ
-find k i [] = absent
-find k i (n ∷ ns) = elim (sameNumber k n) [ true ↦ some i | false ↦ find k (suc i) ns ]
-
--- the first equal pair whose later position is one of the `more` positions from j on
-unfoldable pub pairFrom : List ℤ → (more j : ℕ) → Option (ℕ × ℕ)
-pairFrom ns zero j = absent
-pairFrom ns (suc more) j =
-    elim (find (getD ns j (pos 0)) 0 (take j ns)) [ some i ↦ some (i, j) | absent ↦ pairFrom ns more (suc j) ]
-
--- the first equal pair
-abbrev pub pairOf : List ℤ → Option (ℕ × ℕ)
-pairOf ns = pairFrom ns (length ns) 0
-
--- what the search answers of a pair; if there is none, the positions are 0 and 0
-abbrev pub searched : Option (ℕ × ℕ) → Duplicates
-searched absent = record { number = accepted; place = 0; found = 0; earlier = 0; later = 0 }
-searched (some p) = record { number = accepted; place = 0; found = 1; earlier = p .0; later = p .1 }
-
--- the answer for every input (SPECIFICATION 8): "Refusals: reading's without 11"
-unfoldable pub duplicatesAnswer : ℕ → List ℕ → Duplicates
-duplicatesAnswer e s =
-    let a = answer e s in
-    elim (eqb (a .number) accepted) [
-      | false ↦ record { number = a .number; place = a .place; found = 0; earlier = 0; later = 0 }
-      | true ↦ searched (pairOf (ids s))
-    ]

@@ -4,17 +4,11 @@ use mathlib.Core.Path.{_≡_}
 use mathlib.Core.Bool.{Bool, true, false, not, _&&_}
 use mathlib.Core.List.{List}
 use mathlib.Core.Option.{some, none as absent}
-use lib.Dec.{eqb, ltb}
-use lib.ListN.{length, getD}
+use lib.Dec.{eqb}
 use lib.Seq.{slice}
 use denote.Ref.{RefT, ptr, now}
-use Rattle.der.specs.meaning.Refusal.{accepted, noSuchMessage}
-use Rattle.der.specs.steps.Reading.{tree}
-use Rattle.crmf.specs.meaning.Fields.{Field, child, missing}
-use Rattle.crmf.specs.meaning.Messages.{Message, messageOf, batch, messages}
-use Rattle.editions.specs.declared.reader.Answer.{Answer}
-use Rattle.editions.specs.meaning.Reading.{answer}
-use Rattle.verdict.specs.declared.verdict.Verdict.{Verdict}
+use Rattle.crmf.specs.meaning.Fields.{Field, child}
+use Rattle.crmf.specs.meaning.Messages.{Message}
 
 -- "0 no proof."
 abbrev pub noProof : ℕ
@@ -98,37 +92,12 @@ signedOf m =
       | false ↦ elim (eqb (verdictOf m) signedPoposkInput) [ true ↦ inputOf m | false ↦ (0, 0) ]
     ]
 
--- no message
-abbrev pub noMessage : List ℕ → Message
-noMessage s = messageOf (missing (batch (tree 0 s)))
-
--- the message at a position, from 0
-abbrev pub messageAt : List ℕ → ℕ → Message
-messageAt s position = getD (messages (tree 0 s)) position (noMessage s)
-
--- a refusal; verdict, place and length of the part are 0
-abbrev pub refused : ℕ → ℕ → Verdict
-refused n p = record { number = n; place = p; verdict = noProof; from = 0; length = 0 }
-
--- the answer with a message's verdict and signed part
-abbrev pub verdictOn : Message → Verdict
-verdictOn m = record { number = accepted; place = 0; verdict = verdictOf m; from = signedOf m .0; length = signedOf m .1 }
-
--- the answer for every input (SPECIFICATION 7): "Refusals: as reading without 11, then 14"
-unfoldable pub verdictAnswer : ℕ → List ℕ → ℕ → Verdict
-verdictAnswer e s position =
-    let a = answer e s in
-    elim (eqb (a .number) accepted) [
-      | false ↦ refused (a .number) (a .place)
-      | true ↦ elim (ltb position (length (messages (tree 0 s)))) [ false ↦ refused noSuchMessage 0 | true ↦ verdictOn (messageAt s position) ]
-    ]
-
--- the octets of the signed part, as a verdict gives its place and length
-abbrev pub signedOctets : List ℕ → Verdict → List ℕ
-signedOctets s v = slice (v .from) (v .from + v .length) s
+-- the octets of a part, by its place and length
+abbrev pub signedOctets : List ℕ → (from size : ℕ) → List ℕ
+signedOctets s from size = slice from (from + size) s
 
 -- "hand back the signed element's bytes as they stand": a part of the bytes that were lent, at the same address, and no copy of them
-pub record HandedBack (bytes part : RefT (List ℕ)) (v : Verdict) : Type 0 where
-  pub octets : now part ≡ signedOctets (now bytes) v
+pub record HandedBack (bytes part : RefT (List ℕ)) (from size : ℕ) : Type 0 where
+  pub octets : now part ≡ signedOctets (now bytes) from size
   pub block : ptr part .0 ≡ ptr bytes .0
-  pub offset : ptr part .1 ≡ ptr bytes .1 + v .from
+  pub offset : ptr part .1 ≡ ptr bytes .1 + from

@@ -7,8 +7,8 @@ use lib.ListN.{length, take}
 use Rattle.der.specs.declared.element.reading.Element.{Element}
 use Rattle.der.specs.meaning.Refusal.{accepted}
 use Rattle.der.specs.steps.Reading.{readAt}
-use Rattle.editions.specs.meaning.Reading.{answer}
-use Rattle.verdict.specs.meaning.Duplicates.{ids}
+use Rattle.editions.specs.steps.Reading.{answer}
+use Rattle.verdict.specs.steps.SearchAnswer.{ids}
 
 -- The bytes of a batch that an edition accepts.
 pub record Accepted (s : List ℕ) : Type 0 where

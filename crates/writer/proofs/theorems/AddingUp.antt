@@ -15,7 +15,7 @@ use Rattle.crmf.specs.meaning.Pieces.{pieceOf, piecesOf}
 use Rattle.crmf.specs.steps.rows.Assembly.{wholeOf, childrenOf, noneLonger}
 use Rattle.crmf.proofs.Laws.{pieces-none, pieces-row, children-none, children-piece, within-none, within-piece, children-bound, pieces-length}
 use Rattle.writer.specs.meaning.Draft.{inside}
-use Rattle.writer.specs.meaning.Writing.{mostRows}
+use Rattle.writer.specs.steps.Writing.{mostRows}
 use Rattle.writer.specs.steps.Inner.{lies, Whole, sound, children, Summed, Blank, Added}
 
 module _ (bytes : List ℕ) where

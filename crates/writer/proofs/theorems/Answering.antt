@@ -12,8 +12,8 @@ use Rattle.der.specs.meaning.Bounds.{longest}
 use Rattle.crmf.specs.meaning.Rows.{width}
 use Rattle.crmf.specs.meaning.Lists.{over}
 use Rattle.editions.specs.declared.reader.Answer.{Answer}
-use Rattle.editions.specs.meaning.Reading.{refusal, accepted}
-use Rattle.writer.specs.meaning.Writing.{mostRows, rowsIn, shaped, candidate, described, writeAnswer, outputAfter}
+use Rattle.editions.specs.steps.Reading.{refusal, accepted}
+use Rattle.writer.specs.steps.Writing.{mostRows, rowsIn, shaped, candidate, described, writeAnswer, outputAfter}
 use Rattle.writer.specs.steps.Inner.{Room}
 
 -- a draft of a batch's shape has no more rows than a batch can have
@@ -62,34 +62,34 @@ either false true is = refl
 either false false is = sym is
 
 module _ (e : ℕ) (draft bytes old : List ℕ) where
-  -- an answer, with the output that it leaves
-  abbrev pub Answers : Answer → List ℕ → Type 0
-  Answers a new = (a ≡ writeAnswer e draft bytes old) × (new ≡ outputAfter e draft bytes old)
+  -- an answer and the output that it leaves are the computed ones
+  abbrev pub Computed : Answer → List ℕ → Type 0
+  Computed a new = (a ≡ writeAnswer e draft bytes old) × (new ≡ outputAfter e draft bytes old)
 
   -- a refusal leaves the output
-  refused : (a : Answer) → a ≡ writeAnswer e draft bytes old → eqb (a .number) 0 ≡ false → Answers a old
+  refused : (a : Answer) → a ≡ writeAnswer e draft bytes old → eqb (a .number) 0 ≡ false → Computed a old
   unfolding outputAfter
   refused a is other = (is, rw (outputAfter, ← is, other))
 
-  pub no-edition : (not (eqb e 1) && not (eqb e 2)) ≡ true → (a : Answer) → a ≡ refusal unknownEdition 0 → Answers a old
+  pub no-edition : (not (eqb e 1) && not (eqb e 2)) ≡ true → (a : Answer) → a ≡ refusal unknownEdition 0 → Computed a old
   unfolding writeAnswer
   no-edition none a is = refused a (is ∙ sym (rw (writeAnswer, neither (eqb e 1) (eqb e 2) none))) (ap (λ (x : Answer). eqb (x .number) 0) is)
 
   module _ (known : (not (eqb e 1) && not (eqb e 2)) ≡ false) where
-    pub no-batch : described e draft bytes ≡ false → (a : Answer) → a ≡ refusal noSuchBatch 0 → Answers a old
+    pub no-batch : described e draft bytes ≡ false → (a : Answer) → a ≡ refusal noSuchBatch 0 → Computed a old
     unfolding writeAnswer
     no-batch nothing a is =
         refused a (is ∙ sym (rw (writeAnswer, either (eqb e 1) (eqb e 2) known, nothing))) (ap (λ (x : Answer). eqb (x .number) 0) is)
 
     module _ (describes : described e draft bytes ≡ true) where
-      pub no-room : length old < length (candidate draft bytes) → (a : Answer) → a ≡ refusal noRoom 0 → Answers a old
+      pub no-room : length old < length (candidate draft bytes) → (a : Answer) → a ≡ refusal noRoom 0 → Computed a old
       unfolding writeAnswer
       no-room short a is =
           refused a (is ∙ sym (rw (writeAnswer, either (eqb e 1) (eqb e 2) known, describes, lt-leb (length (candidate draft bytes)) (length old) short)))
           (ap (λ (x : Answer). eqb (x .number) 0) is)
 
       pub writes : length (candidate draft bytes) ≤ length old → (n : ℕ) → n ≡ length (candidate draft bytes) → (new : List ℕ) → new ≡ over old 0 (candidate draft bytes)
-          → Answers (accepted n) new
+          → Computed (accepted n) new
       unfolding writeAnswer outputAfter
       writes room n size new is =
           let answers : writeAnswer e draft bytes old ≡ accepted (length (candidate draft bytes)) =

@@ -13,7 +13,7 @@ use Rattle.crmf.specs.meaning.Lists.{same}
 use Rattle.crmf.specs.meaning.Rows.{Row, container}
 use Rattle.crmf.specs.meaning.Pieces.{Piece, pieceOf, piecesOf}
 use Rattle.crmf.proofs.Laws.{pieces-none, pieces-row, same-none, same-more, pieces-length}
-use Rattle.writer.specs.meaning.Writing.{samePieces}
+use Rattle.writer.specs.steps.Writing.{samePieces}
 use Rattle.writer.specs.steps.Inner.{samePiece}
 use Rattle.writer.proofs.theorems.WholeLengths.{leaf-octets}
 

@@ -18,10 +18,10 @@ use Rattle.crmf.specs.steps.rows.Assembly.{assembled, noneLonger}
 use Rattle.crmf.proofs.Laws.{Edition, same-octets, same-itself, assembly, rows-few, pieces-short, pieces-octets, pieces-length, numbers-length}
 use Rattle.editions.specs.declared.reader.Answer.{Answer}
 use Rattle.editions.specs.meaning.Membership.{InGrammar}
-use Rattle.editions.specs.meaning.Reading.{answer}
+use Rattle.editions.specs.steps.Reading.{answer}
 use Rattle.editions.proofs.Laws.{nest-rows, in-accepted, accepted-in}
 use Rattle.writer.specs.meaning.Draft.{inside, HasRows}
-use Rattle.writer.specs.meaning.Writing.{rowsIn, mostRows, shaped, drafted, candidate, samePieces, assembles, shows, described}
+use Rattle.writer.specs.steps.Writing.{rowsIn, mostRows, shaped, drafted, candidate, samePieces, assembles, shows, described}
 use Rattle.writer.proofs.theorems.DraftRows.{rows-back, fours}
 
 -- pieces pass the comparison exactly if they are the same

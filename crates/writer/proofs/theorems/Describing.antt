@@ -16,10 +16,10 @@ use Rattle.crmf.specs.meaning.Pieces.{piecesOf}
 use Rattle.crmf.specs.steps.rows.Assembly.{noneLonger}
 use Rattle.crmf.proofs.Laws.{over-holds, pieces-length, fits-room}
 use Rattle.editions.specs.declared.reader.Answer.{Answer}
-use Rattle.editions.specs.meaning.Reading.{answer, readAnswer, tableAfter}
+use Rattle.editions.specs.steps.Reading.{answer, readAnswer, tableAfter}
 use Rattle.editions.proofs.Laws.{answer-counts, shown, with-room, shown-table}
 use Rattle.writer.specs.meaning.Draft.{inside}
-use Rattle.writer.specs.meaning.Writing.{rowsIn, shaped, drafted, candidate, samePieces, shows, described}
+use Rattle.writer.specs.steps.Writing.{rowsIn, shaped, drafted, candidate, samePieces, shows, described}
 use Rattle.writer.specs.steps.Inner.{sound}
 use Rattle.writer.proofs.theorems.Comparing.{other-count}
 use Rattle.writer.proofs.theorems.DraftRows.{rows-back}

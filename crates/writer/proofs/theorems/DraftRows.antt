@@ -7,7 +7,7 @@ use lib.ListN.{length, getD, drop}
 use lib.Seq.{drop-cons}
 use Rattle.crmf.specs.meaning.Rows.{Row, width, numbers}
 use Rattle.crmf.proofs.Laws.{noRow, numbers-none, numbers-row}
-use Rattle.writer.specs.meaning.Writing.{rowsIn}
+use Rattle.writer.specs.steps.Writing.{rowsIn}
 
 -- there are a quarter as many rows as numbers
 pub rows-fours : (d : List ℕ) → length (rowsIn d) ≡ length d / width

@@ -15,7 +15,7 @@ use Rattle.writer.specs.declared.draft.Row.{Row as Given}
 use Rattle.writer.specs.declared.build.Outcome.{Outcome}
 use Rattle.writer.specs.declared.build.Outcome.the-variants.{Batch, Nothing}
 use Rattle.writer.specs.meaning.Draft.{inside}
-use Rattle.writer.specs.meaning.Writing.{mostRows, rowsIn, shaped, drafted, candidate, described}
+use Rattle.writer.specs.steps.Writing.{mostRows, rowsIn, shaped, drafted, candidate, described}
 
 -- a row as the code has it
 abbrev pub rowOf : Given → Row

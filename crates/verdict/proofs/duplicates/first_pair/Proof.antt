@@ -15,7 +15,7 @@ use lib.Signed.{mag}
 use mir.Facts.{toZ-ofZ}
 use mir.Syntax.{w64}
 use mir.Val.{toZ, ofZ}
-use Rattle.verdict.specs.meaning.Duplicates.{sameNumber, searched}
+use Rattle.verdict.specs.steps.SearchAnswer.{sameNumber, searched}
 use Rattle.verdict.proofs.theorems.duplicates.Numbers.{same-equal, same-differs}
 use Rattle.verdict.proofs.theorems.duplicates.FirstPairs.{at, Without, NoneBefore, first-equal, none-here, pair-found, pair-absent}
 use Rattle.verdict.proofs.duplicates.first_pair.Statement.{statement}

@@ -2,7 +2,7 @@
 use mathlib.Core.Path.{sym, ap}
 use mathlib.Core.Bool.{Bool}
 use borrow.Author.Needs.{needs}
-use Rattle.verdict.specs.meaning.Duplicates.{magnitudeOctet}
+use Rattle.verdict.specs.steps.SearchAnswer.{magnitudeOctet}
 use Rattle.verdict.proofs.duplicates.magnitude.Statement.{statement}
 use Rattle.verdict.proofs.duplicates.magnitude.Tie as tie
 

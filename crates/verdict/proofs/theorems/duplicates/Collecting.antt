@@ -18,11 +18,13 @@ use Rattle.crmf.specs.meaning.Notation.{Top}
 use Rattle.crmf.specs.meaning.Grammar.{content}
 use Rattle.crmf.specs.meaning.Language.{Matches}
 use Rattle.crmf.specs.meaning.Rows.{batchRows, allShort}
-use Rattle.crmf.specs.meaning.Fields.{Field, fieldsBetween}
+use Rattle.crmf.specs.meaning.Fields.{Field}
+use Rattle.crmf.specs.steps.Fields.{fieldsBetween}
 use Rattle.crmf.specs.meaning.Messages.{Message, messageOf, messages}
 use Rattle.crmf.proofs.Laws.{MessageParts, batch-content, message-parts, fieldRead, fields-end, fields-at, id-read, batch-read, ids-some, ids-eight, messages-few}
 use Rattle.editions.proofs.Laws.{nest-read, accepted-in}
-use Rattle.verdict.specs.meaning.Duplicates.{signed, ids}
+use Rattle.verdict.specs.meaning.Duplicates.{signed, ownIds}
+use Rattle.verdict.specs.steps.SearchAnswer.{ids}
 use Rattle.verdict.specs.steps.Collecting.{Accepted, mostMessages, Collected, idIn, Short}
 
 -- the messages from a place on
@@ -112,7 +114,7 @@ pub record Walk (s : List ℕ) (numbers : List ℤ) (at count : ℕ) : Type 0 wh
 
 -- the walk begins
 pub walk-start : (s : List ℕ) (numbers : List ℤ) → Known s → length numbers ≡ mostMessages → Walk s numbers (readAt s 0 (length s) .content) 0
-unfolding ids
+unfolding ids ownIds
 walk-start s numbers k room =
     record {
       room = room;
@@ -133,7 +135,7 @@ module _ (s : List ℕ) (numbers : List ℤ) (at count : ℕ) (k : Known s) (w :
   module _ (next : Step s at) where
     -- there is room for one number more
     pub walk-room : count < mostMessages
-    unfolding ids
+    unfolding ids ownIds
     walk-room =
         let front : length (take count numbers) ≡ count = length-take-le count numbers (omega (arith, w .counted, w .room)) in
         let all : length (take count numbers) + length (map idOf (messagesFrom s at)) ≡ length (messages (tree 0 s)) =

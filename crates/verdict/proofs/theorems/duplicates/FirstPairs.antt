@@ -11,7 +11,8 @@ use mathlib.Core.Option.{Option, some, none as absent}
 use lib.IntN.{ℤ, pos}
 use lib.ListN.{length, getD, take}
 use lib.Seq.{length-take-le, getD-take}
-use Rattle.verdict.specs.meaning.Duplicates.{Equal, FirstEqual, sameNumber, find, pairFrom, pairOf}
+use Rattle.verdict.specs.meaning.Duplicates.{Equal, FirstEqual}
+use Rattle.verdict.specs.steps.SearchAnswer.{sameNumber, find, pairFrom, pairOf}
 use Rattle.verdict.proofs.theorems.duplicates.Numbers.{same-equal, same-differs}
 
 -- the number at a position

@@ -1,6 +1,6 @@
 -- The signed whole number that octets give: its magnitude is built octet by octet, and with at most 8 octets the number has 64 bits.
 -- Assumes nothing.
-use Prim.Native.Nat.{ℕ, zero, suc, _+_, _-_, _*_, _^_, _≤_, _<_}
+use Prim.Native.Nat.{ℕ, zero, suc, _+_, _*_, _^_, _≤_, _<_}
 use native.Mathlib.Nat.{lt-of-lt-of-le, mul-le-mul, pow-le-pow-right}
 use native.Mathlib.Numerals.{add-one}
 use native.Mathlib.Omega.{arith}
@@ -15,7 +15,8 @@ use borrow.Author.Tests.{leb-true, leb-false, le-ltb, lt-ltb}
 use Rattle.der.specs.meaning.Octets.{Octets}
 use Rattle.der.specs.meaning.Length.{valueFrom}
 use Rattle.der.proofs.Laws.{value-none, value-more, value-last, value-below, octets-take, octets-none, octets-more, octets-at, octets-rest}
-use Rattle.verdict.specs.meaning.Duplicates.{magnitudeOctet, signed}
+use Rattle.verdict.specs.meaning.Duplicates.{signed}
+use Rattle.verdict.specs.steps.SearchAnswer.{magnitudeOctet}
 
 -- whether the number is negative
 abbrev pub negative : List ℕ → Bool

@@ -9,7 +9,7 @@ use lib.Signed.{mag}
 use borrow.Author.Tests.{eqb-true, eqb-false, eq-eqb, ne-eqb}
 use mir.Syntax.{w64}
 use mir.Val.{ofZ}
-use Rattle.verdict.specs.meaning.Duplicates.{sameNumber}
+use Rattle.verdict.specs.steps.SearchAnswer.{sameNumber}
 
 -- numbers that pass the test are equal
 pub same-equal : (x y : ℤ) → sameNumber x y ≡ true → x ≡ y

@@ -4,22 +4,23 @@ use Prim.Native.Nat.{ℕ}
 use native.Mathlib.Omega.{arith}
 use mathlib.Core.Logic.{_↔_}
 use mathlib.Core.Path.{_≡_, refl, sym, ap, ap₂, _∙_}
-use mathlib.Core.List.{List, map}
+use mathlib.Core.List.{List}
 use mathlib.Core.Option.{Option, some, none as absent}
 use borrow.Author.Tests.{eq-eqb, ne-eqb}
 use Rattle.der.specs.meaning.Refusal.{accepted}
-use Rattle.crmf.specs.meaning.Messages.{Message, messages}
+use Rattle.crmf.specs.meaning.Messages.{messages}
 use Rattle.editions.specs.declared.reader.Answer.{Answer}
 use Rattle.editions.specs.meaning.Membership.{InGrammar}
-use Rattle.editions.specs.meaning.Reading.{answer}
+use Rattle.editions.specs.steps.Reading.{answer}
 use Rattle.editions.proofs.Laws.{nest-read}
 use Rattle.verdict.specs.declared.duplicates.Duplicates.{Duplicates}
-use Rattle.verdict.specs.meaning.Duplicates.{signed, ids, Equal, FirstEqual, pairOf, searched, duplicatesAnswer}
+use Rattle.verdict.specs.meaning.Duplicates.{ownIds, Equal, FirstEqual}
+use Rattle.verdict.specs.steps.SearchAnswer.{ids, pairOf, position, searched, duplicatesAnswer}
 use Rattle.verdict.proofs.theorems.duplicates.FirstPairs.{pair-found, pair-absent}
 
 -- a refusal is passed on
 pub answer-refused : (e : ℕ) (s : List ℕ) (a : Answer) → a ≡ answer e s → (a .number ≡ accepted → ⊥)
-    → _≡_ {A = Duplicates} (record { number = a .number; place = a .place; found = 0; earlier = 0; later = 0 }) (duplicatesAnswer e s)
+    → _≡_ {A = Duplicates} (record { number = a .number; place = a .place; found = 0; earlier = position 0; later = position 0 }) (duplicatesAnswer e s)
 unfolding duplicatesAnswer
 answer-refused e s a is not = rw (is, duplicatesAnswer, ne-eqb (answer e s .number) 0 (rw is at not))
 
@@ -29,7 +30,7 @@ same-pair absent absent e = refl
 same-pair absent (some p) e = absurd (omega (arith, ap (λ (d : Duplicates). d .found) e))
 same-pair (some o) absent e = absurd (omega (arith, ap (λ (d : Duplicates). d .found) e))
 same-pair (some o) (some p) e =
-    ap₂ (λ (i j : ℕ). some (i, j)) (ap (λ (d : Duplicates). d .earlier) e) (ap (λ (d : Duplicates). d .later) e)
+    ap₂ (λ (i j : ℕ). some (i, j)) (ap (λ (d : Duplicates). d .earlier .0) e) (ap (λ (d : Duplicates). d .later .0) e)
 
 module _ (e : ℕ) (s : List ℕ) (zero : answer e s .number ≡ accepted) where
   -- an accepted batch is searched
@@ -52,6 +53,6 @@ module _ (e : ℕ) (s : List ℕ) (zero : answer e s .number ≡ accepted) where
   )
 
 -- The messages that are searched are those of the bytes' one tree: "messages' own certReqIds", and so no carried one.
-pub nest-ids : {e : ℕ} (s : List ℕ) (g : InGrammar e s) → ids s ≡ map (λ (m : Message). signed (m .certReqId .content)) (messages (g .nest))
+pub nest-ids : {e : ℕ} (s : List ℕ) (g : InGrammar e s) → ids s ≡ ownIds (messages (g .nest))
 unfolding ids
-nest-ids s g = ap (λ (ms : List Message). map (λ (m : Message). signed (m .certReqId .content)) ms) (ap messages (nest-read s g))
+nest-ids s g = ap ownIds (ap messages (nest-read s g))

@@ -18,13 +18,14 @@ use Rattle.crmf.specs.meaning.Notation.{among, named, order}
 use Rattle.crmf.specs.meaning.Grammar.{content}
 use Rattle.crmf.specs.steps.grammar.Lines.{partSize, size, startsFrom, start, insideLine, passOf, formLines, nextLine, wayLine, partLines, containerLines, linesFrom, lines}
 use Rattle.crmf.specs.steps.explain.Walk.{line, findLineIn, findLine, closedIn, closed, judged, withForm, withLongId, withElement, walk, emptyTally}
-use Rattle.crmf.specs.meaning.Rows.{firstLong}
+use Rattle.crmf.specs.steps.explain.LongIds.{firstLong}
 use Rattle.crmf.specs.steps.rows.Fill.{goes, rowsFrom, rowsOfInput}
 use Rattle.crmf.specs.meaning.Fields.{fields, missing, nth, child}
 use Rattle.crmf.specs.meaning.Fields
 use Rattle.crmf.specs.meaning.Messages.{messageOf, batch, messages}
-use Rattle.editions.specs.meaning.Reading.{batchAnswer, answer}
-use Rattle.verdict.specs.meaning.Duplicates.{signed, ids, find, pairFrom, searched, duplicatesAnswer}
+use Rattle.editions.specs.steps.Reading.{batchAnswer, answer}
+use Rattle.verdict.specs.meaning.Duplicates.{signed, ownIds}
+use Rattle.verdict.specs.steps.SearchAnswer.{ids, find, pairFrom, searched, duplicatesAnswer}
 
 -- octets and the number that they give
 record Number : Type 0 where
@@ -91,5 +92,5 @@ unfolding tagNumber constructed allowed valueFrom shortest longForm lengthOf siz
     integer lastOf unpadded objectIdentifier holds listOf primitiveOf elementOf walkAt nothingAt given read treeOf tree same isUpTo keeps typeNumber selected
     among named order content partSize size startsFrom start insideLine passOf formLines nextLine wayLine partLines containerLines linesFrom lines
     line findLineIn findLine closedIn closed judged withForm withLongId withElement walk emptyTally firstLong goes rowsFrom rowsOfInput fields missing nth Fields.firstWith child messageOf batch messages
-    batchAnswer answer cases signed ids find pairFrom duplicatesAnswer
+    batchAnswer answer cases signed ownIds ids find pairFrom duplicatesAnswer
 searches = (refl, refl) & (refl, refl) & (refl, refl) & (refl, refl) & tt

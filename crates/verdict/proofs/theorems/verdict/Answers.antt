@@ -7,8 +7,8 @@ use borrow.Author.Tests.{eq-eqb, ne-eqb, lt-ltb, le-ltb}
 use Rattle.der.specs.meaning.Refusal.{accepted, noSuchMessage}
 use Rattle.der.specs.steps.Reading.{tree}
 use Rattle.crmf.specs.meaning.Messages.{messages}
-use Rattle.editions.specs.meaning.Reading.{answer}
-use Rattle.verdict.specs.meaning.Verdict.{refused, verdictOn, messageAt, verdictAnswer}
+use Rattle.editions.specs.steps.Reading.{answer}
+use Rattle.verdict.specs.steps.JudgeAnswer.{refused, verdictOn, messageAt, verdictAnswer}
 
 module _ (e : ℕ) (s : List ℕ) (position : ℕ) where
   pub answer-refused : (answer e s .number ≡ accepted → ⊥) → refused (answer e s .number) (answer e s .place) ≡ verdictAnswer e s position

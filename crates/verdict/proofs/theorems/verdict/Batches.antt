@@ -16,13 +16,14 @@ use Rattle.der.proofs.Laws.{tree-end, single-none}
 use Rattle.crmf.specs.meaning.Notation.{Top}
 use Rattle.crmf.specs.meaning.Grammar.{content}
 use Rattle.crmf.specs.meaning.Language.{Matches}
-use Rattle.crmf.specs.meaning.Fields.{Field, fields, fieldsBetween, missing}
+use Rattle.crmf.specs.meaning.Fields.{Field, fields, missing}
+use Rattle.crmf.specs.steps.Fields.{fieldsBetween}
 use Rattle.crmf.specs.meaning.Messages.{Message, messageOf, batch, messages}
 use Rattle.crmf.proofs.Laws.{fieldAt, fields-end, fields-at, batch-at, messages-inside, message-field, MessageParts, batch-content, message-parts}
 use Rattle.editions.specs.meaning.Membership.{InGrammar}
-use Rattle.editions.specs.meaning.Reading.{answer}
+use Rattle.editions.specs.steps.Reading.{answer}
 use Rattle.editions.proofs.Laws.{accepted-in, nest-read}
-use Rattle.verdict.specs.meaning.Verdict.{noMessage, messageAt}
+use Rattle.verdict.specs.steps.JudgeAnswer.{noMessage, messageAt}
 use Rattle.verdict.specs.steps.Judging.{Places}
 use Rattle.verdict.proofs.theorems.verdict.Elements.{content-places}
 use Rattle.verdict.proofs.theorems.verdict.MessagePlaces.{inside-read, thirty-made}

@@ -13,7 +13,8 @@ use borrow.Author.Tests.{eq-eqb, ne-eqb}
 use Rattle.der.specs.declared.element.reading.Element.{Element}
 use Rattle.der.specs.steps.Reading.{readAt}
 use Rattle.der.proofs.Laws.{InOrder, read-at-in-order, read-at-within}
-use Rattle.crmf.specs.meaning.Fields.{Field, fieldsBetween, firstWith}
+use Rattle.crmf.specs.meaning.Fields.{Field, firstWith}
+use Rattle.crmf.specs.steps.Fields.{fieldsBetween}
 use Rattle.crmf.proofs.Laws.{fieldAt, fields-end, fields-at, first-with-none, first-with-here, first-with-next}
 use Rattle.verdict.specs.declared.verdict.Extent.{Extent}
 use Rattle.verdict.specs.steps.Judging.{Places, partOf, FieldFound}

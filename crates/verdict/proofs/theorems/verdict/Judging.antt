@@ -15,7 +15,8 @@ use Rattle.crmf.specs.meaning.Fields.{Field, fields, firstWith, child}
 use Rattle.crmf.specs.meaning.Messages.{Message, proofs}
 use Rattle.crmf.proofs.Laws.{proof-cases, child-first}
 use Rattle.verdict.specs.declared.verdict.Extent.{Extent}
-use Rattle.verdict.specs.meaning.Verdict.{keyAgreement, misplacedDhMac, noProof, raVerified, otherSignature, signedPoposkInput, signedCertReq, has, hasSubjectAndKey, signatureVerdict, enciphermentVerdict, agreementVerdict, verdictOf, inputOf, signedOf, verdictOn}
+use Rattle.verdict.specs.meaning.Verdict.{keyAgreement, misplacedDhMac, noProof, raVerified, otherSignature, signedPoposkInput, signedCertReq, has, hasSubjectAndKey, signatureVerdict, enciphermentVerdict, agreementVerdict, verdictOf, inputOf, signedOf}
+use Rattle.verdict.specs.steps.JudgeAnswer.{verdictOn}
 use Rattle.verdict.specs.steps.Judging.{partOf, holds, FieldFound, told, bare, signatureAnswer, proofAnswer}
 
 -- by the identifier of the element after the certReq

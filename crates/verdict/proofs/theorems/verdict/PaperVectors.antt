@@ -16,23 +16,24 @@ use Rattle.crmf.specs.meaning.Notation.{among, named, order}
 use Rattle.crmf.specs.meaning.Grammar.{content}
 use Rattle.crmf.specs.steps.grammar.Lines.{partSize, size, startsFrom, start, insideLine, passOf, formLines, nextLine, wayLine, partLines, containerLines, linesFrom, lines}
 use Rattle.crmf.specs.steps.explain.Walk.{line, findLineIn, findLine, closedIn, closed, judged, withForm, withLongId, withElement, walk, emptyTally}
-use Rattle.crmf.specs.meaning.Rows.{firstLong}
+use Rattle.crmf.specs.steps.explain.LongIds.{firstLong}
 use Rattle.crmf.specs.steps.rows.Fill.{goes, rowsFrom, rowsOfInput}
 use Rattle.crmf.specs.meaning.Fields.{fields, missing, nth, child}
 use Rattle.crmf.specs.meaning.Fields
 use Rattle.crmf.specs.meaning.Messages.{messageOf, batch, messages}
-use Rattle.editions.specs.meaning.Reading.{batchAnswer, answer}
+use Rattle.editions.specs.steps.Reading.{batchAnswer, answer}
 use Rattle.editions.specs.examples.Paper.{Entry, entries}
-use Rattle.editions.proofs.Laws.{Reads, paper as read-paper}
-use Rattle.verdict.specs.meaning.Verdict.{verdictOf, signedOf, verdictAnswer}
+use Rattle.editions.proofs.Laws.{ReadsEntry, paper as read-paper}
+use Rattle.verdict.specs.meaning.Verdict.{verdictOf, signedOf}
+use Rattle.verdict.specs.steps.JudgeAnswer.{verdictAnswer}
 
 -- the verdicts on an entry's messages, from a position on
-abbrev pub Judges : Entry → ℕ → List ℕ → Type 0
-Judges x i [] = Unit {0}
-Judges x i (v ∷ vs) =
-    (verdictAnswer (x .edition) (x .octets) i .number ≡ 0) × (verdictAnswer (x .edition) (x .octets) i .verdict ≡ v) × Judges x (suc i) vs
+abbrev pub JudgesEntry : Entry → ℕ → List ℕ → Type 0
+JudgesEntry x i [] = Unit {0}
+JudgesEntry x i (v ∷ vs) =
+    (verdictAnswer (x .edition) (x .octets) i .number ≡ 0) × (verdictAnswer (x .edition) (x .octets) i .verdict ≡ v) × JudgesEntry x (suc i) vs
 
-judgings : Each (λ x. Judges x 0 (x .verdicts)) entries
+judgings : Each (λ x. JudgesEntry x 0 (x .verdicts)) entries
 unfolding tagNumber constructed allowed valueFrom shortest longForm lengthOf sizedBy headOf
     integer lastOf unpadded objectIdentifier holds listOf primitiveOf elementOf walkAt nothingAt given read treeOf tree same isUpTo keeps typeNumber selected
     among named order content partSize size startsFrom start insideLine passOf formLines nextLine wayLine partLines containerLines linesFrom lines
@@ -50,5 +51,5 @@ both P Q [] p q = tt
 both P Q (x ∷ xs) p q = (p .0, q .0) & both P Q xs (p .1) (q .1)
 
 -- Every entry of the list is read and judged as document 01 says.
-pub paper : Each (λ x. Reads x × Judges x 0 (x .verdicts)) entries
-paper = both Reads (λ x. Judges x 0 (x .verdicts)) entries read-paper judgings
+pub paper : Each (λ x. ReadsEntry x × JudgesEntry x 0 (x .verdicts)) entries
+paper = both ReadsEntry (λ x. JudgesEntry x 0 (x .verdicts)) entries read-paper judgings

@@ -9,10 +9,10 @@ use Rattle.der.specs.meaning.Refusal.{noSuchMessage}
 use Rattle.der.specs.meaning.Octets.{Octets}
 use Rattle.der.specs.steps.Reading.{tree}
 use Rattle.crmf.specs.meaning.Messages.{messages}
-use Rattle.editions.specs.meaning.Reading.{answer}
+use Rattle.editions.specs.steps.Reading.{answer}
 use Rattle.editions.proofs.Laws.{answer-number}
 use Rattle.verdict.specs.declared.verdict.Verdict.{Verdict}
-use Rattle.verdict.specs.meaning.Verdict.{refused, verdictOn, messageAt, verdictAnswer}
+use Rattle.verdict.specs.steps.JudgeAnswer.{refused, verdictOn, messageAt, verdictAnswer}
 
 -- the verdict answers a number of at most 14, the largest of its refusals
 pub verdict-number : (e : ℕ) (s : List ℕ) (position : ℕ) → Octets s → verdictAnswer e s position .number ≤ noSuchMessage

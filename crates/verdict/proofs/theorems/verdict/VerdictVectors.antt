@@ -17,13 +17,14 @@ use Rattle.crmf.specs.meaning.Notation.{among, named, order}
 use Rattle.crmf.specs.meaning.Grammar.{content}
 use Rattle.crmf.specs.steps.grammar.Lines.{partSize, size, startsFrom, start, insideLine, passOf, formLines, nextLine, wayLine, partLines, containerLines, linesFrom, lines}
 use Rattle.crmf.specs.steps.explain.Walk.{line, findLineIn, findLine, closedIn, closed, judged, withForm, withLongId, withElement, walk, emptyTally}
-use Rattle.crmf.specs.meaning.Rows.{firstLong}
+use Rattle.crmf.specs.steps.explain.LongIds.{firstLong}
 use Rattle.crmf.specs.steps.rows.Fill.{goes, rowsFrom, rowsOfInput}
 use Rattle.crmf.specs.meaning.Fields.{fields, missing, nth, child}
 use Rattle.crmf.specs.meaning.Fields
 use Rattle.crmf.specs.meaning.Messages.{messageOf, batch, messages}
-use Rattle.editions.specs.meaning.Reading.{batchAnswer, answer}
-use Rattle.verdict.specs.meaning.Verdict.{verdictOf, signedOf, verdictAnswer}
+use Rattle.editions.specs.steps.Reading.{batchAnswer, answer}
+use Rattle.verdict.specs.meaning.Verdict.{verdictOf, signedOf}
+use Rattle.verdict.specs.steps.JudgeAnswer.{verdictAnswer}
 
 -- A message's certReq and proof, and what is answered of it: the verdict, and the place and length of the signed part.
 pub record Case : Type 0 where

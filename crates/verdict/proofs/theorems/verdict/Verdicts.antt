@@ -20,10 +20,11 @@ use Rattle.crmf.specs.meaning.Fields.{Field, octets, StandsAt}
 use Rattle.crmf.specs.meaning.Messages.{proofs, Message, messages}
 use Rattle.crmf.proofs.Laws.{IfAny, MessageParts, message-parts, messages-stand, proof-child-stands, child-identified, stands-part}
 use Rattle.editions.specs.meaning.Membership.{InGrammar}
-use Rattle.editions.specs.meaning.Reading.{answer}
+use Rattle.editions.specs.steps.Reading.{answer}
 use Rattle.editions.proofs.Laws.{nest-read}
 use Rattle.verdict.specs.declared.verdict.Verdict.{Verdict}
-use Rattle.verdict.specs.meaning.Verdict.{signedPoposkInput, signedCertReq, verdictOf, signedOf, messageAt, refused, verdictOn, verdictAnswer, signedOctets}
+use Rattle.verdict.specs.meaning.Verdict.{signedPoposkInput, signedCertReq, verdictOf, signedOf, signedOctets}
+use Rattle.verdict.specs.steps.JudgeAnswer.{messageAt, refused, verdictOn, verdictAnswer}
 use Rattle.verdict.proofs.theorems.verdict.Answers.{answer-refused, answer-missing, answer-judged}
 use Rattle.verdict.proofs.theorems.verdict.Batches.{Accepted, accepted-tree, position-member}
 use Rattle.verdict.proofs.theorems.verdict.Judging.{SignedInput, input-is, input-there, judged-none, signed-request, signed-input, signed-nothing}
@@ -129,17 +130,17 @@ module _ (e : ℕ) (s : List ℕ) (position : ℕ) (known : Octets s) where
   verdict-of : (j : Judged e s position) {v : ℕ} → told .verdict ≡ v → verdictOf message ≡ v
   verdict-of j is = sym (ap (λ (v : Verdict). v .verdict) (j .same)) ∙ is
 
-  octets-of : Judged e s position → signedOctets s told ≡ partFrom s (signedOf message)
-  octets-of j = ap (signedOctets s) (j .same)
+  octets-of : Judged e s position → signedOctets s (told .from) (told .length) ≡ partFrom s (signedOf message)
+  octets-of j = ap (λ (v : Verdict). signedOctets s (v .from) (v .length)) (j .same)
 
   none-refused : (r : Refused e s position) {v : ℕ} → told .verdict ≡ v → v ≡ 0
   none-refused r is = sym is ∙ ap (λ (v : Verdict). v .verdict) (r .same)
 
   -- With verdict 2 it is the octets of the message's certReq.
-  pub request-signed : told .verdict ≡ signedCertReq → signedOctets s told ≡ octets (message .certReq)
+  pub request-signed : told .verdict ≡ signedCertReq → signedOctets s (told .from) (told .length) ≡ octets (message .certReq)
   request-signed two = by-way (verdict-ways e s position)
     where
-      by-way : Judged e s position ⊎ Refused e s position → signedOctets s told ≡ octets (message .certReq)
+      by-way : Judged e s position ⊎ Refused e s position → signedOctets s (told .from) (told .length) ≡ octets (message .certReq)
       by-way (inl j) =
           octets-of j
           ∙ ap (partFrom s) (signed-request message (verdict-of j two))
@@ -147,10 +148,10 @@ module _ (e : ℕ) (s : List ℕ) (position : ℕ) (known : Octets s) where
       by-way (inr r) = absurd (omega (arith, none-refused r two))
 
   -- With verdict 3 it is the octets of the poposkInput, from its A0 on.
-  pub input-signed : told .verdict ≡ signedPoposkInput → (i : SignedInput message) × ((i .input .identifier ≡ 0xA0) × (signedOctets s told ≡ octets (i .input)))
+  pub input-signed : told .verdict ≡ signedPoposkInput → (i : SignedInput message) × ((i .input .identifier ≡ 0xA0) × (signedOctets s (told .from) (told .length) ≡ octets (i .input)))
   input-signed three = by-way (verdict-ways e s position)
     where
-      by-way : Judged e s position ⊎ Refused e s position → (i : SignedInput message) × ((i .input .identifier ≡ 0xA0) × (signedOctets s told ≡ octets (i .input)))
+      by-way : Judged e s position ⊎ Refused e s position → (i : SignedInput message) × ((i .input .identifier ≡ 0xA0) × (signedOctets s (told .from) (told .length) ≡ octets (i .input)))
       by-way (inl j) =
           let n = position-member s position (j .within) in
           let i = input-read s (tree-of j) message n (verdict-of j three) in (
@@ -163,15 +164,15 @@ module _ (e : ℕ) (s : List ℕ) (position : ℕ) (known : Octets s) where
       by-way (inr r) = absurd (omega (arith, none-refused r three))
 
   -- With any other verdict, and with a refusal, it is empty.
-  pub nothing-signed : (told .verdict ≡ signedCertReq → ⊥) → (told .verdict ≡ signedPoposkInput → ⊥) → signedOctets s told ≡ []
+  pub nothing-signed : (told .verdict ≡ signedCertReq → ⊥) → (told .verdict ≡ signedPoposkInput → ⊥) → signedOctets s (told .from) (told .length) ≡ []
   nothing-signed two three = by-way (verdict-ways e s position)
     where
-      by-way : Judged e s position ⊎ Refused e s position → signedOctets s told ≡ []
+      by-way : Judged e s position ⊎ Refused e s position → signedOctets s (told .from) (told .length) ≡ []
       by-way (inl j) =
           octets-of j
           ∙ ap (partFrom s)
           (signed-nothing message (λ is. two (ap (λ (v : Verdict). v .verdict) (j .same) ∙ is)) (λ is. three (ap (λ (v : Verdict). v .verdict) (j .same) ∙ is)))
-      by-way (inr r) = ap (signedOctets s) (r .same)
+      by-way (inr r) = ap (λ (v : Verdict). signedOctets s (v .from) (v .length)) (r .same)
 
   -- It always lies within the bytes.
   pub part-within : told .from + told .length ≤ length s

@@ -6,7 +6,8 @@ use mathlib.Core.Path.{_≡_, refl, _∙_}
 use mathlib.Core.List.{[], _∷_}
 use borrow.Author.Needs.{needs}
 use Rattle.der.proofs.Laws.{InOrder}
-use Rattle.crmf.specs.meaning.Fields.{fieldsBetween, firstWith}
+use Rattle.crmf.specs.meaning.Fields.{firstWith}
+use Rattle.crmf.specs.steps.Fields.{fieldsBetween}
 use Rattle.verdict.specs.steps.Judging.{Places}
 use Rattle.verdict.proofs.theorems.verdict.Elements.{found-as, find-end, next-in-order, after-places, find-here, find-next}
 use Rattle.verdict.proofs.verdict.find.Statement.{statement}

@@ -2,7 +2,8 @@
 use borrow.Author.Needs.{needs}
 use mathlib.Core.Path.{ap, ap₂, _∙_}
 use mathlib.Core.Option.{some}
-use Rattle.crmf.specs.meaning.Fields.{Field, fieldsBetween, listed}
+use Rattle.crmf.specs.meaning.Fields.{Field, listed}
+use Rattle.crmf.specs.steps.Fields.{fieldsBetween}
 use Rattle.verdict.specs.steps.Judging.{Places, partOf, proofAnswer}
 use Rattle.verdict.proofs.theorems.verdict.Elements.{read-forward, content-places, after-places}
 use Rattle.verdict.proofs.theorems.verdict.MessagePlaces.{request-read, request-held, proof-read}

@@ -2,11 +2,13 @@
 use Prim.Native.Nat.{_+_, _≤_}
 use native.Mathlib.Nat.{add-sub-cancel-left}
 use native.Mathlib.Omega.{arith}
-use mathlib.Core.Path.{refl}
+use mathlib.Core.Path.{refl, subst}
 use borrow.Author.Needs.{needs}
 use lib.ListN.{length}
 use Rattle.der.proofs.Laws.{take-drop, octets-each}
+use Rattle.verdict.specs.declared.verdict.Verdict.{Verdict}
 use Rattle.verdict.proofs.theorems.verdict.Verdicts.{part-within}
+use Rattle.verdict.proofs.theorems.verdict.JudgesExactly.{related-verdict}
 use Rattle.verdict.proofs.verdict.signed_part.Statement.{statement}
 use Rattle.verdict.proofs.verdict.signed_part.Tie as tie
 
@@ -17,7 +19,9 @@ judge-requires c κs = search needs
 fits : (c : tie.After-judge) → c .judge .result .from + c .judge .result .length ≤ length (c .before .before .args .bytes .now)
 fits c =
     let a = c .before .before .args in
-    rw (c .judge .ensures) (part-within (a .edition) (a .bytes .now) (a .position .0) (octets-each (a .bytes .now) (λ i. c .before .shared-slice-known .given i .fits)))
+    let octets = octets-each (a .bytes .now) (λ i. c .before .shared-slice-known .given i .fits) in
+    let same = related-verdict (a .edition) (a .bytes .now) (a .position .0) octets _ _ _ _ _ (c .judge .ensures) in
+    subst (λ (v : Verdict). v .from + v .length ≤ length (a .bytes .now)) same (part-within (a .edition) (a .bytes .now) (a .position .0) octets)
 
 add-end : tie.Need-add-end
 add-end c = omega (arith, fits (c .before))
@@ -36,12 +40,19 @@ returns c =
     let told = c .before .before .judge in
     let v = told .result in
     let s = c .before .before .before .before .args .bytes .now in
-    rw (← told .ensures)
-    (record {
-      octets = rw (add-sub-cancel-left (v .from) (v .length)) (take-drop (v .length) (v .from) s);
-      block = refl;
-      offset = omega arith;
-    })
+    record {
+      number = v .number;
+      place = v .place;
+      verdict = v .verdict;
+      from = v .from;
+      size = v .length;
+      answer = told .ensures;
+      handed = record {
+        octets = rw (add-sub-cancel-left (v .from) (v .length)) (take-drop (v .length) (v .from) s);
+        block = refl;
+        offset = omega arith;
+      };
+    }
 
 pub signed-part-spec : {M : Type 1} → statement M
 signed-part-spec =

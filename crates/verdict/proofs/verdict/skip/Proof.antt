@@ -5,7 +5,7 @@ use native.Mathlib.Omega.{arith}
 use mathlib.Core.Path.{_≡_, refl, sym, ap, _∙_}
 use borrow.Author.Needs.{needs}
 use lib.ListN.{drop}
-use Rattle.crmf.specs.meaning.Fields.{fieldsBetween}
+use Rattle.crmf.specs.steps.Fields.{fieldsBetween}
 use Rattle.verdict.specs.steps.Judging.{Places}
 use Rattle.verdict.proofs.theorems.verdict.Elements.{skip-end, after-places, skip-next}
 use Rattle.verdict.proofs.verdict.skip.Statement.{statement}

@@ -2,7 +2,7 @@
 use borrow.Author.Needs.{needs}
 use Prim.Native.Nat.{_-_, _<_}
 use lib.ListN.{length, getD}
-use Rattle.writer.specs.meaning.Writing.{rowsIn}
+use Rattle.writer.specs.steps.Writing.{rowsIn}
 use Rattle.writer.specs.steps.Inner.{rowOf}
 use Rattle.writer.proofs.theorems.Assembling.{Joined, joined-first, joined-last, joined-next, joined-stops, row-fits}
 use native.Mathlib.Omega.{arith}

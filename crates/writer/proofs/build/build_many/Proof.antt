@@ -4,7 +4,7 @@ use Rattle.writer.proofs.theorems.Answering.{shaped-few, zeros-room}
 use native.Mathlib.Omega.{arith}
 use Prim.Native.Nat.{_*_}
 use Rattle.crmf.specs.meaning.Rows.{width}
-use Rattle.writer.specs.meaning.Writing.{mostRows}
+use Rattle.writer.specs.steps.Writing.{mostRows}
 use Rattle.writer.proofs.build.build_many.Statement.{statement}
 use Rattle.writer.proofs.build.build_many.Tie as tie
 

@@ -2,16 +2,15 @@
 -- Assumes nothing.
 use borrow.Author.Needs.{needs}
 use borrow.Author.Tests.{lt-leb, le-leb}
-use lib.Dec.{leb}
-use lib.ListN.{length, take}
+use lib.ListN.{take}
 use lib.Seq.{length-take-le}
-use mathlib.Core.Bool.{true, and-eq-true-iff}
+use mathlib.Core.Bool.{and-eq-true-iff}
 use mathlib.Core.Path.{_≡_, sym, _∙_}
 use native.Mathlib.Omega.{arith}
 use Rattle.der.specs.meaning.Bounds.{longest}
 use Rattle.crmf.specs.steps.rows.Assembly.{noneLonger}
 use Rattle.writer.specs.meaning.Draft.{inside}
-use Rattle.writer.specs.meaning.Writing.{rowsIn, drafted, candidate, shows, described}
+use Rattle.writer.specs.steps.Writing.{rowsIn, drafted, candidate, shows, described}
 use Rattle.writer.proofs.theorems.Describing.{too-long, by-showing}
 use Rattle.writer.proofs.build.build_summed.Statement.{statement}
 use Rattle.writer.proofs.build.build_summed.Tie as tie

@@ -11,9 +11,10 @@ use Rattle.der.specs.meaning.Octets.{Octets}
 use Rattle.der.specs.meaning.Refusal.{accepted}
 use Rattle.crmf.specs.meaning.Rows.{width}
 use Rattle.editions.specs.declared.reader.Answer.{Answer}
-use Rattle.editions.specs.meaning.Reading.{readAnswer}
+use Rattle.editions.specs.steps.Reading.{readAnswer, tableAfter}
+use Rattle.editions.proofs.Laws.{related-reading}
 use Rattle.der.proofs.Laws.{octets-each}
-use Rattle.writer.specs.meaning.Writing.{drafted, samePieces, shows}
+use Rattle.writer.specs.steps.Writing.{drafted, samePieces, shows}
 use Rattle.writer.proofs.theorems.Describing.{read-refuses, read-room, read-shows}
 use Rattle.writer.proofs.build.is_shown.Statement.{statement}
 use Rattle.writer.proofs.build.is_shown.Tie as tie
@@ -28,6 +29,14 @@ entry reading = known reading .before .before .before
 octets : (reading : tie.After-read) → Octets (entry reading .args .batch .now)
 octets reading = octets-each (entry reading .args .batch .now) (λ i. known reading .shared-slice-known3 .given i .fits)
 
+-- what reading the candidate answers, and the table afterwards
+answered : (reading : tie.After-read) → let a = entry reading .args in
+    (reading .read .result ≡ readAnswer (a .edition) (a .batch .now) (a .table .now)) × (reading .read .last .1 .1 .0 ≡ tableAfter (a .edition) (a .batch .now) (a .table .now))
+answered reading =
+    let a = entry reading .args in
+    let (same, after) = related-reading (a .edition) (a .batch .now) (a .table .now) (octets reading) _ _ _ _ (reading .read .ensures) in
+    (sym same, sym after)
+
 read-requires : tie.Need-read-requires
 read-requires c κs = search needs
 
@@ -41,7 +50,7 @@ returns c =
     let pre = entry reading .pre in
     sym
     (read-refuses (a .edition) (a .draft .now) (a .bytes .now) (a .batch .now) (pre .0) (octets reading) (a .table .now) (pre .1)
-    (λ zero. c .if1 .taken (ap (λ (x : Answer). x .number) (reading .read .ensures .0) ∙ zero)))
+    (λ zero. c .if1 .taken (ap (λ (x : Answer). x .number) (answered reading .0) ∙ zero)))
 
 -- the candidate is accepted
 module _ (c : tie.Else1) where
@@ -52,14 +61,14 @@ module _ (c : tie.Else1) where
   table = reading .read .last .1 .1 .0
 
   zero : let a = entry reading .args in readAnswer (a .edition) (a .batch .now) (a .table .now) .number ≡ accepted
-  zero = ap (λ (x : Answer). x .number) (sym (reading .read .ensures .0)) ∙ c .if1 .left
+  zero = ap (λ (x : Answer). x .number) (sym (answered reading .0)) ∙ c .if1 .left
 
   -- its rows lie within the table,
   room : width * reading .read .result .count ≤ length table
   room =
       let a = entry reading .args in
       let enough = read-room (a .edition) (a .draft .now) (a .bytes .now) (a .batch .now) (entry reading .pre .0) (octets reading) (a .table .now) zero in
-      omega (arith, enough, reading .read .kept .1 .1 .0, ap (λ (x : Answer). x .count) (reading .read .ensures .0))
+      omega (arith, enough, reading .read .kept .1 .1 .0, ap (λ (x : Answer). x .count) (answered reading .0))
 
   -- and decide
   by-table : let a = entry reading .args in
@@ -69,7 +78,7 @@ module _ (c : tie.Else1) where
       let a = entry reading .args in
       read-shows (a .edition) (a .draft .now) (a .bytes .now) (a .batch .now) (entry reading .pre .0) (octets reading) (a .table .now) zero
       ∙ ap₂ (λ (n : ℕ) (l : List ℕ). samePieces (drafted (a .draft .now) (a .bytes .now)) (drafted (take (width * n) l) (a .batch .now)))
-      (ap (λ (x : Answer). x .count) (sym (reading .read .ensures .0))) (sym (reading .read .ensures .1))
+      (ap (λ (x : Answer). x .count) (sym (answered reading .0))) (sym (answered reading .1))
 
 mul-end : tie.Need-mul-end
 mul-end c = omega (arith, room (c .before), reading (c .before) .read .kept .1 .1 .0, entry (reading (c .before)) .good)

@@ -4,7 +4,7 @@ use Prim.Native.Nat.{_+_, _-_, _≤_}
 use mathlib.Core.Path.{_≡_, refl, sym, ap, _∙_}
 use mathlib.Core.Bool.{Bool, _&&_}
 use borrow.Author.Tests.{not-true, not-false}
-use Rattle.writer.specs.meaning.Writing.{rowsIn}
+use Rattle.writer.specs.steps.Writing.{rowsIn}
 use Rattle.writer.specs.steps.Inner.{rowOf}
 use Rattle.writer.proofs.theorems.Comparing.{from, other-rows, from-end, from-row}
 use native.Mathlib.Omega.{arith}

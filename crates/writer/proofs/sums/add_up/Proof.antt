@@ -2,7 +2,7 @@
 use borrow.Author.Needs.{needs}
 use Prim.Native.Nat.{ℕ, _-_}
 use mathlib.Core.Path.{sym, subst}
-use Rattle.writer.specs.meaning.Writing.{rowsIn}
+use Rattle.writer.specs.steps.Writing.{rowsIn}
 use Rattle.writer.specs.steps.Inner.{rowOf}
 use Rattle.writer.proofs.theorems.AddingUp.{Settled, settled-last, settled-first, settled-before, settled-next, settled-stops, sum-bound}
 use native.Mathlib.Omega.{arith}

@@ -6,7 +6,7 @@ use mathlib.Core.Bool.{_&&_}
 use lib.Dec.{eqb, leb}
 use lib.ListN.{length}
 use Rattle.crmf.specs.meaning.Rows.{width}
-use Rattle.writer.specs.meaning.Writing.{mostRows}
+use Rattle.writer.specs.steps.Writing.{mostRows}
 use Rattle.writer.proofs.theorems.DraftRows.{rows-room}
 use native.Mathlib.Omega.{arith}
 use Rattle.writer.proofs.writer.shaped.Statement.{statement}

@@ -1,5 +1,5 @@
--- Writing a draft in an edition, the answer and the output for every input: SPECIFICATION 6. The refusals are in document 01's order.
--- Assumes nothing.
+-- The answer and the output of writing a draft in an edition, computed: the only batch that can have the rows is put together, read and
+-- compared. A theorem (`writes-exactly`) ties it to the meaning. Assumes nothing.
 use Prim.Native.Nat.{ℕ, _*_}
 use mathlib.Core.Bool.{Bool, true, false, _&&_, _||_}
 use mathlib.Core.List.{List, [], _∷_}
@@ -14,7 +14,7 @@ use Rattle.crmf.specs.meaning.Pieces.{Piece, piecesOf}
 use Rattle.crmf.specs.steps.rows.Assembly.{assembled, noneLonger}
 use Rattle.editions.specs.declared.reader.Answer.{Answer}
 use Rattle.editions.specs.meaning.Edition.{rfc2511, rfc4211}
-use Rattle.editions.specs.meaning.Reading.{refusal, accepted, answer}
+use Rattle.editions.specs.steps.Reading.{refusal, accepted, answer}
 use Rattle.writer.specs.meaning.Draft.{inside}
 
 -- the rows of a draft, each four of its numbers; fewer than four after the last row are ignored
