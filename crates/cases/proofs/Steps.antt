@@ -3,12 +3,13 @@ use Prim.Native.Nat.{ℕ, zero, suc, _+_, _-_, _*_, _%_, _≤_, _<_}
 use native.Mathlib.Numerals.{add-one}
 use native.Mathlib.Omega.{arith}
 use mathlib.Core.Path.{_≡_, sym, ap}
-use mathlib.Core.Bool.{Bool, true, false}
+use mathlib.Core.Bool.{Bool, true, false, _||_}
+use lib.Dec.{eqb}
 use mathlib.Core.List.{List}
 use lib.ListN.{getD, set}
 use borrow.Author.Tests.{eq-eqb, ne-eqb, lt-ltb, le-ltb, le-leb, lt-leb}
 use Rattle.cases.specs.declared.case.Case.{Case}
-use Rattle.cases.specs.Reading.{size, Filled, filled, pushed, pushedAgain, pushedPart, repeated, tokenAt, wholeLine, tokenEnded, digitOf, largest, withDigit, withOctets, withCount, withCountDigit, withOctetDigit, readNext}
+use Rattle.cases.specs.Reading.{size, Filled, filled, pushed, pushedAgain, pushedPart, repeated, tokenAt, tokenEnded, digitOf, withOctets, withCount, withCountDigit, withOctetDigit, readNext}
 
 -- an octet more, if there is room and if there is none
 module _ (room : List ℕ) (n b : ℕ) where
@@ -32,11 +33,11 @@ module _ (i : ℕ) (k : Filled) where
 
 -- octets up to a place, from the next on and from the last
 module _ (i to : ℕ) (k : Filled) where
-  pub part-next : i < to → pushedPart (to - i) i k ≡ pushedPart (to - (i + 1)) (i + 1) (pushedAgain i k)
+  pub part-next : i < to → {next : Filled} → next ≡ pushedAgain i k → pushedPart (to - (i + 1)) (i + 1) next ≡ pushedPart (to - i) i k
   unfolding pushedPart
-  part-next before =
+  part-next before is =
       let left : to - i ≡ suc (to - (i + 1)) = omega arith in
-      rw (left, add-one)
+      rw (left, add-one, is)
 
   pub part-done : to ≤ i → pushedPart (to - i) i k ≡ k
   unfolding pushedPart
@@ -46,11 +47,12 @@ module _ (i to : ℕ) (k : Filled) where
 
 -- a token's octets, before a further time and after the last
 module _ (turn times from n : ℕ) (k : Filled) where
-  pub repeated-next : turn < times → repeated (times - turn) from n k ≡ repeated (times - (turn + 1)) from n (pushedPart n from k)
+  pub repeated-next : turn < times → {next : Filled} → next ≡ pushedPart n from k
+      → repeated (times - (turn + 1)) from n next ≡ repeated (times - turn) from n k
   unfolding repeated
-  repeated-next before =
+  repeated-next before is =
       let left : times - turn ≡ suc (times - (turn + 1)) = omega arith in
-      rw left
+      rw (left, is)
 
   pub repeated-done : times ≤ turn → repeated (times - turn) from n k ≡ k
   unfolding repeated
@@ -80,16 +82,6 @@ module _ (c : ℕ) where
   unfolding digitOf
   above high = rw (digitOf, le-leb 0x30 c (omega arith), lt-leb c 0x39 (omega arith), le-leb 0x41 c (omega arith), lt-leb c 0x46 high)
 
--- a digit more, if the number stays small enough and if it would be too large
-module _ (n d : ℕ) where
-  pub digit-fits : n * 10 + d ≤ largest → n * 10 + d ≡ withDigit n d
-  unfolding withDigit
-  digit-fits fits = rw (withDigit, le-leb (n * 10 + d) largest fits)
-
-  pub digit-out : largest < n * 10 + d → largest ≡ withDigit n d
-  unfolding withDigit
-  digit-out past = rw (withDigit, lt-leb (n * 10 + d) largest past)
-
 -- a digit of a count, and one of an octet
 module _ (c : Case) (d : ℕ) where
   pub count-fits : c .times ≤ size → withCount c (c .counting) (c .times * 10 + d) ≡ withCountDigit c d
@@ -115,30 +107,25 @@ told w c room is = (ap (λ (v : Case × List ℕ). v .0) (sym is), ap (λ (v : C
 
 -- one character more
 module _ (c : Case) (x : ℕ) (room : List ℕ) where
-  pub read-space : x ≡ 0x20 → readNext c x room ≡ (tokenAt (tokenEnded c room .octets), tokenEnded c room .room)
+  pub read-end : (eqb x 0x20 || eqb x 0x0A) ≡ true → readNext c x room ≡ (tokenAt (tokenEnded c room .octets), tokenEnded c room .room)
   unfolding readNext
-  read-space is = rw (readNext, eq-eqb x 0x20 is)
+  read-end is = rw (readNext, is)
 
-  module _ (no-space : x ≡ 0x20 → ⊥) where
-    pub read-end : x ≡ 0x0A → readNext c x room ≡ (wholeLine (tokenAt (tokenEnded c room .octets)), tokenEnded c room .room)
+  module _ (no-end : (eqb x 0x20 || eqb x 0x0A) ≡ false) where
+    pub read-star : x ≡ 0x2A → readNext c x room ≡ (withCount c true 0, room)
     unfolding readNext
-    read-end is = rw (readNext, ne-eqb x 0x20 no-space, eq-eqb x 0x0A is)
+    read-star is = rw (readNext, no-end, eq-eqb x 0x2A is)
 
-    module _ (no-end : x ≡ 0x0A → ⊥) where
-      pub read-star : x ≡ 0x2A → readNext c x room ≡ (withCount c true 0, room)
+    module _ (no-star : x ≡ 0x2A → ⊥) where
+      digits : (b : Bool) → c .counting ≡ b
+          → readNext c x room ≡ elim b as (λ y. Case × List ℕ) [ true ↦ (withCountDigit c (digitOf x), room) | false ↦ withOctetDigit c (digitOf x) room ]
       unfolding readNext
-      read-star is = rw (readNext, ne-eqb x 0x20 no-space, ne-eqb x 0x0A no-end, eq-eqb x 0x2A is)
+      digits b is =
+          rw (readNext, no-end, ne-eqb x 0x2A no-star)
+          (ap (λ (y : Bool). elim y as (λ z. Case × List ℕ) [ true ↦ (withCountDigit c (digitOf x), room) | false ↦ withOctetDigit c (digitOf x) room ]) is)
 
-      module _ (no-star : x ≡ 0x2A → ⊥) where
-        digits : (b : Bool) → c .counting ≡ b
-            → readNext c x room ≡ elim b as (λ y. Case × List ℕ) [ true ↦ (withCountDigit c (digitOf x), room) | false ↦ withOctetDigit c (digitOf x) room ]
-        unfolding readNext
-        digits b is =
-            rw (readNext, ne-eqb x 0x20 no-space, ne-eqb x 0x0A no-end, ne-eqb x 0x2A no-star)
-            (ap (λ (y : Bool). elim y as (λ z. Case × List ℕ) [ true ↦ (withCountDigit c (digitOf x), room) | false ↦ withOctetDigit c (digitOf x) room ]) is)
+      pub read-count : c .counting ≡ true → readNext c x room ≡ (withCountDigit c (digitOf x), room)
+      read-count is = digits true is
 
-        pub read-count : c .counting ≡ true → readNext c x room ≡ (withCountDigit c (digitOf x), room)
-        read-count is = digits true is
-
-        pub read-octet : c .counting ≡ false → readNext c x room ≡ withOctetDigit c (digitOf x) room
-        read-octet is = digits false is
+      pub read-octet : c .counting ≡ false → readNext c x room ≡ withOctetDigit c (digitOf x) room
+      read-octet is = digits false is

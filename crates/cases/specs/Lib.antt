@@ -1,4 +1,4 @@
--- What reading a case, one character after the other, leaves; what reading a line leaves; and what the table holds beforehand.
+-- What reading a case, one character after the other, leaves; the characters of the input; and what the table holds beforehand.
 pub mod Reading
-pub mod Lines
+pub mod Input
 pub mod Table

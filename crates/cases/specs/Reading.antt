@@ -1,6 +1,6 @@
 -- A case as far as it has been read, and the room with its octets, after the next character. Assumes nothing.
 use Prim.Native.Nat.{ℕ, zero, suc, _+_, _-_, _*_, _%_}
-use mathlib.Core.Bool.{Bool, true, false, _&&_}
+use mathlib.Core.Bool.{Bool, true, false, _&&_, _||_}
 use mathlib.Core.List.{List}
 use lib.Dec.{eqb, ltb, leb}
 use lib.ListN.{getD, set}
@@ -38,7 +38,7 @@ repeated (suc times) i n k = repeated times i n (pushedPart n i k)
 
 -- a case whose next token begins after n octets
 abbrev pub tokenAt : ℕ → Case
-tokenAt n = record { octets = n; whole = false; token = n; high = 16; counting = false; times = 1 }
+tokenAt n = record { octets = n; token = n; high = 16; counting = false; times = 1 }
 
 -- "`0500*3` stands for the token's octets three times": the room after a token
 unfoldable pub tokenEnded : Case → List ℕ → Filled
@@ -52,22 +52,16 @@ digitOf c =
       | false ↦ elim (leb 0x41 c && leb c 0x46) [ true ↦ c - 0x41 + 10 | false ↦ 0 ]
     ]
 
--- a decimal number with one more digit, or the largest `usize` if that is larger
+-- the largest `usize`: how many turns a program takes at most
 abbrev pub largest : ℕ
 largest = 18446744073709551615
 
-unfoldable pub withDigit : ℕ → ℕ → ℕ
-withDigit n d = elim (leb (n * 10 + d) largest) [ true ↦ n * 10 + d | false ↦ largest ]
-
--- a case with other octets and another digit that waits for a second; one with another count; one whose line has ended
+-- a case with other octets and another digit that waits for a second; and one with another count
 abbrev pub withOctets : Case → ℕ → ℕ → Case
-withOctets c n high = record { octets = n; whole = c .whole; token = c .token; high = high; counting = c .counting; times = c .times }
+withOctets c n high = record { octets = n; token = c .token; high = high; counting = c .counting; times = c .times }
 
 abbrev pub withCount : Case → Bool → ℕ → Case
-withCount c b n = record { octets = c .octets; whole = c .whole; token = c .token; high = c .high; counting = b; times = n }
-
-abbrev pub wholeLine : Case → Case
-wholeLine c = record { octets = c .octets; whole = true; token = c .token; high = c .high; counting = c .counting; times = c .times }
+withCount c b n = record { octets = c .octets; token = c .token; high = c .high; counting = b; times = n }
 
 -- a digit of the token's count, which stays once it is too large
 unfoldable pub withCountDigit : Case → ℕ → Case
@@ -83,16 +77,13 @@ withOctetDigit c d room =
           (withOctets c (k .octets) 16, k .room)
     ]
 
--- the next character: a space ends a token, a line's end the case, `*` begins the count, and any other is a digit
+-- the next character: a space and a line's end end a token, `*` begins the count, and any other is a digit
 unfoldable pub readNext : Case → ℕ → List ℕ → Case × List ℕ
 readNext c x room =
-    elim (eqb x 0x20) [
+    elim (eqb x 0x20 || eqb x 0x0A) [
       | true ↦ (tokenAt (tokenEnded c room .octets), tokenEnded c room .room)
-      | false ↦ elim (eqb x 0x0A) [
-        | true ↦ (wholeLine (tokenAt (tokenEnded c room .octets)), tokenEnded c room .room)
-        | false ↦ elim (eqb x 0x2A) [
-          | true ↦ (withCount c true 0, room)
-          | false ↦ elim (c .counting) [ true ↦ (withCountDigit c (digitOf x), room) | false ↦ withOctetDigit c (digitOf x) room ]
-        ]
+      | false ↦ elim (eqb x 0x2A) [
+        | true ↦ (withCount c true 0, room)
+        | false ↦ elim (c .counting) [ true ↦ (withCountDigit c (digitOf x), room) | false ↦ withOctetDigit c (digitOf x) room ]
       ]
     ]

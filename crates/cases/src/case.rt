@@ -3,9 +3,9 @@
 // Octets are written in hex (upper case), in tokens separated by a space; `0500*3` stands for the token's octets three times. They go into a
 // room. If a case is longer than the room, its first octets are kept.
 ghost use mathlib.Core.Path.{_≡_};
-ghost use Prim.Native.Nat.{_-_, _%_};
+ghost use Prim.Native.Nat.{_-_};
 ghost use lib.ListN.{take};
-ghost use Rattle.cases.specs.Reading.{filled, pushed, pushedAgain, pushedPart, tokenAt, tokenEnded, digitOf, withDigit, withCountDigit, withOctetDigit, readNext};
+ghost use Rattle.cases.specs.Reading.{filled, pushed, pushedAgain, pushedPart, tokenAt, tokenEnded, digitOf, withCountDigit, withOctetDigit, readNext};
 
 // How many octets the room holds.
 pub const ROOM: usize = 70000;
@@ -14,8 +14,6 @@ pub const ROOM: usize = 70000;
 pub struct Case {
     // How many octets the room has so far.
     pub octets: usize,
-    // Whether the line has ended.
-    pub whole: bool,
     // Where the present token's octets begin.
     token: usize,
     // The first digit of an octet whose second is still to come; 16 if there is none.
@@ -32,7 +30,7 @@ pub fn start() -> Case
     token_at(0)
 }
 
-// The first `n` octets of a room, or all of them if it has fewer.
+// The first `n` octets of a room or a page, or all of them if it has fewer.
 pub fn octets(room: &[u8], n: usize) -> &[u8]
     ensures { λ r. ⌜ now r ≡ take n (now (room .entry)) ⌝ }
 {
@@ -48,7 +46,6 @@ fn token_at(octets: usize) -> Case
 {
     Case {
         octets: octets,
-        whole: false,
         token: octets,
         high: 16,
         counting: false,
@@ -101,7 +98,7 @@ fn end_token(case: Case, room: &mut [u8; ROOM]) -> Case
 }
 
 // The value of a hex digit; 0 for any other character.
-fn digit(c: u8) -> u8
+pub fn digit(c: u8) -> u8
     ensures { λ r. ⌜ r ≡ digitOf c ⌝ }
 {
     match c {
@@ -109,21 +106,6 @@ fn digit(c: u8) -> u8
         b'A'..=b'F' => c - b'A' + 10,
         _ => 0,
     }
-}
-
-// A decimal number with one more digit; the largest `usize` if that is larger.
-pub(crate) fn decimal(number: usize, c: u8) -> usize
-    ensures { λ r. ⌜ r ≡ withDigit number (digitOf c % 10) ⌝ }
-{
-    if number > 1844674407370955161 {
-        return usize::MAX;
-    }
-    let tens = number * 10;
-    let ones = (digit(c) % 10) as usize;
-    if usize::MAX - tens < ones {
-        return usize::MAX;
-    }
-    tens + ones
 }
 
 // Reads a digit of the token's count.
@@ -151,17 +133,13 @@ fn octet_digit(case: Case, digit: u8, room: &mut [u8; ROOM]) -> Case
     next
 }
 
-// Reads the next character of a case. The caller starts a new case after a whole one.
-pub(crate) fn read(case: Case, c: u8, room: &mut [u8; ROOM]) -> Case
+// Reads the next character of a case: a space and a line's end end a token, `*` begins its count, and any other is a digit. The caller starts a
+// new case after a line's end.
+pub fn read(case: Case, c: u8, room: &mut [u8; ROOM]) -> Case
     ensures { λ r. ⌜ (r ≡ readNext case c (now (room .entry)) .0) × (now (room .exit) ≡ readNext case c (now (room .entry)) .1) ⌝ }
 {
-    if c == b' ' {
+    if (c == b' ') | (c == b'\n') {
         return end_token(case, room);
-    }
-    if c == b'\n' {
-        let mut next = end_token(case, room);
-        next.whole = true;
-        return next;
     }
     if c == b'*' {
         let mut next = case;
@@ -169,9 +147,9 @@ pub(crate) fn read(case: Case, c: u8, room: &mut [u8; ROOM]) -> Case
         next.times = 0;
         return next;
     }
+    let value = digit(c);
     if case.counting {
-        count_digit(case, digit(c))
-    } else {
-        octet_digit(case, digit(c), room)
+        return count_digit(case, value);
     }
+    octet_digit(case, value, room)
 }

@@ -1,6 +1,4 @@
-// The table that a program lends to a reading: what it holds beforehand, whether that has changed, and printing its rows.
-use crate::print::number;
-use crate::print::text;
+// The table that a program lends to a reading: what it holds beforehand, and whether that has changed.
 ghost use mathlib.Core.Path.{_≡_};
 ghost use mathlib.Core.Bool.{true};
 ghost use lib.ListN.{length};
@@ -39,23 +37,4 @@ pub fn is_untouched(table: &[usize; NUMBERS], from: usize) -> bool
         }
     }
     true
-}
-
-// Prints the table's first numbers, `width` of them to a line, or one if the width is 0.
-pub fn print_rows(table: &[usize; NUMBERS], width: usize, numbers: usize) {
-    for i in 0..numbers {
-        print_number(table, width, i);
-    }
-}
-
-// Prints the number at place `i`; the last number of a row ends the line.
-fn print_number(table: &[usize; NUMBERS], width: usize, i: usize) {
-    if i < NUMBERS {
-        number(table[i]);
-    }
-    if width == 0 || i % width == width - 1 {
-        text(b"\n");
-    } else {
-        text(b" ");
-    }
 }

@@ -10,67 +10,81 @@ use cases::case::Case;
 use cases::case::ROOM;
 use cases::case::octets;
 use cases::input::TEXT;
-use cases::line::OCTETS;
-use cases::print::fault;
-use cases::print::number;
-use cases::print::text;
 use crmf::explain::Walked;
 use crmf::explain::tally::Difference;
 use crmf::explain::tally::Tally;
 use der::refusal::NOT_IN_GRAMMAR;
+use format::answer::fault;
+use format::answer::refusal;
+use format::page::character;
+use format::page::number;
+use format::page::text;
+use libc::STDOUT_FILENO;
 
-// Prints a form of one edition alone.
-fn print_form(form: Difference) {
+// The octets of the page on which a line is written.
+const PAGE: usize = 256;
+
+// Writes a form of one edition alone.
+fn write_form(page: &mut [u8; PAGE], at: usize, form: Difference) -> usize {
     if form.number == 0 {
-        text(b" -");
-        return;
+        return text(page, at, b" -");
     }
-    text(b" D");
-    number(form.number);
-    text(b"@");
-    number(form.place);
+    let next = text(page, at, b" D");
+    refusal(page, next, form.number, form.place)
 }
 
-// Prints the forms that were met, and ends the line.
-fn print_forms(tally: Tally) {
-    print_form(tally.one);
-    print_form(tally.two);
-    text(b"\n");
+// Writes the forms that were met, and ends the line.
+fn write_forms(page: &mut [u8; PAGE], at: usize, tally: Tally) -> usize {
+    let one = write_form(page, at, tally.one);
+    let two = write_form(page, one, tally.two);
+    character(page, two, b'\n')
 }
 
-// Prints an answer of the walk.
-fn print(answer: Walked) {
+// Writes an answer of the walk.
+fn write_answer(page: &mut [u8; PAGE], answer: Walked) -> usize {
     match answer {
         Walked::Passed(tally) => {
-            text(b"0 ");
-            number(tally.count);
-            print_forms(tally);
+            let at = text(page, 0, b"0 ");
+            let next = number(page, at, tally.count);
+            write_forms(page, next, tally)
         }
         Walked::Broken {
             place,
             detail,
             tally,
         } => {
-            fault(NOT_IN_GRAMMAR, place, detail);
-            print_forms(tally);
+            let at = fault(page, 0, NOT_IN_GRAMMAR, place, detail);
+            write_forms(page, at, tally)
         }
     }
 }
 
+// Prints the page's first octets.
+fn print(page: &[u8; PAGE], length: usize) {
+    io::write_all(STDOUT_FILENO, octets(page, length));
+}
+
 // Judges a case: the first octets of the room.
-fn judge(room: &[u8; ROOM], case: Case) {
-    print(crmf::explain::count(octets(room, case.octets)));
+fn judge(room: &[u8; ROOM], case: Case, page: &mut [u8; PAGE]) {
+    let end = write_answer(page, crmf::explain::count(octets(room, case.octets)));
+    print(page, end);
 }
 
 fn main() {
     let mut text = [0u8; TEXT];
     let mut room = [0u8; ROOM];
-    let mut input = cases::input::open(OCTETS);
+    let mut page = [0u8; PAGE];
+    let mut input = cases::input::open();
+    let mut case = cases::case::start();
     for turn in 0..usize::MAX {
-        input = cases::input::next(input, &mut text, &mut room);
+        input = cases::input::next(input, &mut text);
         if input.ended {
             return;
         }
-        judge(&room, input.line.case);
+        case = cases::case::read(case, input.character, &mut room);
+        if input.character == b'\n' {
+            judge(&room, case, &mut page);
+            case = cases::case::start();
+        }
     }
 }

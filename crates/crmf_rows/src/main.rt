@@ -10,18 +10,22 @@ use cases::case::Case;
 use cases::case::ROOM;
 use cases::case::octets;
 use cases::input::TEXT;
-use cases::line::OCTETS;
-use cases::print::text;
 use cases::table::NUMBERS;
 use cases::table::is_untouched;
 use cases::table::prepare;
-use cases::table::print_rows;
 use crmf::recognise::Recognition;
 use crmf::rows::WIDTH;
+use format::page::character;
+use format::page::text;
+use format::rows::rows;
+use libc::STDOUT_FILENO;
 ghost use Prim.Native.Nat.{_≤_};
 
 // The rows that the table holds.
 const ROWS: usize = NUMBERS / WIDTH;
+
+// The octets of the page on which an answer is written: no number of a batch's rows has more than five digits.
+const PAGE: usize = 6 * NUMBERS + 100;
 
 // The lesser of two numbers.
 fn lesser(a: usize, b: usize) -> usize
@@ -30,31 +34,40 @@ fn lesser(a: usize, b: usize) -> usize
     if a < b { a } else { b }
 }
 
-// Prints a table that was filled.
-fn print_filled(table: &[usize; NUMBERS], count: usize) {
+// Writes a table that was filled.
+fn write_filled(page: &mut [u8; PAGE], table: &[usize; NUMBERS], count: usize) -> usize {
     let numbers = WIDTH * lesser(count, ROWS);
-    print_rows(table, WIDTH, numbers);
-    if !is_untouched(table, numbers) {
-        text(b"other numbers changed\n");
+    let at = rows(page, 0, WIDTH, table, numbers);
+    if is_untouched(table, numbers) {
+        return at;
     }
+    text(page, at, b"other numbers changed\n")
 }
 
-// Prints that a table was too short.
-fn print_short(table: &[usize; NUMBERS]) {
+// Writes that a table was too short.
+fn write_short(page: &mut [u8; PAGE], table: &[usize; NUMBERS]) -> usize {
     if is_untouched(table, 0) {
-        text(b"too short, the table unchanged\n");
-    } else {
-        text(b"too short, the table changed\n");
+        return text(page, 0, b"too short, the table unchanged\n");
     }
+    text(page, 0, b"too short, the table changed\n")
 }
 
-// Prints a table of which `lent` numbers were lent for `count` rows.
-fn print_lent(table: &[usize; NUMBERS], lent: usize, count: usize) {
+// Writes a table of which `lent` numbers were lent for `count` rows.
+fn write_table(
+    page: &mut [u8; PAGE],
+    table: &[usize; NUMBERS],
+    lent: usize,
+    count: usize,
+) -> usize {
     if lent / WIDTH < count {
-        print_short(table);
-    } else {
-        print_filled(table, count);
+        return write_short(page, table);
     }
+    write_filled(page, table, count)
+}
+
+// Prints the page's first octets.
+fn print(page: &[u8; PAGE], length: usize) {
+    io::write_all(STDOUT_FILENO, octets(page, length));
 }
 
 // Reads a batch with the first numbers of the table lent.
@@ -65,26 +78,34 @@ fn read(edition: usize, batch: &[u8], table: &mut [usize], numbers: usize) -> Re
     crmf::recognise::read(edition, batch, table)
 }
 
-// Reads a batch in an edition into the first numbers of the table and prints it. Answers whether it is a batch of the edition.
-fn fill(edition: usize, batch: &[u8], table: &mut [usize; NUMBERS], numbers: usize) -> bool {
+// Reads a batch in an edition into the first numbers of the table and writes the answer; nothing if it is no batch of the edition.
+fn fill(
+    edition: usize,
+    batch: &[u8],
+    table: &mut [usize; NUMBERS],
+    numbers: usize,
+    page: &mut [u8; PAGE],
+) -> usize {
     prepare(table);
     let recognition = read(edition, batch, table, numbers);
     let Recognition::Rows(rows) = recognition else {
-        return false;
+        return 0;
     };
-    print_lent(table, lesser(numbers, NUMBERS), rows);
-    true
+    write_table(page, table, lesser(numbers, NUMBERS), rows)
 }
 
-// Reads a batch in the first edition that accepts it, with `numbers` numbers of a table lent.
-fn answer(batch: &[u8], numbers: usize) {
+// Reads a batch in the first edition that accepts it, with `numbers` numbers of a table lent, and prints the answer.
+fn answer(batch: &[u8], numbers: usize, page: &mut [u8; PAGE]) {
     let mut table = [0usize; NUMBERS];
-    if !fill(1, batch, &mut table, numbers) {
-        if !fill(2, batch, &mut table, numbers) {
-            text(b"-\n");
-        }
+    let mut at = fill(1, batch, &mut table, numbers, page);
+    if at == 0 {
+        at = fill(2, batch, &mut table, numbers, page);
     }
-    text(b"\n");
+    if at == 0 {
+        at = text(page, 0, b"-\n");
+    }
+    let end = character(page, at, b'\n');
+    print(page, end);
 }
 
 // The number of two octets.
@@ -93,23 +114,29 @@ fn number(high: u8, low: u8) -> usize {
 }
 
 // Judges a case: the first octets of the room.
-fn judge(room: &[u8; ROOM], case: Case) {
+fn judge(room: &[u8; ROOM], case: Case, page: &mut [u8; PAGE]) {
     let bytes = octets(room, case.octets);
     if bytes.len() < 2 {
         return;
     }
-    answer(&bytes[2..], number(bytes[0], bytes[1]));
+    answer(&bytes[2..], number(bytes[0], bytes[1]), page);
 }
 
 fn main() {
     let mut text = [0u8; TEXT];
     let mut room = [0u8; ROOM];
-    let mut input = cases::input::open(OCTETS);
+    let mut page = [0u8; PAGE];
+    let mut input = cases::input::open();
+    let mut case = cases::case::start();
     for turn in 0..usize::MAX {
-        input = cases::input::next(input, &mut text, &mut room);
+        input = cases::input::next(input, &mut text);
         if input.ended {
             return;
         }
-        judge(&room, input.line.case);
+        case = cases::case::read(case, input.character, &mut room);
+        if input.character == b'\n' {
+            judge(&room, case, &mut page);
+            case = cases::case::start();
+        }
     }
 }

@@ -2,8 +2,8 @@
 //
 //     EDITION/NUMBERS:OCTETS
 //
-// as `cases::line` says. If no edition is named, the batch is read in edition 1 and then in edition 2. NUMBERS numbers of the table are lent,
-// and without `/NUMBERS` all of them. The answer is one of
+// as the crate `lines` says, and has no list: the table, which is prepared for each reading, stands for one. If no edition is named, the batch
+// is read in edition 1 and then in edition 2. NUMBERS numbers of the table are lent, and without `/NUMBERS` all of them. The answer is one of
 //
 //     0 COUNT         accepted; below it a line for each row, if there are at most 60: kind, first byte, whole length, parent's row
 //     NUMBER@PLACE    refused
@@ -14,17 +14,19 @@
 use cases::case::ROOM;
 use cases::case::octets;
 use cases::input::TEXT;
-use cases::line::EDITION;
-use cases::line::Line;
-use cases::print::text;
 use cases::table::NUMBERS;
 use cases::table::is_untouched;
 use cases::table::prepare;
-use cases::table::print_rows;
 use crmf::rows::WIDTH;
 use editions::edition::RFC2511;
 use editions::edition::RFC4211;
 use editions::reader::Answer;
+use format::answer::answer;
+use format::page::character;
+use format::page::text;
+use format::rows::rows;
+use libc::STDOUT_FILENO;
+use lines::line::Line;
 
 // The most rows that are printed.
 const SHOWN: usize = 60;
@@ -32,9 +34,12 @@ const SHOWN: usize = 60;
 // The rows that the table holds.
 const ROWS: usize = NUMBERS / WIDTH;
 
-// Prints an answer.
-fn print(answer: Answer) {
-    cases::print::answer(answer.number, answer.place, answer.count);
+// The octets of the page on which an answer and its rows are written.
+const PAGE: usize = 8192;
+
+// Writes an answer.
+fn write_answer(page: &mut [u8; PAGE], at: usize, read: Answer) -> usize {
+    answer(page, at, read.number, read.place, read.count)
 }
 
 // Whether two answers are the same.
@@ -42,21 +47,32 @@ fn same(a: Answer, b: Answer) -> bool {
     a.number == b.number && a.place == b.place && a.count == b.count
 }
 
-// Prints what was answered and what the table has then.
-fn report(read: Answer, accepted: Answer, table: &[usize; NUMBERS]) {
-    print(read);
+// Writes what was answered, and how `accept` answers if that is another.
+fn write_answers(page: &mut [u8; PAGE], read: Answer, accepted: Answer) -> usize {
+    let mut at = write_answer(page, 0, read);
     if !same(read, accepted) {
-        text(b", accept ");
-        print(accepted);
+        at = text(page, at, b", accept ");
+        at = write_answer(page, at, accepted);
     }
-    let count = read.count;
+    at
+}
+
+// Writes whether the table has changed after its rows, and the rows.
+fn write_table(page: &mut [u8; PAGE], at: usize, table: &[usize; NUMBERS], count: usize) -> usize {
+    let mut next = at;
     if count > ROWS || !is_untouched(table, WIDTH * count) {
-        text(b", changed");
+        next = text(page, next, b", changed");
     }
-    text(b"\n");
+    next = character(page, next, b'\n');
     if count <= SHOWN {
-        print_rows(table, WIDTH, WIDTH * count);
+        next = rows(page, next, WIDTH, table, WIDTH * count);
     }
+    next
+}
+
+// Prints the page's first octets.
+fn print(page: &[u8; PAGE], length: usize) {
+    io::write_all(STDOUT_FILENO, octets(page, length));
 }
 
 // Reads a batch with the first numbers of the table lent.
@@ -68,38 +84,56 @@ fn read(edition: usize, bytes: &[u8], table: &mut [usize], numbers: usize) -> An
 }
 
 // Judges a batch in one edition.
-fn judge(edition: usize, bytes: &[u8], table: &mut [usize; NUMBERS], numbers: usize) {
+fn judge(
+    edition: usize,
+    bytes: &[u8],
+    table: &mut [usize; NUMBERS],
+    numbers: usize,
+    page: &mut [u8; PAGE],
+) {
     prepare(table);
-    let answer = read(edition, bytes, table, numbers);
-    report(answer, editions::reader::accept(edition, bytes), table);
+    let found = read(edition, bytes, table, numbers);
+    let at = write_answers(page, found, editions::reader::accept(edition, bytes));
+    let end = write_table(page, at, table, found.count);
+    print(page, end);
 }
 
 // How many numbers of the table a line has lent.
 fn lent(line: Line) -> usize {
-    if line.numbered { line.number } else { NUMBERS }
+    if line.heading.numbered {
+        line.heading.number
+    } else {
+        NUMBERS
+    }
 }
 
 // Judges a case in the edition that its line names, or in both.
-fn judge_line(room: &[u8; ROOM], line: Line, table: &mut [usize; NUMBERS]) {
+fn judge_line(room: &[u8; ROOM], line: Line, table: &mut [usize; NUMBERS], page: &mut [u8; PAGE]) {
     let bytes = octets(room, line.case.octets);
-    if line.named {
-        judge(line.edition, bytes, table, lent(line));
+    if line.heading.named {
+        judge(line.heading.edition, bytes, table, lent(line), page);
         return;
     }
-    judge(RFC2511, bytes, table, lent(line));
-    judge(RFC4211, bytes, table, lent(line));
+    judge(RFC2511, bytes, table, lent(line), page);
+    judge(RFC4211, bytes, table, lent(line), page);
 }
 
 fn main() {
     let mut text = [0u8; TEXT];
     let mut room = [0u8; ROOM];
     let mut table = [0usize; NUMBERS];
-    let mut input = cases::input::open(EDITION);
+    let mut page = [0u8; PAGE];
+    let mut input = cases::input::open();
+    let mut line = lines::line::start();
     for turn in 0..usize::MAX {
-        input = cases::input::next(input, &mut text, &mut room);
+        input = cases::input::next(input, &mut text);
         if input.ended {
             return;
         }
-        judge_line(&room, input.line, &mut table);
+        line = lines::line::read(line, input.character, &mut room, &mut table);
+        if input.character == b'\n' {
+            judge_line(&room, line, &mut table, &mut page);
+            line = lines::line::start();
+        }
     }
 }

@@ -2,7 +2,7 @@
 //
 //     EDITION/ROOM=DRAFT:OCTETS
 //
-// as `cases::line` says; the octets are the slice. If no edition is named, the draft is written in edition 1 and then in edition 2.
+// as the crate `lines` says; the octets are the slice. If no edition is named, the draft is written in edition 1 and then in edition 2.
 // ROOM octets of the output are lent, and without `/ROOM` all of them. Without `=DRAFT` the octets are read in the edition, and the rows
 // shown are the draft. The answer is one of
 //
@@ -14,22 +14,27 @@
 use cases::case::ROOM;
 use cases::case::octets;
 use cases::input::TEXT;
-use cases::line::EDITION;
-use cases::line::Line;
-use cases::print::number;
-use cases::print::text;
 use cases::table::NUMBERS;
 use crmf::rows::WIDTH;
 use der::refusal::ACCEPTED;
 use editions::edition::RFC2511;
 use editions::edition::RFC4211;
 use editions::reader::Answer;
+use format::answer::answer;
+use format::page::character;
+use format::page::number;
+use format::page::text;
+use libc::STDOUT_FILENO;
+use lines::line::Line;
 
 // The rows that a draft can have.
 const ROWS: usize = NUMBERS / WIDTH;
 
 // The octets of the output.
 const OUTPUT: usize = 70000;
+
+// The octets of the page on which a line is written.
+const PAGE: usize = 256;
 
 // The modulus of Adler-32 (RFC 1950).
 const MODULUS: usize = 65521;
@@ -74,17 +79,23 @@ fn sum(output: &[u8; OUTPUT], length: usize) -> usize {
     b % MODULUS * 65536 + a % MODULUS
 }
 
-// Prints what was answered and what the output has then.
-fn report(answer: Answer, output: &[u8; OUTPUT]) {
-    cases::print::answer(answer.number, answer.place, answer.count);
-    if answer.number == ACCEPTED {
-        text(b" ");
-        number(sum(output, answer.count));
+// Writes what was answered and what the output has then.
+fn write_answer(page: &mut [u8; PAGE], written: Answer, output: &[u8; OUTPUT]) -> usize {
+    let mut at = answer(page, 0, written.number, written.place, written.count);
+    if written.number == ACCEPTED {
+        at = character(page, at, b' ');
+        at = number(page, at, sum(output, written.count));
     }
-    if !is_untouched(output, answer.count) {
-        text(b", changed");
+    if !is_untouched(output, written.count) {
+        at = text(page, at, b", changed");
     }
-    text(b"\n");
+    at
+}
+
+// Prints the page's first octets as a line.
+fn print(page: &mut [u8; PAGE], length: usize) {
+    let end = character(page, length, b'\n');
+    io::write_all(STDOUT_FILENO, octets(page, end));
 }
 
 // Writes a draft with the first octets of the output lent.
@@ -103,11 +114,13 @@ fn judge(
     bytes: &[u8],
     output: &mut [u8; OUTPUT],
     lent: usize,
+    page: &mut [u8; PAGE],
 ) {
     if numbers <= draft.len() {
         prepare(output);
-        let answer = write(edition, &draft[..numbers], bytes, output, lent);
-        report(answer, output);
+        let written = write(edition, &draft[..numbers], bytes, output, lent);
+        let end = write_answer(page, written, output);
+        print(page, end);
     }
 }
 
@@ -118,22 +131,27 @@ fn judge_again(
     bytes: &[u8],
     output: &mut [u8; OUTPUT],
     lent: usize,
+    page: &mut [u8; PAGE],
 ) {
     let read = editions::reader::read(edition, bytes, draft);
     let count = read.count;
     if read.number != ACCEPTED {
-        cases::print::answer(read.number, read.place, count);
-        text(b"\n");
+        let end = answer(page, 0, read.number, read.place, count);
+        print(page, end);
         return;
     }
     if count <= ROWS {
-        judge(edition, draft, WIDTH * count, bytes, output, lent);
+        judge(edition, draft, WIDTH * count, bytes, output, lent, page);
     }
 }
 
 // How many octets of the output a line has lent.
 fn lent(line: Line) -> usize {
-    if line.numbered { line.number } else { OUTPUT }
+    if line.heading.numbered {
+        line.heading.number
+    } else {
+        OUTPUT
+    }
 }
 
 // Judges a line in one edition.
@@ -143,12 +161,21 @@ fn judge_in(
     draft: &mut [usize; NUMBERS],
     bytes: &[u8],
     output: &mut [u8; OUTPUT],
+    page: &mut [u8; PAGE],
 ) {
-    if line.listed {
-        judge(edition, draft, line.count, bytes, output, lent(line));
+    if line.heading.listed {
+        judge(
+            edition,
+            draft,
+            line.heading.count,
+            bytes,
+            output,
+            lent(line),
+            page,
+        );
         return;
     }
-    judge_again(edition, draft, bytes, output, lent(line));
+    judge_again(edition, draft, bytes, output, lent(line), page);
 }
 
 // Judges a line in the edition that it names, or in both.
@@ -157,14 +184,15 @@ fn judge_line(
     line: Line,
     draft: &mut [usize; NUMBERS],
     output: &mut [u8; OUTPUT],
+    page: &mut [u8; PAGE],
 ) {
     let bytes = octets(room, line.case.octets);
-    if line.named {
-        judge_in(line.edition, line, draft, bytes, output);
+    if line.heading.named {
+        judge_in(line.heading.edition, line, draft, bytes, output, page);
         return;
     }
-    judge_in(RFC2511, line, draft, bytes, output);
-    judge_in(RFC4211, line, draft, bytes, output);
+    judge_in(RFC2511, line, draft, bytes, output, page);
+    judge_in(RFC4211, line, draft, bytes, output, page);
 }
 
 fn main() {
@@ -172,12 +200,18 @@ fn main() {
     let mut room = [0u8; ROOM];
     let mut output = [0u8; OUTPUT];
     let mut draft = [0usize; NUMBERS];
-    let mut input = cases::input::open(EDITION);
+    let mut page = [0u8; PAGE];
+    let mut input = cases::input::open();
+    let mut line = lines::line::start();
     for turn in 0..usize::MAX {
-        input = cases::input::next_listed(input, &mut text, &mut room, &mut draft);
+        input = cases::input::next(input, &mut text);
         if input.ended {
             return;
         }
-        judge_line(&room, input.line, &mut draft, &mut output);
+        line = lines::line::read(line, input.character, &mut room, &mut draft);
+        if input.character == b'\n' {
+            judge_line(&room, line, &mut draft, &mut output, &mut page);
+            line = lines::line::start();
+        }
     }
 }

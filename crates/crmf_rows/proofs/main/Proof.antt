@@ -9,12 +9,15 @@ pub main-spec : {M : Type 1} → statement M
 main-spec =
     tie.close
     (tie.spec
-    (λ text₀ room₀ input₀ turn₀ text room input turn. Unit {0})
-    (λ text₀ room₀ input₀ turn₀ text room input turn. largest - turn)
+    (λ text₀ room₀ page₀ input₀ case₀ turn₀ text room page input case turn. Unit {0})
+    (λ text₀ room₀ page₀ input₀ case₀ turn₀ text room page input case turn. largest - turn)
+    (λ c κs. tt)
     (λ c κs. tt)
     (λ c. tt)
     (λ c κs. tt)
     (λ c. tt)
+    (λ c κs. tt)
+    (λ c κs. tt)
     (λ c κs. tt)
     (λ c. search needs)
     (λ c. search needs)

@@ -9,12 +9,15 @@ pub main-spec : {M : Type 1} → statement M
 main-spec =
     tie.close
     (tie.spec
-    (λ text₀ room₀ table₀ input₀ turn₀ text room table input turn. Unit {0})
-    (λ text₀ room₀ table₀ input₀ turn₀ text room table input turn. largest - turn)
+    (λ text₀ room₀ table₀ page₀ input₀ line₀ turn₀ text room table page input line turn. Unit {0})
+    (λ text₀ room₀ table₀ page₀ input₀ line₀ turn₀ text room table page input line turn. largest - turn)
+    (λ c κs. tt)
     (λ c κs. tt)
     (λ c. tt)
     (λ c κs. tt)
     (λ c. tt)
+    (λ c κs. tt)
+    (λ c κs. tt)
     (λ c κs. tt)
     (λ c. search needs)
     (λ c. search needs)

@@ -13,5 +13,6 @@ judge-spec =
     (λ c. simp length-take (omega arith))
     (λ c κs. search needs)
     (λ c κs. search needs)
+    (λ c κs. search needs)
     (λ c. tt)
     (λ c. tt))

@@ -1,6 +1,6 @@
 -- `cases::case::end_token` meets its contract: the repetitions that are left, after those done, give the whole. The measure is how many are left.
 -- Assumes nothing.
-use Prim.Native.Nat.{_+_, _-_}
+use Prim.Native.Nat.{_-_}
 use borrow.Author.Needs.{needs}
 use mathlib.Core.Path.{_≡_, refl, sym, ap, _∙_}
 use Rattle.cases.specs.Reading.{Filled, filled, repeated, tokenAt, tokenEnded}
@@ -31,9 +31,9 @@ loop-less c = search needs
 loop-again : tie.Need-loop-again Inv-loop μ-loop
 loop-again c =
     let a = c .before .before .before .before .args in
-    let left = a .case .times - (c .before .before .before .loop .turn + 1) in
-    ap (repeated left (a .case .token) (a .case .octets - a .case .token)) (c .push-part .ensures)
-    ∙ sym (repeated-next _ _ _ _ _ (c .before .before .loop-test .taken)) ∙ c .before .before .before .loop .inv
+    let loop = c .before .before .before .loop in
+    repeated-next _ _ (a .case .token) (a .case .octets - a .case .token) (filled (loop .room) (loop .end)) (c .before .before .loop-test .taken) (c .push-part .ensures)
+    ∙ loop .inv
 
 token-at-requires : tie.Need-token-at-requires Inv-loop μ-loop
 token-at-requires c κs = tt

@@ -1,8 +1,8 @@
 -- `cases::case::push_part` meets its contract: adding the octets that are left to those added gives the whole. The measure is how many are left.
 -- Assumes nothing.
-use Prim.Native.Nat.{_+_, _-_}
+use Prim.Native.Nat.{_-_}
 use borrow.Author.Needs.{needs}
-use mathlib.Core.Path.{_≡_, refl, sym, ap, _∙_}
+use mathlib.Core.Path.{_≡_, refl, sym, _∙_}
 use Rattle.cases.specs.Reading.{filled, pushedPart}
 use Rattle.cases.proofs.Steps.{part-next, part-done}
 use Rattle.cases.proofs.case.push_part.Statement.{statement}
@@ -28,10 +28,8 @@ loop-less c = search needs
 
 loop-again : tie.Need-loop-again Inv-loop μ-loop
 loop-again c =
-    let a = c .before .before .before .before .args in
-    let i = c .before .before .before .loop .i in
-    ap (pushedPart (a .to - (i + 1)) (i + 1)) (c .push-again .ensures) ∙ sym (part-next _ _ _ (c .before .before .loop-test .taken))
-    ∙ c .before .before .before .loop .inv
+    let loop = c .before .before .before .loop in
+    part-next _ _ (filled (loop .room) (loop .end)) (c .before .before .loop-test .taken) (c .push-again .ensures) ∙ loop .inv
 
 returns : tie.Need-returns Inv-loop μ-loop
 returns c = sym (part-done _ _ _ (c .loop-test .left)) ∙ c .before .loop .inv

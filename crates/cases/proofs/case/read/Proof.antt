@@ -1,10 +1,10 @@
--- `cases::case::read` meets its contract: a space, a line's end, a `*` or a digit. Assumes nothing.
+-- `cases::case::read` meets its contract: the end of a token, a `*` or a digit. Assumes nothing.
 use Prim.Native.Nat.{ℕ}
 use mathlib.Core.Path.{_≡_, sym, ap, _∙_}
 use mathlib.Core.List.{List}
 use Rattle.cases.specs.declared.case.Case.{Case}
-use Rattle.cases.specs.Reading.{wholeLine, withCountDigit, withOctetDigit, readNext}
-use Rattle.cases.proofs.Steps.{told, read-space, read-end, read-star, read-count, read-octet}
+use Rattle.cases.specs.Reading.{withCountDigit, withOctetDigit, readNext}
+use Rattle.cases.proofs.Steps.{told, read-end, read-star, read-count, read-octet}
 use Rattle.cases.proofs.case.read.Statement.{statement}
 use Rattle.cases.proofs.case.read.Tie as tie
 
@@ -14,22 +14,13 @@ end-token-requires c κs = tt
 returns : tie.Need-returns
 returns c =
     let a = c .before .before .before .args in
-    let known = told _ _ _ (read-space (a .case) (a .c) (a .room .now) (c .before .before .if1 .taken)) in
+    let known = told _ _ _ (read-end (a .case) (a .c) (a .room .now) (c .before .before .if1 .taken)) in
     (c .end-token .ensures .0 ∙ known .0, c .end-token .ensures .1 ∙ known .1)
-
-end-token-requires-2 : tie.Need-end-token-requires-2
-end-token-requires-2 c κs = tt
 
 returns-2 : tie.Need-returns-2
 returns-2 c =
-    let a = c .before .before .before .before .args in
-    let known = told _ _ _ (read-end (a .case) (a .c) (a .room .now) (c .before .before .before .if1 .left) (c .before .before .if2 .taken)) in
-    (ap wholeLine (c .end-token2 .ensures .0) ∙ known .0, c .end-token2 .ensures .1 ∙ known .1)
-
-returns-3 : tie.Need-returns-3
-returns-3 c =
-    let a = c .before .before .before .args in
-    told _ _ _ (read-star (a .case) (a .c) (a .room .now) (c .before .before .if1 .left) (c .before .if2 .left) (c .if3 .taken))
+    let a = c .before .before .args in
+    told _ _ _ (read-star (a .case) (a .c) (a .room .now) (c .before .if1 .left) (c .if2 .taken))
 
 digit-requires : tie.Need-digit-requires
 digit-requires c κs = tt
@@ -37,30 +28,25 @@ digit-requires c κs = tt
 count-digit-requires : tie.Need-count-digit-requires
 count-digit-requires c κs = tt
 
-digit-requires-2 : tie.Need-digit-requires-2
-digit-requires-2 c κs = tt
+returns-3 : tie.Need-returns-3
+returns-3 c =
+    let k = c .before .before in
+    let other = k .before in
+    let a = other .before .before .args in
+    let known = told _ _ _ (read-count (a .case) (a .c) (a .room .now) (other .before .if1 .left) (other .if2 .left) (c .before .if3 .taken)) in
+    (c .count-digit .ensures ∙ ap (withCountDigit (a .case)) (k .digit .ensures) ∙ known .0, known .1)
 
 octet-digit-requires : tie.Need-octet-digit-requires
 octet-digit-requires c κs = tt
 
 returns-4 : tie.Need-returns-4
 returns-4 c =
-    let a = c .before .before .before .before .before .before .args in
-    let known =
-    told _ _ _
-    (read-count (a .case) (a .c) (a .room .now) (c .before .before .before .before .before .if1 .left) (c .before .before .before .before .if2 .left)
-    (c .before .before .before .if3 .left) (c .before .before .if4 .taken)) in
-    (c .count-digit .ensures ∙ ap (withCountDigit (a .case)) (c .before .digit .ensures) ∙ known .0, known .1)
-
-returns-5 : tie.Need-returns-5
-returns-5 c =
-    let a = c .before .before .before .before .before .before .before .args in
-    let is =
-    sym
-    (read-octet (a .case) (a .c) (a .room .now) (c .before .before .before .before .before .before .if1 .left)
-    (c .before .before .before .before .before .if2 .left) (c .before .before .before .before .if3 .left) (c .before .before .before .if4 .left)) in
-    let whole : withOctetDigit (a .case) (c .before .before .digit2 .result) (a .room .now) ≡ readNext (a .case) (a .c) (a .room .now)
-    = ap (λ (d : ℕ). withOctetDigit (a .case) d (a .room .now)) (c .before .before .digit2 .ensures) ∙ is in (
+    let k = c .before .before .before in
+    let other = k .before in
+    let a = other .before .before .args in
+    let is = sym (read-octet (a .case) (a .c) (a .room .now) (other .before .if1 .left) (other .if2 .left) (c .before .before .if3 .left)) in
+    let whole : withOctetDigit (a .case) (k .digit .result) (a .room .now) ≡ readNext (a .case) (a .c) (a .room .now)
+    = ap (λ (d : ℕ). withOctetDigit (a .case) d (a .room .now)) (k .digit .ensures) ∙ is in (
       c .octet-digit .ensures .0 ∙ ap (λ (v : Case × List ℕ). v .0) whole,
       c .octet-digit .ensures .1 ∙ ap (λ (v : Case × List ℕ). v .1) whole,
     )
@@ -71,12 +57,9 @@ read-spec =
     (tie.spec
     end-token-requires
     returns
-    end-token-requires-2
     returns-2
-    returns-3
     digit-requires
     count-digit-requires
-    digit-requires-2
+    returns-3
     octet-digit-requires
-    returns-4
-    returns-5)
+    returns-4)

@@ -1,0 +1,5 @@
+-- The laws of the crate.
+pub mod Writing
+pub mod Digits
+pub mod Answers
+pub mod Tables
