@@ -25,22 +25,15 @@ OPEN = {
     "crmf.meaning.Kinds": "document 01's numbers",
     "crmf.meaning.Rows.width": "document 01's number, which arithmetic multiplies by",
     "crmf.meaning.Messages.proofs": "document 01's list of identifiers",
+    "der.meaning.Fault.First": "a type's name: the relation of the first fault",
     "crmf.steps.explain.Walk.every": "the test that is always true",
     "crmf.meaning.Fields.StandsAt": "a type's name: an equation",
     "crmf.meaning.Pieces.pieceOf": "a record's name: its fields are read",
-    "editions.meaning.Reading.accepted": "a record's name: its fields are read",
-    "editions.meaning.Reading.refusal": "a record's name: its fields are read",
-    "cases.Reading.largest": "the largest number that the tests read",
-}
-
-# What a file of specs/meaning takes from specs/steps, each with its reason. Everything else that a reader has to believe stands in
-# the meaning folders alone.
-STEPS_IN_MEANING = {
-    "editions/specs/meaning/Reading.antt": "the answers 2 to 8 are those of the walks, and its rows those of the lines; theorems tie them to the meaning",
-    "verdict/specs/meaning/Verdict.antt": "the batch's tree, as octets are read; it is the accepted batch's, by a theorem",
-    "verdict/specs/meaning/Duplicates.antt": "the same",
-    "crmf/specs/meaning/Fields.antt": "the fields between two places, as octets are read",
-    "writer/specs/meaning/Writing.antt": "the candidate is assembled and read; theorems tie it to what a draft describes",
+    "editions.steps.Reading.accepted": "a record's name: its fields are read",
+    "editions.steps.Reading.refusal": "a record's name: its fields are read",
+    "verdict.meaning.Verdict.misplacedDhMac": "document 01's number, the largest verdict",
+    "cases.Reading.largest": "the largest `usize`, which arithmetic compares with and counts down from",
+    "cases.Reading.tokenAt": "a record's name: its fields are read",
 }
 
 
@@ -143,19 +136,16 @@ def unlisted():
 
 
 def steps_in_meaning():
-    """Files of specs/meaning that take something from a steps folder or a record of the code and aren't listed, and those listed that don't."""
-    taking = {
-        str(path.relative_to(CRATES))
-        for path in CRATES.glob("*/specs/meaning/*.antt")
-        if re.search(r"^use Rattle·\S+?specs\.(?:steps|declared)\.", path.read_text(), re.MULTILINE)
-    }
-    return [f"{path} takes something from the code's steps" for path in sorted(taking - STEPS_IN_MEANING.keys())] + [
-        f"{path} is listed as taking something from the code's steps, and takes nothing" for path in STEPS_IN_MEANING.keys() - taking
+    """Files of specs/meaning that take something from a steps folder or a record of the code."""
+    return [
+        f"{path.relative_to(CRATES)} takes something from the code's steps"
+        for path in sorted(CRATES.glob("*/specs/meaning/*.antt"))
+        if re.search(r"^(?:pub )?use Rattle·\S+?specs\.(?:steps|declared)\.", path.read_text(), re.MULTILINE)
     ]
 
 
 TESTS = [
     ("no crate unfolds a definition of another", foreign),
     ("every abbreviation that a crate takes from another is listed with its reason", unlisted),
-    ("what a reader has to believe takes nothing from the code's steps, but for what is listed with its reason", steps_in_meaning),
+    ("what a reader has to believe takes nothing from the code's steps", steps_in_meaning),
 ]
