@@ -27,7 +27,7 @@
 --     refusals-explained  worked refusals are answered by number, place and detail; `refusals-told` others by number and place
 pub use Rattle.editions.proofs.theorems.AnswersExactly.{answer-related, related-answer, equal-related, answers-exactly, answers-once, accepted-related, reasonOf, reason-related}
 pub use Rattle.editions.proofs.theorems.ReadsExactly.{reading-related, related-reading, equal-reading, reads-exactly, reads-once}
-pub use Rattle.editions.proofs.theorems.Demands.{ShortIds, table-stays, accepted-exactly, read-exactly, rows-shown, same-rows, differing, nine-exactly, nine-least}
+pub use Rattle.editions.proofs.theorems.Demands.{table-stays, accepted-exactly, read-exactly, rows-shown, same-rows, differing, nine-exactly, nine-least}
 pub use Rattle.editions.proofs.theorems.Accepting.{accepted-in, in-accepted, computed-read, computed-rows, one-nest, nest-read, nest-rows}
 pub use Rattle.editions.proofs.theorems.Tables.{answer-counts, Shown, shown, with-room, shown-table}
 pub use Rattle.editions.proofs.theorems.RefusalNumbers.{answer-number}

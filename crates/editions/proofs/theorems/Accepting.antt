@@ -15,7 +15,7 @@ use Rattle.der.specs.meaning.Octets.{Octets}
 use Rattle.der.specs.meaning.Tree.{Tree, WellFormed, Single, encode}
 use Rattle.der.specs.meaning.Bounds.{depth, longest}
 use Rattle.der.specs.steps.Reading.{tree}
-use Rattle.der.proofs.Laws.{walk-tree, exact, tree-encode}
+use Rattle.der.proofs.Laws.{walk-tree, exact}
 use Rattle.crmf.specs.declared.explain.tally.Tally.{Tally}
 use Rattle.crmf.specs.declared.explain.Walked.{Walked}
 use Rattle.crmf.specs.declared.explain.Walked.the-variants.{Passed, Broken}
@@ -26,7 +26,7 @@ use Rattle.crmf.specs.steps.explain.Walk.{emptyTally}
 use Rattle.crmf.specs.meaning.Rows.{Row, width, batchRows, allShort}
 use Rattle.crmf.specs.steps.explain.LongIds.{firstLong}
 use Rattle.crmf.specs.steps.rows.Fill.{fits, rowsOfInput}
-use Rattle.crmf.proofs.Laws.{Edition, first-edition, second-edition, accepts, rows-of, long-none, Holds, over-holds, fits-room}
+use Rattle.crmf.proofs.Laws.{Edition, first-edition, second-edition, accepts, rows-of, long-none, read-back, Holds, over-holds, fits-room}
 use Rattle.editions.specs.declared.reader.Answer.{Answer}
 use Rattle.editions.specs.meaning.Membership.{InGrammar}
 use Rattle.editions.specs.meaning.Edition.{opposite}
@@ -79,12 +79,6 @@ known second-edition = refl
 
 -- Bytes that are the encoding of a well-formed element.
 module _ (s : List ℕ) (t : Tree) (short : length s ≤ longest) (formed : WellFormed depth 0 t) (single : Single t) (encoded : encode t ≡ s) where
-  -- the tree that is read is the one whose encoding they are
-  pub encoded-read : tree 0 s ≡ t
-  encoded-read =
-      let size : length (encode t) ≤ longest = omega (arith, ap length encoded, short) in
-      rw encoded at (tree-encode depth 0 t formed size)
-
   -- they are in the grammar of an edition whose own walk passes
   pub encoded-in : {f : ℕ} (r : Tally) → ownWalk f (tree 0 s) ≡ Passed r → InGrammar f s
   encoded-in {f} r passed = record {
@@ -93,7 +87,7 @@ module _ (s : List ℕ) (t : Tree) (short : length s ≤ longest) (formed : Well
     formed = formed;
     single = single;
     encoded = encoded;
-    batch = accepts (λ x. eqb x f) emptyTally Top 0 t .0 (r, rw encoded-read at passed);
+    batch = accepts (λ x. eqb x f) emptyTally Top 0 t .0 (r, rw (read-back s t short formed encoded) at passed);
   }
 
   -- any edition's answer is its grammar's
@@ -106,7 +100,7 @@ module _ (s : List ℕ) (t : Tree) (short : length s ≤ longest) (formed : Well
 module _ {e : ℕ} (s : List ℕ) (g : InGrammar e s) where
   -- the tree that is read is the one whose encoding the bytes are
   pub nest-read : tree 0 s ≡ g .nest
-  nest-read = encoded-read s (g .nest) (g .short) (g .formed) (g .single) (g .encoded)
+  nest-read = read-back s (g .nest) (g .short) (g .formed) (g .encoded)
 
   -- The rows that reading finds are that tree's.
   pub nest-rows : rowsOfInput s ≡ batchRows (g .batch)

@@ -4,7 +4,7 @@ use Prim.Native.Nat.{ℕ, _≤_, _<_}
 use native.Mathlib.Omega.{arith}
 use mathlib.Core.Logic.{_↔_}
 use mathlib.Core.Path.{_≡_, refl, sym, ap, subst, _∙_}
-use mathlib.Core.Bool.{Bool, true, false, not, _&&_}
+use mathlib.Core.Bool.{Bool, true, false, not, _&&_, false≢true}
 use mathlib.Core.List.{List, [], _∷_, _++_}
 use lib.Dec.{eqb, ltb, leb}
 use lib.ListN.{length, take, drop, length-append, length-drop, take-append-drop}
@@ -24,30 +24,26 @@ use Rattle.crmf.specs.declared.explain.Walked.{Walked}
 use Rattle.crmf.specs.declared.explain.Walked.the-variants.{Passed, Broken}
 use Rattle.crmf.specs.meaning.Edition.{Edition}
 use Rattle.crmf.specs.meaning.Notation.{Top}
-use Rattle.crmf.specs.meaning.Rows.{Row, batchRows, allShort, LongIdAt, FirstLongId}
+use Rattle.crmf.specs.meaning.Rows.{Row, batchRows, allShort, FirstLongId}
 use Rattle.crmf.specs.steps.explain.LongIds.{firstLong}
 use Rattle.crmf.specs.steps.explain.Walk.{emptyTally}
-use Rattle.crmf.proofs.Laws.{long-none, long-exactly, short-none, stops-exactly}
+use Rattle.crmf.proofs.Laws.{read-back, long-none, long-exactly, short-none, stops-exactly}
 use Rattle.editions.specs.declared.reader.Answer.{Answer}
 use Rattle.editions.specs.meaning.Edition.{opposite}
 use Rattle.editions.specs.meaning.Membership.{InGrammar}
-use Rattle.editions.specs.meaning.Answers.{ReadingStops, Answers, unknown, long, fault, trailing, neither, other, longId, accept, Reason, nest, grammar}
+use Rattle.editions.specs.meaning.Answers.{ReadingStops, ShortIds, Answers, unknown, long, fault, trailing, neither, other, longId, accept, Reason, nest, grammar}
 use Rattle.editions.specs.steps.Reading.{refusal, accepted, ownWalk, walkPasses, eightOrNine, longIdOrAccepted, answer}
 use Rattle.editions.proofs.theorems.Answers.{no-edition, in-range, too-long, nest-fault, bytes-after, one-element}
 use Rattle.editions.proofs.theorems.OneElement.{OneElement, Late, late-accepted, one-whole}
 use Rattle.editions.proofs.theorems.OneWalk.{edition, stops-at}
 use Rattle.editions.proofs.theorems.Tables.{not-short}
-use Rattle.editions.proofs.theorems.Accepting.{known, encoded-read, encoded-in, encoded-element, nest-rows, in-walks, in-counted, in-accepted, accepted-in, walk-in}
+use Rattle.editions.proofs.theorems.Accepting.{known, encoded-in, encoded-element, nest-rows, in-walks, in-counted, in-accepted, accepted-in, walk-in}
 use Rattle.editions.proofs.theorems.Differing.{nine-first, nine-where}
 
 -- a list that isn't empty has a length
 length-pos : (l : List ℕ) → (l ≡ [] → ⊥) → 0 < length l
 length-pos [] some = absurd (some refl)
 length-pos (b ∷ bs) some = omega arith
-
--- no test is both true and false
-never-both : (b : Bool) → b ≡ true → b ≡ false → ⊥
-never-both b on off = let z : _≡_ {A = ℕ} 0 1 = cc in omega arith
 
 -- an answer is related to the edition and the bytes
 abbrev Related : ℕ → List ℕ → Answer → Type 0
@@ -67,7 +63,7 @@ module _ {e : ℕ} (ed : Edition e) (s : List ℕ) (octets : Octets s) (g : InGr
       let (some, is) = long-exactly (g .batch) depth (g .formed) place .0 first in
       counted-answer ∙ rw (longIdOrAccepted, some) (ap (refusal longCertReqId) is)
 
-  short-answer : ((place : ℕ) → LongIdAt (batchRows (g .batch)) place → ⊥) → answer e s ≡ accepted (length (batchRows (g .batch)))
+  short-answer : ShortIds g → answer e s ≡ accepted (length (batchRows (g .batch)))
   short-answer none = in-accepted s g ed octets (go (allShort (batchRows (g .batch))) refl)
     where
       go : (b : Bool) → allShort (batchRows (g .batch)) ≡ b → allShort (batchRows (g .batch)) ≡ true
@@ -168,7 +164,7 @@ module _ (e : ℕ) (s : List ℕ) (octets : Octets s) where
     where
       by-edition : (b : Bool) → (not (eqb e 1) && not (eqb e 2)) ≡ b → Related e s (answer e s)
       by-edition true none =
-          to-answer (refusal unknownEdition 0) (no-edition e s none) (unknown (λ ed. never-both (not (eqb e 1) && not (eqb e 2)) none (known ed)))
+          to-answer (refusal unknownEdition 0) (no-edition e s none) (unknown (λ ed. false≢true (sym (known ed) ∙ none)))
       by-edition false test = by-length test (leb (length s) longest) refl
 
   -- Any answer that it relates is the computed one.
@@ -186,7 +182,7 @@ module _ (e : ℕ) (s : List ℕ) (octets : Octets s) where
       let head : encode t ≡ take q s = rw split (sym (take-at (encode t) after q refl)) in
       sym (bytes-after e s (known ed) short q (exact s q octets short .1 (omega arith, (t, formed, single, head))) size)
   related-answer number place count (neither {detail = d} ed outside outside-too stop) =
-      let read = encoded-read s (stop .nest) (stop .short) (stop .formed) (stop .single) (stop .encoded) in
+      let read = read-back s (stop .nest) (stop .short) (stop .formed) (stop .encoded) in
       let (r, breaks) = stops-exactly (λ x. eqb x e) emptyTally Top 0 place d (stop .nest) .1 (stop .stops) in
       let own : ownWalk e (tree 0 s) ≡ Broken place d r = rw read breaks in
       encoded-element s (stop .nest) (stop .short) (stop .formed) (stop .single) (stop .encoded) ed octets

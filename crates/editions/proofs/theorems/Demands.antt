@@ -9,12 +9,12 @@ use lib.ListN.{length, take}
 use Rattle.der.specs.meaning.Octets.{Octets}
 use Rattle.der.specs.meaning.Refusal.{accepted, otherEdition}
 use Rattle.crmf.specs.meaning.Edition.{Edition}
-use Rattle.crmf.specs.meaning.Rows.{width, batchRows, LongIdAt, Holds}
+use Rattle.crmf.specs.meaning.Rows.{width, batchRows, Holds}
 use Rattle.crmf.proofs.Laws.{short-none}
 use Rattle.editions.specs.declared.reader.Answer.{Answer}
 use Rattle.editions.specs.meaning.Edition.{opposite}
 use Rattle.editions.specs.meaning.Membership.{InGrammar, Difference, FirstDifference}
-use Rattle.editions.specs.meaning.Answers.{Answers, accept}
+use Rattle.editions.specs.meaning.Answers.{ShortIds, Answers, accept}
 use Rattle.editions.specs.meaning.Reads.{Reads, refused, tooShort, shown}
 use Rattle.editions.specs.steps.Reading.{readAnswer, tableAfter}
 use Rattle.editions.proofs.theorems.Accepting as accepting
@@ -25,10 +25,6 @@ use Rattle.editions.proofs.theorems.ReadsExactly.{reading-related, rela
 -- the answer of a call
 abbrev answered : ℕ → ℕ → ℕ → Answer
 answered number place count = record { number = number; place = place; count = count }
-
--- No certReqId among the rows of a batch has more than 8 content octets.
-abbrev pub ShortIds : {e : ℕ} {s : List ℕ} → InGrammar e s → Type 0
-ShortIds g = (place : ℕ) → LongIdAt (batchRows (g .batch)) place → ⊥
 
 -- Demand 1: "A refused call leaves every lent table and output unchanged", and its count is 0.
 pub table-stays : {e number place count : ℕ} {s old new : List ℕ} → Octets s → Reads e s old number place count new → (number ≡ accepted → ⊥)

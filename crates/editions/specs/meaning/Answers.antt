@@ -28,6 +28,10 @@ pub record ReadingStops (e : ℕ) (s : List ℕ) (place detail : ℕ) : Type 0 w
   pub encoded : encode nest ≡ s
   pub stops : Stops (λ x. eqb x e) (content Top) 0 nest place detail
 
+-- No certReqId of the bytes, read in the edition, is "of more than 8 content octets".
+abbrev pub ShortIds : {e : ℕ} {s : List ℕ} → InGrammar e s → Type 0
+ShortIds g = (place : ℕ) → LongIdAt (batchRows (g .batch)) place → ⊥
+
 -- The number, the place and the count of rows. "Refusals return their number and place, a count of 0".
 pub data Answers (e : ℕ) (s : List ℕ) : (number place count : ℕ) → Type 0 where
   -- 13 "edition not 1 or 2"
@@ -46,8 +50,7 @@ pub data Answers (e : ℕ) (s : List ℕ) : (number place count : ℕ) → Type 
   -- 10 "a certReqId of more than 8 content octets", at the "first such"
   longId : {place : ℕ} → Edition e → (g : InGrammar e s) → FirstLongId (batchRows (g .batch)) place → Answers e s longCertReqId place 0
   -- 0 "accepted, with the row count"
-  accept : Edition e → (g : InGrammar e s) → ((place : ℕ) → LongIdAt (batchRows (g .batch)) place → ⊥)
-      → Answers e s accepted 0 (length (batchRows (g .batch)))
+  accept : Edition e → (g : InGrammar e s) → ShortIds g → Answers e s accepted 0 (length (batchRows (g .batch)))
 
 -- Why the nest or the grammar refuses a batch, the number and the place with request A9's detail: "for 2, 1 identifier missing, 2 length missing,
 -- 3 past the end; for 5 the tag number; for 8, 1 fits no part, 2 part missing, 3 value breaks its rule, 4 control 3's list or D3's location; ..
