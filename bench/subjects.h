@@ -16,4 +16,8 @@ extern const bool openssl_there;
 // Decodes the batch with OpenSSL and frees the result. Answers whether it could.
 bool openssl_decode(const uint8_t *bytes, size_t length);
 
+// Whether the text is UTF-8, by two checks in plain C: octet by octet, and with a step over eight octets below 80 wherever they stand.
+bool utf8_by_octets(const uint8_t *text, size_t length);
+bool utf8_by_eights(const uint8_t *text, size_t length);
+
 #endif

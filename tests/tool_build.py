@@ -12,6 +12,7 @@ SANITIZED = 20  # corpus files that the tool built with AddressSanitizer runs on
 WATCHED = 2  # those that it runs on under valgrind
 LONG_FILE = "openssl-batch-259-ec-sig-near-64k"
 MEASURED = {"openssl-minimal": "| 11 | 5 |", "openssl-sig-rsa2048": "| 651 | 10 |"}  # with the bytes and rows that the benchmarks show
+TEXTS = ("ASCII", *(f"ASCII, {which} another" for which in ("the last character", "every 100th character", "every 9th character")), "Cyrillic")
 
 
 @functools.cache
@@ -78,12 +79,13 @@ def other_benchmarks(folder):
     """Inputs of which the benchmarks show nothing. What they take is not looked at."""
     tool.made(f"BUILD={folder}", f"{folder}/bench")
     shown = host.did([folder / "bench", *map(tool.path, MEASURED)])
-    return [f"{name}: {shown[-500:]}" for name, numbers in MEASURED.items() if shown.count(f"{name}.der {numbers}") != 2]
+    wrong = [f"{name}: {shown[-500:]}" for name, numbers in MEASURED.items() if shown.count(f"{name}.der {numbers}") != 2]
+    return wrong + [f"text {name}: {shown[-500:]}" for name in TEXTS if shown.count(f"\n| {name} |") != 1]
 
 
 TESTS = [
     ("phagundro is sound under AddressSanitizer and valgrind", unsound_memory),
     ("make demo shows a sample batch", other_demo),
-    ("the benchmarks show each input, whatever time it takes", other_benchmarks),
+    ("the benchmarks show each batch and each text, whatever time it takes", other_benchmarks),
     ("make installs under a package's root, cleans, tests, lists its targets, and builds an archive that isn't there", other_targets),
 ]

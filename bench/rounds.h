@@ -1,0 +1,21 @@
+// Best times: the subjects of a measurement take turns over many rounds.
+#ifndef ROUNDS_H
+#define ROUNDS_H
+
+#include <stdbool.h>
+
+enum { ROUNDS = 150 };
+
+// What is timed. A subject without a function isn't in this build, and its time is 0.
+typedef struct {
+    const char *name;
+    bool (*run)(void);
+} subject;
+
+// Sets the best time of each subject on an input, in seconds a call. A subject that answers false ends the program.
+void best_times(const subject *subjects, int count, const char *input, double *best);
+
+// Ends the program with a message about an input.
+void fail(const char *what, const char *input);
+
+#endif
