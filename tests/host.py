@@ -61,9 +61,9 @@ def archive():
     return ARCHIVE
 
 
-def answered_lines(program, lines):
-    """What a program that shows a reference's answers writes for these lines."""
-    return did([built(program)], input="".join(line + "\n" for line in lines)).splitlines()
+def answered_lines(program, lines, *more):
+    """What a program that shows answers writes for these lines."""
+    return did([built(program, *more)], input="".join(line + "\n" for line in lines)).splitlines()
 
 
 def made_lines(program, count):

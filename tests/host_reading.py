@@ -1,6 +1,7 @@
 """The reading in plain C, host/reference.c, checked against the corpus, host/examples.txt and the model of the grammar; and
-the archive checked against it by host/compare_reading.c, on inputs that host/inputs.c makes."""
+the archive checked against the examples, and against the reading in plain C by host/compare_reading.c, on inputs that host/inputs.c makes."""
 
+import functools
 import itertools
 import re
 
@@ -33,6 +34,12 @@ def answered(lines):
 def answers(inputs):
     """The reference's answers for these inputs."""
     return [found for _, found in answered(host.answered_lines("answers_reading", (octets.hex() for octets in inputs)))]
+
+
+def archive_answers(inputs):
+    """The archive's answers for these inputs."""
+    lines = host.answered_lines("archive_reading", (octets.hex() for octets in inputs), host.archive())
+    return [found for _, found in answered(lines)]
 
 
 def other_than_corpus():
@@ -69,14 +76,15 @@ def as_written(expected, number, place, rows):
     return f"count {len(rows)}" if expected.startswith("count") else " ".join(["rows", *map(str, itertools.chain(*rows))])
 
 
-def other_than_examples():
+def other_than_examples(read):
+    """Where a reading answers something else than the examples."""
     wrong = []
-    read = answers(der_cases.expand(written) for written, _ in examples())
-    for (written, expected), answer in zip(examples(), read, strict=True):
+    found = read(der_cases.expand(written) for written, _ in examples())
+    for (written, expected), answer in zip(examples(), found, strict=True):
         for edition in EDITIONS:
-            found = as_written(expected[edition], *answer[edition])
-            if found != expected[edition]:
-                wrong.append(f"{written[:100]}, edition {edition}: {expected[edition]} expected, the reference has {found[:200]}")
+            shown = as_written(expected[edition], *answer[edition])
+            if shown != expected[edition]:
+                wrong.append(f"{written[:100]}, edition {edition}: {expected[edition]} expected, found {shown[:200]}")
     return wrong
 
 
@@ -100,6 +108,7 @@ def other_than_model():
 
 TESTS = [
     ("the reading in C gives the expected answers and rows of the corpus", other_than_corpus),
-    ("the reading in C gives the answers of the examples", other_than_examples),
+    ("the reading in C gives the answers of the examples", functools.partial(other_than_examples, answers)),
+    ("the archive gives the answers of the examples", functools.partial(other_than_examples, archive_answers)),
     ("the reading in C and the model of the grammar agree", other_than_model),
 ] + host.comparison_tests("compare_reading", "reading", INPUTS, "inputs", FAULTS)
