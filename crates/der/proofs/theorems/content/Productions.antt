@@ -3,9 +3,9 @@
 -- that the check wants, which is computed. Assumes nothing.
 use Prim.Native.Nat.{ℕ, zero, suc, _+_, _-_, _*_, zero-le}
 use mathlib.Core.Bool.{Bool, true, false, _&&_, _||_, false≢true, and-eq-true-iff}
-use mathlib.Core.List.{List, [], _∷_, _++_}
+use mathlib.Core.List.{List, [], _∷_, _++_, append-nil, append-assoc}
 use mathlib.Core.Logic.{_⊎_, _↔_, inl, inr, ⊎-elim}
-use mathlib.Core.Path.{_≡_, refl}
+use mathlib.Core.Path.{_≡_, refl, sym, ap, _∙_}
 use native.Mathlib.Omega.{arith}
 use borrow.Author.Tests.{leb-true, eqb-true}
 use lib.Dec.{T, leb, eqb}
@@ -150,24 +150,28 @@ any w = next 1 3 0x80 0xBF refl w
 exactly : (a : ℕ) → InRange a a a
 exactly a = omega arith
 
--- a character before what the check accepts is accepted
-front : (bs : List ℕ) {c : List ℕ} → Character c → utf8 bs ≡ true → utf8 (c ++ bs) ≡ true
+-- the check steps over a character
+over : (bs : List ℕ) {c : List ℕ} → Character c → utf8 (c ++ bs) ≡ utf8 bs
 unfolding utf8 leads tails lowest highest classOf
-front bs (utf8-1 a) h = rw (enter 0 0x00 0x7F refl refl a) h
-front bs (utf8-2 a b) h = rw (enter 4 0xC2 0xDF refl refl a, any b) h
-front bs (utf8-3-E0 b c) h = rw (enter 5 0xE0 0xE0 refl refl (exactly 0xE0), next 3 3 0xA0 0xBF refl b, any c) h
-front bs (utf8-3-E1 a b c) h = rw (enter 6 0xE1 0xEC refl refl a, any b, any c) h
-front bs (utf8-3-ED b c) h = rw (enter 7 0xED 0xED refl refl (exactly 0xED), next 1 2 0x80 0x9F refl b, any c) h
-front bs (utf8-3-EE a b c) h = rw (enter 6 0xEE 0xEF refl refl a, any b, any c) h
-front bs (utf8-4-F0 b c d) h = rw (enter 8 0xF0 0xF0 refl refl (exactly 0xF0), next 2 3 0x90 0xBF refl b, any c, any d) h
-front bs (utf8-4-F1 a b c d) h = rw (enter 9 0xF1 0xF3 refl refl a, any b, any c, any d) h
-front bs (utf8-4-F4 b c d) h = rw (enter 10 0xF4 0xF4 refl refl (exactly 0xF4), next 1 1 0x80 0x8F refl b, any c, any d) h
+over bs (utf8-1 a) = rw (enter 0 0x00 0x7F refl refl a) refl
+over bs (utf8-2 a b) = rw (enter 4 0xC2 0xDF refl refl a, any b) refl
+over bs (utf8-3-E0 b c) = rw (enter 5 0xE0 0xE0 refl refl (exactly 0xE0), next 3 3 0xA0 0xBF refl b, any c) refl
+over bs (utf8-3-E1 a b c) = rw (enter 6 0xE1 0xEC refl refl a, any b, any c) refl
+over bs (utf8-3-ED b c) = rw (enter 7 0xED 0xED refl refl (exactly 0xED), next 1 2 0x80 0x9F refl b, any c) refl
+over bs (utf8-3-EE a b c) = rw (enter 6 0xEE 0xEF refl refl a, any b, any c) refl
+over bs (utf8-4-F0 b c d) = rw (enter 8 0xF0 0xF0 refl refl (exactly 0xF0), next 2 3 0x90 0xBF refl b, any c, any d) refl
+over bs (utf8-4-F1 a b c d) = rw (enter 9 0xF1 0xF3 refl refl a, any b, any c, any d) refl
+over bs (utf8-4-F4 b c d) = rw (enter 10 0xF4 0xF4 refl refl (exactly 0xF4), next 1 1 0x80 0x8F refl b, any c, any d) refl
+
+-- the check steps over characters
+pub over-characters : (bs : List ℕ) {cs : List ℕ} → Utf8 cs → utf8 (cs ++ bs) ≡ utf8 bs
+over-characters bs none = refl
+over-characters bs (char {c} {bs = cs} h u) = rw (append-assoc c cs bs) (over (cs ++ bs) h ∙ over-characters bs u)
 
 -- what the productions make is accepted
 complete : {bs : List ℕ} → Utf8 bs → utf8 bs ≡ true
 unfolding utf8 utf8From
-complete none = refl
-complete (char {bs = bs} c u) = front bs c (complete u)
+complete {bs} u = sym (ap utf8 (append-nil bs)) ∙ over-characters [] u
 
 -- the check accepts exactly what the productions make
 pub utf8-exact : (bs : List ℕ) → T (utf8 bs) ↔ Utf8 bs
