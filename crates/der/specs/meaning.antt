@@ -5,6 +5,7 @@ pub mod Bounds
 pub mod Identifier
 pub mod Length
 pub mod Utf8
+pub mod Eights
 pub mod Content
 pub mod Tree
 pub mod Fault

@@ -1,5 +1,5 @@
 -- The check of UTF-8 by classes of octets, as code makes it. Assumes nothing.
-use Prim.Native.Nat.{ℕ, zero, suc, _<_}
+use Prim.Native.Nat.{ℕ, zero, suc, _+_, _*_, _<_}
 use mathlib.Core.Bool.{Bool, true, false, _&&_, _||_}
 use mathlib.Core.List.{List, [], _∷_}
 use mathlib.Core.Path.{_≡_}
@@ -94,3 +94,8 @@ pub record Classes (table : List ℕ) : Type 0 where
 abbrev pub afterStep : OctetStep → List ℕ → Bool
 afterStep (Next left low high) bs = utf8From left low high bs
 afterStep Stop bs = false
+
+-- n octets as one number, the first the least significant
+unfoldable pub littleEndian : ℕ → (ℕ → ℕ) → ℕ
+littleEndian zero at = 0
+littleEndian (suc n) at = littleEndian n (λ k. at (suc k)) * 0x100 + at 0

@@ -3,9 +3,11 @@ use crate::content::octet_class;
 ghost use Prim.Native.Nat.{ℕ, _+_, _≤_, _<_};
 ghost use mathlib.Core.Bool.{true};
 ghost use mathlib.Core.List.{List, _∷_};
+ghost use mathlib.Core.Logic.{_↔_};
 ghost use mathlib.Core.Path.{_≡_};
 ghost use lib.ListN.{length, getD};
-ghost use Rattle.der.specs.steps.Utf8Classes.{classOf, utf8From, utf8, afterStep, Classes};
+ghost use Rattle.der.specs.meaning.Eights.{Ascii, MayBegin, StepsOver, AsciiFirst};
+ghost use Rattle.der.specs.steps.Utf8Classes.{classOf, utf8From, utf8, afterStep, Classes, littleEndian};
 
 // What the check makes of one octet.
 enum OctetStep {
@@ -45,62 +47,96 @@ fn advance(left: u8, low: u8, high: u8, class: u8) -> OctetStep
     OctetStep::Stop
 }
 
-// Whether the eight octets from a place on are below 80, by one test of all their bits.
-fn eight(bytes: &[u8], i: usize) -> bool
-    requires { ⌜ i + 8 ≤ length (now bytes) ⌝ }
-    ensures { λ r. ⌜ (r ≡ true → (k : ℕ) → k < 8 → getD (now (bytes .entry)) (i + k) 0 < 0x80) ⌝ }
+// The octet at a place, as a number.
+fn octet(bytes: &[u8], i: usize) -> usize
+    requires { ⌜ i < length (now bytes) ⌝ }
+    ensures { λ r. ⌜ (r ≡ getD (now (bytes .entry)) i 0) × (r < 0x100) ⌝ }
 {
-    let front = bytes[i] | bytes[i + 1] | bytes[i + 2] | bytes[i + 3];
-    let back = bytes[i + 4] | bytes[i + 5] | bytes[i + 6] | bytes[i + 7];
-    (front | back) < 0x80
+    bytes[i] as usize
 }
 
-// Whether the content has octets below 80 only, each a whole character.
-fn ascii(content: &[u8]) -> bool
-    ensures { λ r. ⌜ (r ≡ true → utf8 (now (content .entry)) ≡ true) ⌝ }
+// The first four octets as one number, the first the least significant.
+fn four(bytes: &[u8]) -> usize
+    requires { ⌜ 4 ≤ length (now bytes) ⌝ }
+    ensures { λ r. ⌜ (r ≡ littleEndian 4 (λ k. getD (now (bytes .entry)) k 0)) × (r < 0x100000000) ⌝ }
+{
+    let upper = octet(bytes, 3) * 0x100 + octet(bytes, 2);
+    (upper * 0x100 + octet(bytes, 1)) * 0x100 + octet(bytes, 0)
+}
+
+// Whether the first eight octets are below 80, by one test of their highest bits.
+fn eight(bytes: &[u8]) -> bool
+    requires { ⌜ 8 ≤ length (now bytes) ⌝ }
+    ensures { λ r. ⌜ (r ≡ true) ↔ ((k : ℕ) → k < 8 → Ascii (getD (now (bytes .entry)) k 0)) ⌝ }
+{
+    let all = four(&bytes[4..]) * 0x1_0000_0000 + four(bytes);
+    all & 0x8080_8080_8080_8080 == 0
+}
+
+// How many octets the check steps over at a place, if the character there still wants `left` tails: eight where a character may begin and the
+// next eight octets are below 80, else one.
+fn step(content: &[u8], i: usize, left: u8) -> usize
+    requires { ⌜ (i ≤ length (now content)) × ((left ≡ 0) ↔ MayBegin (now content) i) ⌝ }
+    ensures { λ r. ⌜ StepsOver (now (content .entry)) i r ⌝ }
+{
+    if left != 0 {
+        return 1;
+    }
+    if content.len() < 8 {
+        return 1;
+    }
+    // The last place for eight octets is the same in the whole text.
+    if content.len() - 8 < i {
+        return 1;
+    }
+    if eight(&content[i..]) {
+        return 8;
+    }
+    1
+}
+
+// How many octets are below 80 before the first that isn't.
+fn ascii(content: &[u8]) -> usize
+    ensures { λ r. ⌜ AsciiFirst (now (content .entry)) r ⌝ }
 {
     let mut i = 0;
-    while i + 8 <= content.len() {
-        if !eight(content, i) {
-            return false;
-        }
+    while step(content, i, 0) == 8 {
         i += 8;
     }
     while i < content.len() {
         if 0x80 <= content[i] {
-            return false;
+            return i;
         }
         i += 1;
     }
-    true
+    i
 }
 
 // Answers whether the content is UTF-8; an empty content is.
 pub fn is_text(content: &[u8]) -> bool
     ensures { λ r. ⌜ r ≡ utf8 (now (content .entry)) ⌝ }
 {
-    if ascii(content) {
+    let plain = ascii(content);
+    if plain == content.len() {
         return true;
     }
     let classes = CLASSES;
-    text(content, &classes)
+    text(content, plain, &classes)
 }
 
-// The same, by a table of the classes.
-fn text(content: &[u8], classes: &[u8; 256]) -> bool
-    requires { ⌜ Classes (now classes) ⌝ }
+// The same, from a place on where a character may begin, by a table of the classes.
+fn text(content: &[u8], from: usize, classes: &[u8; 256]) -> bool
+    requires { ⌜ Classes (now classes) × (from ≤ length (now content)) × MayBegin (now content) from ⌝ }
     ensures { λ r. ⌜ r ≡ utf8 (now (content .entry)) ⌝ }
 {
     let mut left: u8 = 0;
     let mut low: u8 = octet_class::TAIL_80;
     let mut high: u8 = octet_class::TAIL_A0;
-    let mut i = 0;
+    let mut i = from;
     while i < content.len() {
-        if (left == 0) & (i + 8 <= content.len()) {
-            if eight(content, i) {
-                i += 8;
-                continue;
-            }
+        if step(content, i, left) == 8 {
+            i += 8;
+            continue;
         }
         let b = content[i] as usize;
         let s = advance(left, low, high, classes[b]);

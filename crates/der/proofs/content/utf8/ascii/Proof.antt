@@ -1,82 +1,76 @@
--- `der::content::utf8::ascii` meets its contract. The invariant of both loops: the check of the octets that are left answers as that of the
--- whole content. Assumes nothing.
-use Prim.Native.Nat.{_-_, _≤_}
-use mathlib.Core.Bool.{false≢true}
-use mathlib.Core.Path.{_≡_, refl, sym, ap, _∙_}
+-- `der::content::utf8::ascii` meets its contract. The invariant of both loops: every octet before the place is below 80. Assumes nothing.
+use Prim.Native.Nat.{ℕ, _-_, _≤_, _<_}
+use mathlib.Core.Path.{refl}
 use native.Mathlib.Omega.{arith}
+use borrow.Author.Count.{below-none, below-more}
 use borrow.Author.Needs.{needs}
-use borrow.Author.Tests.{not-false}
-use lib.ListN.{length, drop, drop-of-length-le}
-use Rattle.der.specs.steps.Utf8Classes.{utf8From, utf8}
-use Rattle.der.proofs.theorems.content.Utf8Steps.{step-one, step-many}
+use lib.ListN.{length, getD}
+use Rattle.der.specs.meaning.Eights.{Ascii, NextEightAscii}
+use Rattle.der.proofs.theorems.content.Eights.{ascii-begins, ascii-further, eight-exactly}
 use Rattle.der.proofs.content.utf8.ascii.Statement.{statement}
 use Rattle.der.proofs.content.utf8.ascii.Tie as tie
 
 abbrev Inv-loop : tie.InvT-loop
-Inv-loop content i₀ i = (i ≤ length content) × (utf8From 0 1 3 (drop i content) ≡ utf8 content)
+Inv-loop content i₀ i = (i ≤ length content) × ((k : ℕ) → k < i → Ascii (getD content k 0))
 
 abbrev μ-loop : tie.MeasureT-loop
 μ-loop content i₀ i = length content - i
 
 abbrev Inv-loop2 : tie.InvT-loop2
-Inv-loop2 content i₀ i = (i ≤ length content) × (utf8From 0 1 3 (drop i content) ≡ utf8 content)
+Inv-loop2 content i₀ i = (i ≤ length content) × ((k : ℕ) → k < i → Ascii (getD content k 0))
 
 abbrev μ-loop2 : tie.MeasureT-loop2
 μ-loop2 content i₀ i = length content - i
 
 loop-holds : tie.Need-loop-holds Inv-loop μ-loop Inv-loop2 μ-loop2
-unfolding utf8
-loop-holds c = (search needs, refl)
+loop-holds c = (search needs, below-none _)
 
-add-loop : tie.Need-add-loop Inv-loop μ-loop Inv-loop2 μ-loop2
-add-loop c = search needs
+-- a turn of the first loop: the next eight are below 80
+next-eight : (c : tie.Then1 Inv-loop μ-loop Inv-loop2 μ-loop2) →
+    let loop = c .before .before in
+    NextEightAscii (loop .before .before .args .content .now) (loop .loop .i)
+next-eight c = let loop = c .before .before in eight-exactly (loop .before .before .args .content .now) (c .before .step .ensures) .0 (c .if1 .taken) .1
 
-eight-requires : tie.Need-eight-requires Inv-loop μ-loop Inv-loop2 μ-loop2
-eight-requires c κs = search needs
-
-returns : tie.Need-returns Inv-loop μ-loop Inv-loop2 μ-loop2
-returns c = λ e. absurd (false≢true e)
+step-requires : tie.Need-step-requires Inv-loop μ-loop Inv-loop2 μ-loop2
+step-requires c κs =
+    let content = c .before .before .args .content .now in
+    let inv = c .loop .inv in
+    (inv .0, (λ e. ascii-begins content (inv .0) (inv .1), λ u. refl))
 
 add-i : tie.Need-add-i Inv-loop μ-loop Inv-loop2 μ-loop2
 add-i c = search needs
 
 loop-less : tie.Need-loop-less Inv-loop μ-loop Inv-loop2 μ-loop2
-loop-less c = omega arith
+loop-less c = omega (arith, next-eight c .stand)
 
 loop-again : tie.Need-loop-again Inv-loop μ-loop Inv-loop2 μ-loop2
 loop-again c =
-    let loop = c .before .before .before in
+    let loop = c .before .before in
     let content = loop .before .before .args .content .now in
-    let bound = c .before .eight .ensures (not-false _ (c .if1 .left)) in
-    (omega arith, sym (step-many content 1 3 8 (loop .loop .i) (omega arith) bound) ∙ loop .loop .inv .1)
+    (next-eight c .stand, ascii-further content (loop .loop .inv .1) (next-eight c))
 
 loop2-holds : tie.Need-loop2-holds Inv-loop μ-loop Inv-loop2 μ-loop2
-loop2-holds c = c .before .loop .inv
+loop2-holds c = search needs
 
 shared-slice-read-if2 : tie.Need-shared-slice-read-if2 Inv-loop μ-loop Inv-loop2 μ-loop2
 shared-slice-read-if2 c = search needs
 
-returns-2 : tie.Need-returns-2 Inv-loop μ-loop Inv-loop2 μ-loop2
-returns-2 c = λ e. absurd (false≢true e)
+returns : tie.Need-returns Inv-loop μ-loop Inv-loop2 μ-loop2
+returns c = search needs
 
 add-i-2 : tie.Need-add-i-2 Inv-loop μ-loop Inv-loop2 μ-loop2
 add-i-2 c = search needs
 
 loop2-less : tie.Need-loop2-less Inv-loop μ-loop Inv-loop2 μ-loop2
-loop2-less c = omega arith
+loop2-less c = search needs
 
 loop2-again : tie.Need-loop2-again Inv-loop μ-loop Inv-loop2 μ-loop2
 loop2-again c =
     let loop = c .before .before .before in
-    let content = loop .before .before .before .before .args .content .now in
-    (omega arith, sym (step-one content 1 3 (loop .loop2 .i) (omega arith) (omega arith)) ∙ loop .loop2 .inv .1)
+    (search needs, below-more _ (loop .loop2 .i) (loop .loop2 .inv .1) (c .if2 .left))
 
-returns-3 : tie.Need-returns-3 Inv-loop μ-loop Inv-loop2 μ-loop2
-unfolding utf8From
-returns-3 c e =
-    let loop = c .before in
-    let content = loop .before .before .before .before .args .content .now in
-    sym (loop .loop2 .inv .1) ∙ ap (utf8From 0 1 3) (drop-of-length-le content {i = loop .loop2 .i} (omega arith))
+returns-2 : tie.Need-returns-2 Inv-loop μ-loop Inv-loop2 μ-loop2
+returns-2 c = search needs
 
 pub ascii-spec : {M : Type 1} → statement M
 ascii-spec =
@@ -87,16 +81,14 @@ ascii-spec =
     Inv-loop2
     μ-loop2
     loop-holds
-    add-loop
-    eight-requires
-    returns
+    step-requires
     add-i
     loop-less
     loop-again
     loop2-holds
     shared-slice-read-if2
-    returns-2
+    returns
     add-i-2
     loop2-less
     loop2-again
-    returns-3)
+    returns-2)
