@@ -14,7 +14,8 @@ SAMPLE = tests/corpus/crmf/openssl-sig-p256.der
 MEASURED = openssl-sig-rsa2048 openssl-batch-10-ec-sig bc-batch-100-rsa-sig-near-64k openssl-batch-259-ec-sig-near-64k \
 	pyasn1-batch-913-nokey-near-64k openssl-regToken-60000
 CRYPTO = $(shell pkg-config --libs libcrypto 2>/dev/null)
-PLACED = -falign-functions=64 # a short loop takes longer if it crosses such a place: what the calls are compared with never does
+# Where a short loop crosses a multiple of 64 it takes longer, so the linker doesn't choose the places of what the calls are compared with.
+PLACED = -falign-functions=64
 INSTALLED = $(DESTDIR)$(PREFIX)
 
 .PHONY: all install demo bench test clean help

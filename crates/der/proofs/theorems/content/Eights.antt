@@ -2,7 +2,7 @@
 -- character by itself, and characters one after another are UTF-8. Assumes nothing.
 use Prim.Native.Nat.{ℕ, zero, suc, _+_, _-_, _≤_, _<_, zero-le}
 use mathlib.Core.Bool.{Bool, true, false}
-use mathlib.Core.List.{List, _++_, append-assoc}
+use mathlib.Core.List.{List, [], _∷_, _++_, append-assoc}
 use mathlib.Core.Logic.{_↔_}
 use mathlib.Core.Path.{_≡_, refl, sym, ap, _∙_}
 use native.Mathlib.Nat.{add-zero, zero-add}
@@ -12,10 +12,17 @@ use borrow.Author.Tests.{ltb-true, ltb-false}
 use lib.Dec.{ltb}
 use lib.ListN.{length, getD, drop, take-append-drop}
 use lib.Seq.{take-suc, getD-drop}
-use Rattle.der.specs.meaning.Utf8.{Utf8, none, char, utf8-1}
+use Rattle.der.specs.meaning.Utf8.{Character, utf8-1, Utf8, none, char}
 use Rattle.der.specs.meaning.Eights.{Ascii, NextEightAscii, MayBegin, StepsOver, eight, one, AsciiFirst}
 use Rattle.der.specs.steps.Utf8Classes.{utf8}
 use Rattle.der.proofs.theorems.content.Productions.{over-characters, utf8-exact}
+
+-- "such bytes" are those that are a character each
+pub ascii-exactly : (octet : ℕ) → Ascii octet ↔ Character (octet ∷ [])
+ascii-exactly octet = (λ a. utf8-1 {a = octet} (zero-le, omega arith), below)
+  where
+    below : Character (octet ∷ []) → Ascii octet
+    below (utf8-1 w) = omega (arith, w .1)
 
 -- characters after characters are UTF-8
 joined : {ps qs : List ℕ} → Utf8 ps → Utf8 qs → Utf8 (ps ++ qs)
@@ -25,7 +32,7 @@ joined (char {c} {bs} h u) v = rw (append-assoc c bs _) (char h (joined u v))
 module _ (text : List ℕ) where
   -- an octet below 80 is a character
   one-character : (place : ℕ) → place < length text → Ascii (getD text place 0) → MayBegin text place → MayBegin text (place + 1)
-  one-character place h a u = rw (add-one place, take-suc text place 0 h) (joined u (char (utf8-1 (zero-le, omega arith)) none))
+  one-character place h a u = rw (add-one place, take-suc text place 0 h) (joined u (char (ascii-exactly (getD text place 0) .0 a) none))
 
   -- so many octets below 80 are as many characters
   pub ascii-characters : (n place : ℕ) → place + n ≤ length text → ((k : ℕ) → k < n → Ascii (getD text (place + k) 0))
