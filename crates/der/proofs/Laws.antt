@@ -28,6 +28,7 @@
 --     tree-encode         the encoding of well-formed elements is read as them
 --     tree-moved          octets further on are read as the same elements, further on (`moved`)
 --     encode-moved        elements further on have the same encoding
+--     members-moved       and are the same members
 --     well-formed-moved   well-formed elements are well-formed further on
 --     header-some         a header has at least one octet, and even two (`header-two`): the identifier and the shortest length (`header-octets`,
 --                         `length-some`)
@@ -62,7 +63,9 @@
 --     is-list-single      the walk over an input that is a list of one element ends where the input does
 --     single-is-list      an input whose first element ends where the input does is a list
 --     is-element-refused, is-element-inside, is-element-value    an element has no fault if its identifier is allowed and
---                         the list inside it, or its content, has none
+--                         the list inside it, or its content, has none, and it keeps the rule at its end
+--     closes-free         only a SET has a rule at its end, and a SEQUENCE has none (`sequence-closing`)
+--     closes-one          one element alone keeps it
 --     holds-integer, holds-bit-string, holds-object-identifier, holds-utf8    the rule that an identifier asks of its content
 --     holds-free          an identifier that asks none (`ruled`) leaves the content free
 --     octets-each, octets-at    octets are numbers below 256
@@ -78,7 +81,7 @@ pub use Rattle.der.proofs.theorems.content.ContentRules.{integer-some}
 pub use Rattle.der.proofs.theorems.element.Identifiers.{constructed-octet, constructed-bit, sequence-constructed, integer-primitive, known, known-allowed, sequence-allowed}
 pub use Rattle.der.proofs.theorems.element.Headers.{passed, head-fits, head-encoded, head-octets}
 pub use Rattle.der.proofs.theorems.reading.Readings.{InOrder, read-in-order, read-at, read-at-end, nothing-identifier, read-at-in-order, read-at-within, further, read-moved, tree-end, tree-enough}
-pub use Rattle.der.proofs.theorems.reading.Readings.{elementAt, tree-step, tree-parts, tree-at, tree-encoded, tree-encode, tree-moved, encode-moved, well-formed-moved}
+pub use Rattle.der.proofs.theorems.reading.Readings.{elementAt, tree-step, tree-parts, tree-at, tree-encoded, tree-encode, tree-moved, encode-moved, members-moved, well-formed-moved}
 pub use Rattle.der.proofs.theorems.reading.Trees.{header-some, header-two, header-octets, length-some, encode-none, encode-element, encode-length, moved-none, moved-element}
 pub use Rattle.der.proofs.theorems.reading.Trees.{well-formed-none, well-formed-deep, well-formed-element, single-none, single-element}
 pub use Rattle.der.proofs.theorems.explain.Exact.{Encoded, exact, Checked, walk-tree}
@@ -91,4 +94,5 @@ pub use Rattle.der.proofs.theorems.element.MeasuredElements.{Begins, Me
 pub use Rattle.der.proofs.theorems.element.Spans.{span-fits, span-small, span-stands, span-broken, span-tree}
 pub use Rattle.der.proofs.theorems.recognise.Recognising.{is-list-none, is-list-short, is-list-deep, is-list-lost, is-list-step, is-list-single, single-is-list, is-element-refused, is-element-inside, is-element-value}
 pub use Rattle.der.proofs.theorems.recognise.Recognising.{holds-integer, holds-bit-string, holds-object-identifier, holds-utf8, ruled, holds-free}
+pub use Rattle.der.proofs.theorems.closing.Closing.{sequence-closing, closes-free, closes-one}
 pub use Rattle.der.proofs.theorems.recognise.RecognisedTrees.{ListEncoded, is-list-exact, OneFormed, is-element-exact}

@@ -8,6 +8,7 @@ pub mod Length
 pub mod Utf8
 pub mod Eights
 pub mod Content
+pub mod Order
 pub mod Tree
 pub mod Fault
 pub mod Explains

@@ -3,6 +3,7 @@ pub mod Cause
 pub mod Header
 pub mod Utf8Classes
 pub mod ContentTest
+pub mod Order
 pub mod Explain
 pub mod Reading
 pub mod Span

@@ -3,6 +3,7 @@ use crate::bounds::DEPTH;
 use crate::bounds::LONGEST;
 use crate::cause;
 use crate::cause::Cause;
+use crate::closing;
 use crate::content;
 use crate::element::between::between;
 use crate::element::header;
@@ -11,7 +12,7 @@ use crate::element::identifier::is_constructed;
 ghost use mathlib.Core.Path.{_≡_};
 ghost use lib.ListN.{length};
 ghost use Rattle.der.specs.meaning.Explains.{Explains};
-ghost use Rattle.der.specs.steps.Explain.{Lent, numberOf, placeOf, detailOf, endOf, faultAt, listOf, primitiveOf, elementOf};
+ghost use Rattle.der.specs.steps.Explain.{Lent, numberOf, placeOf, detailOf, endOf, faultAt, listOf, byRule, afterInside, elementOf};
 
 // What the walk over an element answers.
 pub enum Nest {
@@ -54,9 +55,11 @@ fn element(bytes: &[u8], place: usize, left: usize) -> Nest
             let end = octets + length;
             let inside = &bytes[octets..end];
             if is_constructed(identifier) {
-                list(inside, place + octets, left - 1)
+                let answer = list(inside, place + octets, left - 1);
+                after_inside(identifier, inside, place, answer)
             } else {
-                primitive(identifier, inside, place, place + end)
+                let kept = content::holds(identifier, inside);
+                by_rule(kept, identifier, place, place + end)
             }
         }
     }
@@ -87,15 +90,32 @@ fn list(bytes: &[u8], place: usize, left: usize) -> Nest
     Nest::End(place + at)
 }
 
-// A primitive element at `place`, whose content ends at `end`.
-fn primitive(id: u8, content: &[u8], place: usize, end: usize) -> Nest
-    ensures { λ r. ⌜ r ≡ primitiveOf place end id (now (content .entry)) ⌝ }
+// A constructed element at `place`, by the answer for its inside.
+fn after_inside(id: u8, content: &[u8], place: usize, answer: Nest) -> Nest
+    ensures { λ r. ⌜ r ≡ afterInside place id (now (content .entry)) answer ⌝ }
 {
-    if content::holds(id, content) {
-        Nest::End(end)
-    } else {
-        fault(Cause::WrongContent((id % 32) as usize), place)
+    match answer {
+        Nest::End(end) => by_rule(closing::closes(id, content), id, place, end),
+        Nest::Fault {
+            number,
+            place: fault,
+            detail,
+        } => Nest::Fault {
+            number,
+            place: fault,
+            detail,
+        },
     }
+}
+
+// An element at `place` and up to `end`, by whether it keeps the rule of its identifier.
+fn by_rule(kept: bool, id: u8, place: usize, end: usize) -> Nest
+    ensures { λ r. ⌜ r ≡ byRule kept place end id ⌝ }
+{
+    if kept {
+        return Nest::End(end);
+    }
+    fault(Cause::WrongContent((id % 32) as usize), place)
 }
 
 // The fault of an element at `place`, by its cause.

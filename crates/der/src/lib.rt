@@ -9,6 +9,7 @@
 // recogniser takes what the walk finds no fault in. `content` is public too: the layers above apply its rules to implicitly tagged values.
 pub mod bounds;
 mod cause;
+pub mod closing;
 pub mod content;
 pub mod element;
 pub mod explain;

@@ -1,5 +1,6 @@
 // The recogniser: whether octets have no fault. It doesn't say which fault they have.
 use crate::bounds::LONGEST;
+use crate::closing::closes;
 use crate::content;
 use crate::element::identifier::is_allowed;
 use crate::element::identifier::is_constructed;
@@ -42,7 +43,7 @@ pub fn is_element(id: u8, content: &[u8], left: usize) -> bool
         return false;
     }
     if is_constructed(id) {
-        return is_list(content, left);
+        return is_list(content, left) && closes(id, content);
     }
     content::holds(id, content)
 }

@@ -12,6 +12,7 @@ ghost use mathlib.Core.Path.{_≡_};
 ghost use mathlib.Core.Bool.{true, false};
 ghost use lib.ListN.{length};
 ghost use Rattle.der.specs.meaning.Bounds.{longest};
+ghost use Rattle.der.specs.steps.Order.{closes};
 ghost use Rattle.crmf.specs.meaning.Notation.{AlgId, Spki, OneName, RdnSequence, Rdn, Attribute};
 ghost use Rattle.crmf.specs.steps.grammar.Lines.{start};
 ghost use Rattle.crmf.specs.steps.recognise.Inner.{Leading, Sole, RowlessFrom};
@@ -93,10 +94,10 @@ fn primitive(bytes: &[u8]) -> bool
     holds(id, &bytes[from..])
 }
 
-// Whether the content is that of a RelativeDistinguishedName with one AttributeTypeAndValue.
+// Whether the content is that of a RelativeDistinguishedName with one AttributeTypeAndValue, which needs no comparing.
 pub(crate) fn rdn(bytes: &[u8]) -> bool
     requires { ⌜ length (now bytes) ≤ longest ⌝ }
-    ensures { λ r. ⌜ (r ≡ true → RowlessFrom (start Rdn) 2 (now (bytes .entry))) ⌝ }
+    ensures { λ r. ⌜ (r ≡ true → RowlessFrom (start Rdn) 2 (now (bytes .entry)) × ((id : ℕ) → closes id (now (bytes .entry)) ≡ true)) ⌝ }
 {
     let from = sole(bytes, SEQUENCE);
     (from != 0) && type_and_value(&bytes[from..], true)

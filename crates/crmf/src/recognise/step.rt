@@ -5,6 +5,7 @@ use crate::grammar::judge::Onward;
 use crate::grammar::lines::LINES;
 use crate::grammar::table;
 use crate::recognise::common;
+use der::closing::closes;
 use der::content;
 use der::content::utf8;
 use der::recognise;
@@ -14,6 +15,7 @@ ghost use mathlib.Core.Bool.{true, false};
 ghost use lib.Dec.{eqb};
 ghost use lib.ListN.{length, getD};
 ghost use Rattle.der.specs.meaning.Bounds.{longest};
+ghost use Rattle.der.specs.steps.Order as order;
 ghost use Rattle.crmf.specs.meaning.Kinds.{certReqId};
 ghost use Rattle.crmf.specs.meaning.Notation.{named};
 ghost use Rattle.crmf.specs.steps.grammar.Packed.{packed};
@@ -51,6 +53,19 @@ fn skip_or_descend(checked: bool, next: usize) -> Visit
     Visit::Descend(next)
 }
 
+// Skips the content if it was already checked. Else descends if the element keeps the rule at its end, and refuses it if not.
+fn take_set(checked: bool, id: u8, content: &[u8], next: usize) -> Visit
+    ensures { λ r. ⌜ r ≡ elim checked [ true ↦ Skip next | false ↦ elim (order.closes id (now (content .entry))) [ true ↦ Descend next | false ↦ Refuse ] ] ⌝ }
+{
+    if checked {
+        return Visit::Skip(next);
+    }
+    if closes(id, content) {
+        return Visit::Descend(next);
+    }
+    Visit::Refuse
+}
+
 // How to go on at an element with the identifier and the content, in the form of the line that the word packs. `left` levels of depth are left
 // inside it. `actionOf` in specs/steps/grammar/Packed.antt says which lines have which action.
 pub(crate) fn take(
@@ -85,7 +100,7 @@ pub(crate) fn take(
             (1 < left) & common::type_and_value(content, true),
             next,
         ),
-        codes::TAKE_RDN => skip_or_descend((1 < left) & common::rdn(content), next),
+        codes::TAKE_RDN => take_set((1 < left) & common::rdn(content), id, content, next),
         codes::TAKE_BY_LINE => take_by_fields(word, id, content, left, edition, table),
         codes::TAKE_SPKI => skip_or_descend(
             (1 < left) & common::subject_public_key_info(content),
@@ -96,8 +111,8 @@ pub(crate) fn take(
     }
 }
 
-// Answers the same by the fields of the line, whatever its action is: by its mark, its rule and its inside. The length isn't checked, so the
-// line must not be a certReqId's.
+// Answers the same by the fields of the line, whatever its action is: by its mark, its rule and its inside. Neither the length nor the rule at
+// the element's end is checked, so the line must not be a certReqId's, nor that of a SET with lines inside.
 fn take_by_fields(
     word: usize,
     id: u8,
@@ -107,7 +122,7 @@ fn take_by_fields(
     table: &[usize; LINES],
 ) -> Visit
     requires { ⌜ now table ≡ packed ⌝ }
-    ensures { λ r. ⌜ ((k whole : ℕ) → word ≡ getD packed k 0 → eqb (line k .kind) certReqId ≡ false → VisitJustified edition k whole left id (now (content .entry)) r) ⌝ }
+    ensures { λ r. ⌜ ((k whole : ℕ) → word ≡ getD packed k 0 → eqb (line k .kind) certReqId ≡ false → (eqb (line k .inside) 0 ≡ false → order.closes id (now (content .entry)) ≡ true) → VisitJustified edition k whole left id (now (content .entry)) r) ⌝ }
 {
     let mark = table::mark_of(word);
     if (mark != 0) & (mark / codes::EDITION != edition) {

@@ -1,9 +1,9 @@
 -- Which fault is answered: SPECIFICATION 2.4. A fault is true and the first in the order of judging if the element at its place breaks the
--- rule of its number, and every element and rule judged before it holds. No walk is named. `Least` says it once more by first bytes: no
--- fault has a smaller place. A rule that is judged after an element's inside would join `FaultOf` as a case that asks for a well-formed
--- inside. Assumes nothing.
-use Prim.Native.Nat.{ℕ, zero, suc, _+_, _≤_, _<_}
+-- rule of its number, and every element and rule judged before it holds. No walk is named. `Soonest` says it once more by places: every other
+-- fault is decided further on. Assumes nothing.
+use Prim.Native.Nat.{ℕ, zero, suc, _+_, _-_, _≤_, _<_}
 use mathlib.Core.Path.{_≡_}
+use mathlib.Core.Logic.{_⊎_}
 use mathlib.Core.Bool.{true, false}
 use mathlib.Core.List.{List, [], _∷_, _++_}
 use lib.ListN
@@ -11,7 +11,8 @@ use lib.ListN.{take, drop}
 use Rattle.der.specs.meaning.Identifier.{tagNumber, allowed, constructed}
 use Rattle.der.specs.meaning.Length.{missing, wrong, octets, lengthOf}
 use Rattle.der.specs.meaning.Content.{Content}
-use Rattle.der.specs.meaning.Tree.{Tree, WellFormed, encode}
+use Rattle.der.specs.meaning.Order.{Closing}
+use Rattle.der.specs.meaning.Tree.{Tree, WellFormed, encode, members}
 
 -- The octets from an element's first byte to its parent's end begin with a header of h octets and n octets of content: an identifier that is
 -- allowed, and the length octets that give n. All of it ends no later than the parent.
@@ -39,11 +40,14 @@ pub data Breaks : List ℕ → ℕ → ℕ → Type 0 where
 abbrev pub Faults : Type 1
 Faults = ℕ → List ℕ → ℕ → ℕ → ℕ → Type 0
 
--- A fault of an element at a place: a rule that it breaks itself, or a fault of the list of elements inside it.
-pub data FaultOf (Inside : Faults) (p : ℕ) (bs : List ℕ) : ℕ → ℕ → ℕ → Type 0 where
-  own : {number detail : ℕ} → Breaks bs number detail → FaultOf Inside p bs number p detail
+-- The first fault of an element at a place, with the levels of depth that are left inside it: a rule that it breaks itself; the first fault
+-- of the list of elements inside it; or, if there is none, the rule that is judged at its end.
+pub data FaultOf (left : ℕ) (Inside : Faults) (p : ℕ) (bs : List ℕ) : ℕ → ℕ → ℕ → Type 0 where
+  own : {number detail : ℕ} → Breaks bs number detail → FaultOf left Inside p bs number p detail
   inside : {number at detail : ℕ} (id h n : ℕ) → Headed bs id h n → constructed id ≡ true
-      → Inside (p + h) (take n (drop h bs)) number at detail → FaultOf Inside p bs number at detail
+      → Inside (p + h) (take n (drop h bs)) number at detail → FaultOf left Inside p bs number at detail
+  closing : (id h n : ℕ) → Headed bs id h n → constructed id ≡ true → (t : Tree) → WellFormed left (p + h) t → take n (drop h bs) ≡ encode t
+      → (Closing id (members t) → ⊥) → FaultOf left Inside p bs 5 p (tagNumber id)
 
 -- Without a level of depth left, the fault is 6, before anything else.
 abbrev pub TooDeep : Faults
@@ -61,24 +65,48 @@ pub record FirstIn (left : ℕ) (Faulty : Faults) (p : ℕ) (bs : List ℕ) (num
 -- The first fault of the element at a place, with the levels of depth that are left.
 abbrev pub First : ℕ → Faults
 First zero p bs number at detail = TooDeep p bs number at detail
-First (suc left) p bs number at detail = FaultOf (FirstIn left (First left)) p bs number at detail
+First (suc left) p bs number at detail = FaultOf left (FirstIn left (First left)) p bs number at detail
+
+-- Octets that consist of elements, by their headers alone, and the encoding of each.
+pub data Members : List ℕ → List (List ℕ) → Type 0 where
+  none : Members [] []
+  member : {bs : List ℕ} {ms : List (List ℕ)} (id h n : ℕ) → Headed bs id h n → Members (drop (h + n) bs) ms → Members bs (take (h + n) bs ∷ ms)
+
+-- The same as a fault, with the place at which it is decided.
+abbrev pub DecidedFaults : Type 1
+DecidedFaults = ℕ → List ℕ → ℕ → ℕ → ℕ → ℕ → Type 0
+
+-- Any fault of an element at a place, whatever else is wrong: a rule that it breaks itself, decided at its first byte; a fault of the list of
+-- elements inside it; or the rule that is judged at its end, decided at its last byte.
+pub data AnyOf (Inside : DecidedFaults) (p : ℕ) (bs : List ℕ) : ℕ → ℕ → ℕ → ℕ → Type 0 where
+  own : {number detail : ℕ} → Breaks bs number detail → AnyOf Inside p bs number p detail p
+  inside : {number at detail decided : ℕ} (id h n : ℕ) → Headed bs id h n → constructed id ≡ true
+      → Inside (p + h) (take n (drop h bs)) number at detail decided → AnyOf Inside p bs number at detail decided
+  closing : (id h n : ℕ) → Headed bs id h n → constructed id ≡ true → (ms : List (List ℕ)) → Members (take n (drop h bs)) ms
+      → (Closing id ms → ⊥) → AnyOf Inside p bs 5 p (tagNumber id) (p + (h + n) - 1)
 
 -- A list of elements, any of which has a fault: headers alone lead to it, and the elements before it may have faults too.
-pub data AnyIn (Faulty : Faults) : ℕ → List ℕ → ℕ → ℕ → ℕ → Type 0 where
-  here : {p : ℕ} {bs : List ℕ} {number at detail : ℕ} → (bs ≡ [] → ⊥) → Faulty p bs number at detail → AnyIn Faulty p bs number at detail
-  later : {p : ℕ} {bs : List ℕ} {number at detail : ℕ} (id h n : ℕ) → Headed bs id h n
-      → AnyIn Faulty (p + (h + n)) (drop (h + n) bs) number at detail → AnyIn Faulty p bs number at detail
+pub data AnyIn (Faulty : DecidedFaults) : ℕ → List ℕ → ℕ → ℕ → ℕ → ℕ → Type 0 where
+  here : {p : ℕ} {bs : List ℕ} {number at detail decided : ℕ} → (bs ≡ [] → ⊥) → Faulty p bs number at detail decided
+      → AnyIn Faulty p bs number at detail decided
+  later : {p : ℕ} {bs : List ℕ} {number at detail decided : ℕ} (id h n : ℕ) → Headed bs id h n
+      → AnyIn Faulty (p + (h + n)) (drop (h + n) bs) number at detail decided → AnyIn Faulty p bs number at detail decided
 
 -- Any fault of the element at a place or of an element inside it, with the levels of depth that are left.
-abbrev pub Any : ℕ → Faults
-Any zero p bs number at detail = TooDeep p bs number at detail
-Any (suc left) p bs number at detail = FaultOf (AnyIn (Any left)) p bs number at detail
+abbrev pub Any : ℕ → DecidedFaults
+Any zero p bs number at detail decided = TooDeep p bs number at detail × (decided ≡ p)
+Any (suc left) p bs number at detail decided = AnyOf (AnyIn (Any left)) p bs number at detail decided
 
--- "Of several faults the one with the least first byte": no fault has a smaller one, and no other fault has the same.
-pub record Least (left p : ℕ) (bs : List ℕ) (number at detail : ℕ) : Type 0 where
-  pub any : Any left p bs number at detail
-  pub least : (n a d : ℕ) → Any left p bs n a d → at ≤ a
-  pub alone : (n a d : ℕ) → Any left p bs n a d → at ≡ a → (number ≡ n) × (detail ≡ d)
+-- The order of judging: the fault that is decided at the smaller place comes first. Of two that are decided at one place, which is the last byte
+-- of both their elements, the one of the inner element does.
+abbrev pub Sooner : (at decided at′ decided′ : ℕ) → Type 0
+Sooner at decided at′ decided′ = (decided < decided′) ⊎ ((decided ≡ decided′) × (at′ < at))
+
+-- "Of several faults": the one that is decided first. Every fault is this one or comes later.
+pub record Soonest (Any : ℕ → ℕ → ℕ → ℕ → Type 0) (number at detail : ℕ) : Type 0 where
+  pub decided : ℕ
+  pub any : Any number at detail decided
+  pub others : (n a d e : ℕ) → Any n a d e → ((number ≡ n) × (at ≡ a) × (detail ≡ d)) ⊎ Sooner at decided a e
 
 -- The details that a fault's number can have, at an element with the identifier id.
 pub data Named (id : ℕ) : ℕ → ℕ → Type 0 where

@@ -8,6 +8,7 @@ use lib.ListN.{length}
 use Rattle.der.specs.meaning.Identifier.{allowed, constructed}
 use Rattle.der.specs.meaning.Length.{lengthOctets}
 use Rattle.der.specs.meaning.Content.{Content}
+use Rattle.der.specs.meaning.Order.{Closing}
 
 -- A list of elements, each with its identifier, first byte, whole length, content octets and the elements inside it.
 pub data Tree : Type 0 where
@@ -23,6 +24,11 @@ unfoldable pub encode : Tree → List ℕ
 encode none = []
 encode (element id first whole content inside rest) = (header id content ++ content) ++ encode rest
 
+-- the encoding of each element
+unfoldable pub members : Tree → List (List ℕ)
+members none = []
+members (element id first whole content inside rest) = (header id content ++ content) ∷ members rest
+
 -- What makes an element well-formed at a place (SPECIFICATION 2.1 to 2.3); Inside says that the elements inside it are.
 pub record Formed (place id first whole : ℕ) (content : List ℕ) (inside : Tree) (Inside : Type 0) : Type 0 where
   pub placed : first ≡ place
@@ -30,6 +36,8 @@ pub record Formed (place id first whole : ℕ) (content : List ℕ) (inside : Tr
   pub identified : T (allowed id)
   -- constructed: the content is the encoding of the elements inside, which are well-formed
   pub filled : constructed id ≡ true → (content ≡ encode inside) × Inside
+  -- the elements inside are in the order that the identifier asks for
+  pub closing : Closing id (members inside)
   -- primitive: there is nothing inside, and the content keeps its rule
   pub valued : constructed id ≡ false → (inside ≡ none) × Content id content
 

@@ -1,7 +1,7 @@
 -- The walk over the nest of elements ("nest" is document 01's own term) that explains a refusal: the first fault in its order, or the end.
 -- Assumes nothing.
 use Prim.Native.Nat.{ℕ, zero, suc, _+_, _-_, _^_, _≤_, _<_}
-use mathlib.Core.Bool.{true, false}
+use mathlib.Core.Bool.{Bool, true, false}
 use mathlib.Core.List.{List, [], _∷_}
 use lib.Dec.{leb}
 use lib.ListN.{length, take, drop}
@@ -16,6 +16,7 @@ use Rattle.der.specs.steps.Cause.{causeNumber, causeDetail}
 use Rattle.der.specs.meaning.Identifier.{tagNumber, constructed}
 use Rattle.der.specs.steps.Header.{headOf}
 use Rattle.der.specs.steps.ContentTest.{holds}
+use Rattle.der.specs.steps.Order.{closes}
 
 -- document 01's number for an answer: 0 if there is no fault
 unfoldable pub numberOf : Nest → ℕ
@@ -48,9 +49,14 @@ listOf judge (suc n) p [] = End p
 listOf judge (suc n) p (b ∷ bs) =
     elim (judge p (b ∷ bs)) [ End q ↦ listOf judge n q (drop (q - p) (b ∷ bs)) | Fault m q k ↦ Fault m q k ]
 
--- a primitive element's content (5, with the tag number), at the place p and up to the place q
-unfoldable pub primitiveOf : ℕ → ℕ → ℕ → List ℕ → Nest
-primitiveOf p q id content = elim (holds id content) [ true ↦ End q | false ↦ faultAt (WrongContent (tagNumber id)) p ]
+-- an element at the place p and up to the place q, by whether it keeps the rule of its identifier (5, with the tag number)
+unfoldable pub byRule : Bool → ℕ → ℕ → ℕ → Nest
+byRule kept p q id = elim kept [ true ↦ End q | false ↦ faultAt (WrongContent (tagNumber id)) p ]
+
+-- a constructed element at the place p, by the answer for its inside: the rule at its end is judged if there is no fault before
+unfoldable pub afterInside : ℕ → ℕ → List ℕ → Nest → Nest
+afterInside p id content (End q) = byRule (closes id content) p q id
+afterInside p id content (Fault m q k) = Fault m q k
 
 -- "An element's inside, if constructed, is a list of elements, and each is an element again": the element at a place, over the octets
 -- from there to its parent's end, with the levels of depth that are left; with none left it is too deep (6).
@@ -60,8 +66,8 @@ elementOf (suc left) p bs =
     elim (headOf bs) [
       | Broken c ↦ faultAt c p
       | Stands id h n ↦ elim (constructed id) [
-        | true ↦ listOf (elementOf left) n (p + h) (take n (drop h bs))
-        | false ↦ primitiveOf p (p + h + n) id (take n (drop h bs))
+        | true ↦ let content = take n (drop h bs) in afterInside p id content (listOf (elementOf left) n (p + h) content)
+        | false ↦ byRule (holds id (take n (drop h bs))) p (p + h + n) id
       ]
     ]
 

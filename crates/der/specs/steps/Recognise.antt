@@ -9,6 +9,7 @@ use Rattle.der.specs.declared.explain.Nest.{Nest}
 use Rattle.der.specs.declared.explain.Nest.the-variants.{End, Fault}
 use Rattle.der.specs.meaning.Identifier.{allowed, constructed}
 use Rattle.der.specs.steps.ContentTest.{holds}
+use Rattle.der.specs.steps.Order.{closes}
 use Rattle.der.specs.meaning.Bounds.{longest}
 use Rattle.der.specs.steps.Explain.{listOf, elementOf}
 
@@ -23,4 +24,4 @@ isList left bs = leb (length bs) longest && faultless (listOf (elementOf left) (
 
 -- whether an element with the identifier and the content has no fault, with the levels of depth that are left inside it
 unfoldable pub isElement : ℕ → ℕ → List ℕ → Bool
-isElement id left c = allowed id && (elim (constructed id) [ true ↦ isList left c | false ↦ holds id c ])
+isElement id left c = allowed id && (elim (constructed id) [ true ↦ isList left c && closes id c | false ↦ holds id c ])

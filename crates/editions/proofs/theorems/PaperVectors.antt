@@ -9,7 +9,8 @@ use Rattle.der.specs.steps.Header.{sizedBy, headOf}
 use Rattle.der.specs.steps.Utf8Classes.{classOf, leads, tails, lowest, highest, utf8From, utf8}
 use Rattle.der.specs.meaning.Content.{integer, lastOf, unpadded, objectIdentifier}
 use Rattle.der.specs.steps.ContentTest.{holds}
-use Rattle.der.specs.steps.Explain.{listOf, primitiveOf, elementOf, walkAt}
+use Rattle.der.specs.steps.Order.{closes}
+use Rattle.der.specs.steps.Explain.{listOf, byRule, afterInside, elementOf, walkAt}
 use Rattle.der.specs.steps.Reading.{given, read, treeOf, tree, nothingAt}
 use Rattle.crmf.specs.meaning.Value.{isUpTo, keeps, typeNumber, selected}
 use Rattle.crmf.specs.meaning.Lists.{same, over}
@@ -35,7 +36,7 @@ Computed x =
 
 computed : Each Computed entries
 unfolding tagNumber constructed allowed valueFrom shortest longForm lengthOf sizedBy headOf
-    classOf leads tails lowest highest utf8From utf8 integer lastOf unpadded objectIdentifier holds listOf primitiveOf elementOf walkAt
+    classOf leads tails lowest highest utf8From utf8 integer lastOf unpadded objectIdentifier holds listOf byRule closes afterInside elementOf walkAt
     nothingAt given read treeOf tree same isUpTo keeps typeNumber selected among named order content
     partSize size startsFrom start insideLine passOf formLines nextLine wayLine partLines containerLines linesFrom lines
     line findLineIn findLine closedIn closed judged withForm withLongId withElement walk emptyTally numbers firstLong goes rowsFrom rowsOfInput over fits

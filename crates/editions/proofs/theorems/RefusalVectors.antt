@@ -13,7 +13,8 @@ use Rattle.der.specs.steps.Header.{sizedBy, headOf}
 use Rattle.der.specs.steps.Utf8Classes.{classOf, leads, tails, lowest, highest, utf8From, utf8}
 use Rattle.der.specs.meaning.Content.{boolean, null, integer, bitString, lastOf, unpadded, objectIdentifier}
 use Rattle.der.specs.steps.ContentTest.{holds}
-use Rattle.der.specs.steps.Explain.{listOf, primitiveOf, elementOf, walkAt}
+use Rattle.der.specs.steps.Order.{closes}
+use Rattle.der.specs.steps.Explain.{listOf, byRule, afterInside, elementOf, walkAt}
 use Rattle.der.specs.steps.Reading.{given, read, treeOf, tree, nothingAt}
 use Rattle.crmf.specs.meaning.Value.{isEmpty, isUpTo, number, keeps, typeNumber, selected}
 use Rattle.crmf.specs.meaning.Lists.{same}
@@ -64,7 +65,7 @@ explained-computed e s r ((octets, is), (short, some, reason)) = (
 
 computed-told : Each (Both Computed) told
 unfolding tagNumber constructed allowed valueFrom shortest longForm lengthOf sizedBy headOf
-    classOf leads tails lowest highest utf8From utf8 boolean null integer bitString lastOf unpadded objectIdentifier holds listOf primitiveOf elementOf walkAt
+    classOf leads tails lowest highest utf8From utf8 boolean null integer bitString lastOf unpadded objectIdentifier holds listOf byRule closes afterInside elementOf walkAt
     nothingAt given read treeOf tree same isEmpty isUpTo number keeps typeNumber selected among named order content
     partSize size startsFrom start insideLine passOf formLines nextLine wayLine partLines containerLines linesFrom lines
     line findLineIn findLine closedIn closed judged withForm withLongId withElement walk emptyTally firstLong goes rowsFrom rowsOfInput
@@ -73,7 +74,7 @@ computed-told = ((refl, refl), (refl, refl)) & ((refl, refl), (refl, refl)) & ((
 
 computed-explained : Each (Both (λ e s r. Computed e s r × Reasoned e s r)) explained
 unfolding tagNumber constructed allowed valueFrom shortest longForm lengthOf sizedBy headOf
-    classOf leads tails lowest highest utf8From utf8 boolean null integer bitString lastOf unpadded objectIdentifier holds listOf primitiveOf elementOf walkAt
+    classOf leads tails lowest highest utf8From utf8 boolean null integer bitString lastOf unpadded objectIdentifier holds listOf byRule closes afterInside elementOf walkAt
     nothingAt given read treeOf tree same isEmpty isUpTo number keeps typeNumber selected among named order content
     partSize size startsFrom start insideLine passOf formLines nextLine wayLine partLines containerLines linesFrom lines
     line findLineIn findLine closedIn closed judged withForm withLongId withElement walk emptyTally firstLong goes rowsFrom rowsOfInput

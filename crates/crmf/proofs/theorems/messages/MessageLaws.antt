@@ -14,8 +14,8 @@ use lib.Seq.{take-length}
 use borrow.Author.Tests.{eqb-true}
 use Rattle.der.specs.meaning.Bounds.{depth}
 use Rattle.der.specs.meaning.Identifier.{constructed}
-use Rattle.der.specs.meaning.Tree.{Tree, none, element, header, encode, WellFormed, Single, moved}
-use Rattle.der.proofs.Laws.{encode-none, encode-element, moved-none, moved-element, sequence-constructed, sequence-allowed, well-formed-none, well-formed-element, single-none, single-element}
+use Rattle.der.specs.meaning.Tree.{Tree, none, element, header, encode, members, WellFormed, Single, moved}
+use Rattle.der.proofs.Laws.{encode-none, encode-element, moved-none, moved-element, sequence-constructed, sequence-allowed, sequence-closing, well-formed-none, well-formed-element, single-none, single-element}
 use Rattle.crmf.specs.meaning.Kinds as kinds
 use Rattle.crmf.specs.meaning.Value.{keeps, isEmpty, empty}
 use Rattle.crmf.specs.meaning.Notation
@@ -433,6 +433,7 @@ batch-of-formed to fs run each =
           sized = refl;
           identified = sequence-allowed;
           filled = λ e. (same, rw zero-add formed);
+          closing = sequence-closing (members (chain fs));
           valued = λ e. never-both (constructed 0x30) sequence-constructed e;
         },
         well-formed-none depth (0 + size),

@@ -3,11 +3,13 @@ use Prim.Native.Nat.{ℕ}
 use mathlib.Core.Bool.{Bool, true, false, not, _&&_, _||_, and-eq-true-iff, false≢true}
 use mathlib.Core.Logic.{_⊎_, inl, inr, ⊎-elim}
 use mathlib.Core.Path.{_≡_, refl, sym, ap, _∙_}
+use mathlib.Core.List.{List}
 use native.Mathlib.Omega.{arith}
 use borrow.Author.Tests.{eqb-true, eqb-false, not-true}
 use lib.Dec.{eqb}
 use Rattle.der.specs.meaning.Identifier.{allowed, constructed}
-use Rattle.der.proofs.Laws.{ruled, constructed-octet, known, known-allowed}
+use Rattle.der.specs.steps.Order.{closes}
+use Rattle.der.proofs.Laws.{ruled, closes-free, constructed-octet, known, known-allowed}
 use Rattle.crmf.specs.steps.grammar.Codes as codes
 use Rattle.crmf.specs.meaning.Kinds as kinds
 use Rattle.crmf.specs.meaning.Value.{Rule, always, integer, bitString}
@@ -43,6 +45,19 @@ inside-constructed k id e some =
     let same : id ≡ a = eqb-true _ _ (ap (λ i. named i id) (sym is) ∙ e) in
     rw same (known-allowed a may, constructed-octet a ∙ made))
     (either _ _ (at-line (λ x. eqb (x .inside) 0 || one (λ i. known i && constructedBit i) (x .identifiers)) refl k))
+
+-- Of the lines that have an inside only a RelativeDistinguishedName's is of a SET, so elements of all others keep the rule at their end.
+pub inside-closes : (k id : ℕ) → named (line k .identifiers) id ≡ true → eqb (line k .inside) 0 ≡ false → eqb (actionOf (line k)) codes.takeRdn ≡ false
+    → (c : List ℕ) → closes id c ≡ true
+unfolding computed named
+inside-closes k id e some other c =
+    let unlike : (eqb (line k .inside) 0 || eqb (actionOf (line k)) codes.takeRdn) ≡ false = rw (some, other) in
+    ⊎-elim (λ p. absurd (false≢true (sym unlike ∙ p)))
+    (λ p.
+    let (a, is, fits) = one-octet (λ i. not (eqb i 0x31)) (line k .identifiers) p in
+    let same : id ≡ a = eqb-true _ _ (ap (λ i. named i id) (sym is) ∙ e) in
+    closes-free id c (rw same (not-true (eqb a 0x31) fits)))
+    (either _ _ (at-line (λ x. (eqb (x .inside) 0 || eqb (actionOf x) codes.takeRdn) || one (λ i. not (eqb i 0x31)) (x .identifiers)) refl k))
 
 -- A line of both editions for elements of one identifier, a list's or not, whose value keeps a rule; lists have lines inside, others none.
 pub record Plain (k i : ℕ) (r : Rule) (list : Bool) : Type 0 where

@@ -3,7 +3,7 @@
 -- Assumes nothing.
 use Prim.Native.Nat.{ℕ, suc, _+_, _≤_, _<_}
 use mathlib.Core.Path.{_≡_, refl, sym, _∙_}
-use mathlib.Core.Bool.{Bool, true, false, and-eq-true-iff, false≢true}
+use mathlib.Core.Bool.{Bool, true, false, _&&_, and-eq-true-iff, false≢true}
 use mathlib.Core.List.{List, []}
 use native.Mathlib.Omega.{arith}
 use lib.Dec.{eqb}
@@ -15,6 +15,7 @@ use Rattle.der.specs.steps.Reading.{tree}
 use Rattle.der.specs.meaning.Bounds.{depth, longest}
 use Rattle.der.specs.meaning.Identifier.{allowed, constructed}
 use Rattle.der.specs.steps.Span.{spanOf}
+use Rattle.der.specs.steps.Order.{closes}
 use Rattle.der.specs.steps.Recognise.{isList, isElement}
 use Rattle.der.proofs.Laws.{tree-end, is-list-none, is-list-short, is-list-deep, is-list-lost, is-list-step, span-tree, is-element-refused, is-element-inside}
 use Rattle.crmf.specs.declared.recognise.Recognition.{Recognition}
@@ -47,8 +48,13 @@ module _ (e j whole left n p id : ℕ) (c : List ℕ) (fits : named (line j .ide
       go true good true free = rw (contentCount, good, free, fault)
       go true good false lined =
           let (may, made) = inside-constructed j id fits (eqb-false _ _ lined) in
-          let same : isList left c ≡ false = sym (is-element-inside id left c may made) ∙ fault in
-          rw (contentCount, good, lined, countsAt, same)
+          by-end good lined (closes id c) refl (isList left c) refl (sym (is-element-inside id left c may made) ∙ fault)
+        where
+          by-end : mayStand e (line j) whole ≡ true → eqb (line j .inside) 0 ≡ false → (t : Bool) → closes id c ≡ t → (l : Bool) → isList left c ≡ l
+              → (isList left c && closes id c) ≡ false → contentCount e j whole left n p id c ≡ Unrecognised
+          by-end good lined false lost l is fails = rw (contentCount, good, lined, lost)
+          by-end good lined true kept false is fails = rw (contentCount, good, lined, kept, countsAt, is)
+          by-end good lined true kept true is fails = absurd (false≢true (sym fails ∙ rw (is, kept)))
 
   -- and one without is what is inside it
   content-sound : isElement id left c ≡ true → mayStand e (line j) whole ≡ true
@@ -61,8 +67,8 @@ module _ (e j whole left n p id : ℕ) (c : List ℕ) (fits : named (line j .ide
       go true free = rw (contentCount, countsIn, good, free, sound)
       go false lined =
           let (may, made) = inside-constructed j id fits (eqb-false _ _ lined) in
-          let same : isList left c ≡ true = sym (is-element-inside id left c may made) ∙ sound in
-          rw (contentCount, countsIn, good, lined, countsAt, same, made)
+          let (listed, kept) = and-eq-true-iff (isList left c) (closes id c) .0 (sym (is-element-inside id left c may made) ∙ sound) in
+          rw (contentCount, countsIn, good, lined, kept, countsAt, listed, made)
 
 -- The count at the first element of octets that are not too many, with levels of depth left.
 module _ (e left k n p : ℕ) (bs : List ℕ) (short : length bs ≤ longest) (measured : spanOf bs .octets ≡ 0 → ⊥) where

@@ -15,8 +15,9 @@ use Rattle.der.specs.meaning.Identifier.{allowed, constructed}
 use Rattle.der.specs.meaning.Content.{bitString, objectIdentifier}
 use Rattle.der.specs.steps.ContentTest.{holds}
 use Rattle.der.specs.steps.Span.{spanOf}
+use Rattle.der.specs.steps.Order.{closes}
 use Rattle.der.specs.steps.Recognise.{isElement}
-use Rattle.der.proofs.Laws.{is-element-value, holds-object-identifier, holds-bit-string, constructed-octet, known-allowed, take-slice, take-from}
+use Rattle.der.proofs.Laws.{is-element-value, closes-free, closes-one, holds-object-identifier, holds-bit-string, constructed-octet, known-allowed, take-slice, take-from}
 use Rattle.crmf.specs.declared.recognise.Recognition.the-variants.{Rows}
 use Rattle.crmf.specs.declared.grammar.judge.Onward.the-variants.{To}
 use Rattle.crmf.specs.declared.grammar.table.FoundLine.the-variants.{At}
@@ -68,13 +69,13 @@ module _ (bs : List ℕ) (short : length bs ≤ longest) (some-octets : spanOf b
     unfolding contentCount
     rowless-value free whole = rowless-element (λ e left n p deep. rw (contentCount, found .stood e end-of, found .inside, free, whole left))
 
-    -- a content with lines
-    rowless-inside : eqb within 0 ≡ false → RowlessFrom within levels content → RowlessFrom next (suc levels) (drop end-of bs)
-        → RowlessFrom k (suc levels) bs
+    -- a content with lines, if the element keeps the rule at its end
+    rowless-inside : eqb within 0 ≡ false → closes (getD bs 0 0) content ≡ true → RowlessFrom within levels content
+        → RowlessFrom next (suc levels) (drop end-of bs) → RowlessFrom k (suc levels) bs
     unfolding contentCount
-    rowless-inside lined inner =
+    rowless-inside lined kept inner =
         rowless-element (λ e left n p deep.
-        rw (contentCount, found .stood e end-of, found .inside, lined)
+        rw (contentCount, found .stood e end-of, found .inside, lined, kept)
         (ap (λ (i : ℕ). countsAt e left i n p content) (found .inside) ∙ inner e left n p deep))
 
 -- the line to go on with after the last part of a container
@@ -151,9 +152,10 @@ module _ (bs : List ℕ) (short : length bs ≤ longest) {i : ℕ} {s : Span} (f
         (rowless-value bs short some k j lines next levels (rw (first .identified) found) free)
 
     -- with lines inside it
-    leading-nested : eqb lines 0 ≡ false → RowlessFrom lines levels within → RowlessFrom next (suc levels) (drop end bs) → RowlessFrom k (suc levels) bs
+    leading-nested : eqb lines 0 ≡ false → closes i within ≡ true → RowlessFrom lines levels within → RowlessFrom next (suc levels) (drop end bs)
+        → RowlessFrom k (suc levels) bs
     leading-nested lined =
-        rw (first .measured, take-slice (spanOf bs .octets) (spanOf bs .octets + spanOf bs .length) bs (omega arith))
+        rw (sym (first .identified), first .measured, take-slice (spanOf bs .octets) (spanOf bs .octets + spanOf bs .length) bs (omega arith))
         (rowless-inside bs short some k j lines next levels (rw (first .identified) found) lined)
 
 -- the content of the element that the octets are starts within them
@@ -170,16 +172,16 @@ module _ (bs : List ℕ) (short : length bs ≤ longest) {i from : ℕ} (one : S
 
   -- nothing is after it
   last : (k levels : ℕ) → closed k ≡ true → RowlessFrom k levels (drop (one .span .octets + one .span .length) bs)
-  last k levels closes = rw (one .ends, drop-length bs) (rowless-end k levels closes)
+  last k levels ends = rw (one .ends, drop-length bs) (rowless-end k levels ends)
 
-  module _ {k j lines next levels : ℕ} (found : RowlessLine k i j lines next) (closes : closed next ≡ true) where
+  module _ {k j lines next levels : ℕ} (found : RowlessLine k i j lines next) (ends : closed next ≡ true) where
     -- with a content without lines
     sole-value : lines ≡ 0 → ((left : ℕ) → isElement i left inside ≡ true) → RowlessFrom k (suc levels) bs
-    sole-value free whole = leading-value bs short (one .leads) found free (rw same-inside whole) (last next (suc levels) closes)
+    sole-value free whole = leading-value bs short (one .leads) found free (rw same-inside whole) (last next (suc levels) ends)
 
     -- with lines inside it
-    sole-nested : eqb lines 0 ≡ false → RowlessFrom lines levels inside → RowlessFrom k (suc levels) bs
-    sole-nested lined inner = leading-nested bs short (one .leads) found lined (rw same-inside inner) (last next (suc levels) closes)
+    sole-nested : eqb lines 0 ≡ false → eqb i 0x31 ≡ false → RowlessFrom lines levels inside → RowlessFrom k (suc levels) bs
+    sole-nested lined other inner = leading-nested bs short (one .leads) found lined (closes-free i _ other) (rw same-inside inner) (last next (suc levels) ends)
 
   -- a primitive value
   pub rowless-primitive : constructed i ≡ false → allowed i ≡ true → holds i inside ≡ true
@@ -195,17 +197,24 @@ pub rowless-key-bits : (bs : List ℕ) (short : length bs ≤ longest) {from : �
 unfolding computed closed closedIn
 rowless-key-bits bs short one kept = sole-value bs short one key-bits refl refl (λ left. whole-bits left (inside bs short one) kept)
 
+-- one element alone keeps the rule at an element's end
+pub sole-closes : (id : ℕ) {bs : List ℕ} {i from : ℕ} → Sole bs i from → closes id bs ≡ true
+sole-closes id {bs} one =
+    let same = one .leads .measured in
+    closes-one id bs (λ none. omega (arith, one .leads .fits, ap (λ (s : Span). s .octets) same))
+    (ap (λ (s : Span). s .octets + s .length) (sym same) ∙ one .ends)
+
 -- a RelativeDistinguishedName with one AttributeTypeAndValue
 pub rowless-rdn : (bs : List ℕ) (short : length bs ≤ longest) {from : ℕ} (one : Sole bs 0x30 from)
     → RowlessFrom (start Attribute) 1 (inside bs short one) → RowlessFrom (start Rdn) 2 bs
 unfolding computed closed closedIn
-rowless-rdn bs short one inner = sole-nested bs short one rdn-attribute refl refl inner
+rowless-rdn bs short one inner = sole-nested bs short one rdn-attribute refl refl refl inner
 
 -- a Name
 pub rowless-name : (bs : List ℕ) (short : length bs ≤ longest) {from : ℕ} (one : Sole bs 0x30 from)
     → RowlessFrom (start RdnSequence) 3 (inside bs short one) → RowlessFrom (start OneName) 4 bs
 unfolding computed closed closedIn
-rowless-name bs short one inner = sole-nested bs short one name-sequence refl refl inner
+rowless-name bs short one inner = sole-nested bs short one name-sequence refl refl refl inner
 
 -- an OBJECT IDENTIFIER alone, and one with a value
 module _ (bs : List ℕ) (short : length bs ≤ longest) {s : Span} (first : Leading bs 0x06 s) (kept : objectIdentifier (within bs short first) ≡ true) where
@@ -228,7 +237,7 @@ pub rowless-key : (bs : List ℕ) (short : length bs ≤ longest) {s : Span} (fi
     → RowlessFrom (suc (start Spki)) 1 (after bs short first) → RowlessFrom (start Spki) 2 bs
 unfolding computed
 rowless-key bs short {s} first inner =
-    rw (take-from (s .octets + s .length) bs) (λ bits. leading-nested bs short first key-alg-id refl inner (λ e left n p deep. bits e left n p (omega arith)))
+    rw (take-from (s .octets + s .length) bs) (λ bits. leading-nested bs short first key-alg-id refl (closes-free 0x30 _ refl) inner (λ e left n p deep. bits e left n p (omega arith)))
 
 -- The element at a place of the octets.
 module _ (bs : List ℕ) (short : length bs ≤ longest) (at : ℕ) {i : ℕ} {s : Span} (first : Leading (take (length bs - at) (drop at bs)) i s) where
@@ -248,14 +257,14 @@ module _ (bs : List ℕ) (short : length bs ≤ longest) (at : ℕ) {i : ℕ} {s
 
 -- a RelativeDistinguishedName before others
 pub rowless-rdn-from : (bs : List ℕ) (short : length bs ≤ longest) (at : ℕ) {s : Span} (first : Leading (take (length bs - at) (drop at bs)) 0x31 s)
-    → RowlessFrom (start Rdn) 2 (take (to bs short at first - from bs short at first) (drop (from bs short at first) bs))
+    → (let c = take (to bs short at first - from bs short at first) (drop (from bs short at first) bs) in RowlessFrom (start Rdn) 2 c × (closes 0x31 c ≡ true))
     → RowlessFrom (start RdnSequence) 3 (drop (to bs short at first) bs) → RowlessFrom (start RdnSequence) 3 (drop at bs)
 unfolding computed
 rowless-rdn-from bs short at {s} first inner later =
     let size : s .octets + s .length - s .octets ≡ to bs short at first - from bs short at first = omega arith in
     let place : at + (s .octets + s .length) ≡ to bs short at first = omega arith in
     leading-nested (drop at bs) (omega (arith, length-drop at bs)) (there bs short at first) sequence-rdn refl
-    (rw (drop-drop (s .octets) at bs, size) inner) (rw (drop-drop (s .octets + s .length) at bs, place) later)
+    (rw (drop-drop (s .octets) at bs, size) (inner .1)) (rw (drop-drop (s .octets) at bs, size) (inner .0)) (rw (drop-drop (s .octets + s .length) at bs, place) later)
 
 -- an RDNSequence may be empty
 pub rowless-none : RowlessFrom (start RdnSequence) 3 []

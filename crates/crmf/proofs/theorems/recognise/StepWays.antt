@@ -11,6 +11,7 @@ use lib.ListN.{length}
 use borrow.Author.Tests.{ltb-true, leb-true, leb-false, le-ltb, lt-ltb, ne-eqb}
 use Rattle.der.specs.meaning.Content.{integer}
 use Rattle.der.specs.steps.ContentTest.{holds}
+use Rattle.der.specs.steps.Order.{closes}
 use Rattle.der.specs.steps.Recognise.{isElement}
 use Rattle.der.proofs.Laws.{is-element-value, holds-integer, holds-free, ruled}
 use Rattle.crmf.specs.declared.grammar.judge.Onward.{Onward}
@@ -101,16 +102,21 @@ module _ (e k whole left id : ℕ) (c : List ℕ) where
   refuse-wrong wrong = refuse-content (λ n p. rw (contentCount, wrong))
 
   module _ (good : mayStand e (line k) whole ≡ true) (next : ℕ) where
-    -- a content with lines of its own
-    pub descend : says ≡ To next → eqb (line k .inside) 0 ≡ false → VisitJustified e k whole left id c (Descend next)
-    unfolding contentCount
-    descend on lined = (on, λ n p. rw (contentCount, good, lined))
+    -- a content with lines of its own, in an element that keeps the rule at its end
+    module _ (on : says ≡ To next) (lined : eqb (line k .inside) 0 ≡ false) (kept : closes id c ≡ true) where
+      pub descend : VisitJustified e k whole left id c (Descend next)
+      unfolding contentCount
+      descend = (on, λ n p. rw (contentCount, good, lined, kept))
 
-    -- the same, if it was checked
-    skip-inside : says ≡ To next → eqb (line k .inside) 0 ≡ false → ((n p : ℕ) → countsAt e left (line k .inside) n p c ≡ Rows n)
-        → VisitJustified e k whole left id c (Skip next)
+      -- the same, if it was checked
+      skip-inside : ((n p : ℕ) → countsAt e left (line k .inside) n p c ≡ Rows n) → VisitJustified e k whole left id c (Skip next)
+      unfolding contentCount
+      skip-inside checked = (on, λ n p. rw (contentCount, good, lined, kept) (checked n p))
+
+    -- in an element that breaks it
+    refuse-end : eqb (line k .inside) 0 ≡ false → closes id c ≡ false → VisitJustified e k whole left id c Refuse
     unfolding contentCount
-    skip-inside on lined checked = (on, λ n p. rw (contentCount, good, lined) (checked n p))
+    refuse-end lined lost = refuse-content (λ n p. rw (contentCount, good, lined, lost))
 
     -- an element with a free inside
     pub skip-whole : says ≡ To next → eqb (line k .inside) 0 ≡ true → (t : Bool) → isElement id left c ≡ t
@@ -177,21 +183,41 @@ module _ (e k whole left id : ℕ) (c : List ℕ) where
         skip-untyped x free = skip-free x free true refl
 
       -- an element with lines inside
-      pub descend-lines : {i : ℕ} → Plain k i always true → VisitJustified e k whole left id c (Descend next)
+      pub descend-lines : {i : ℕ} → Plain k i always true → closes id c ≡ true → VisitJustified e k whole left id c (Descend next)
       descend-lines x = descend (said-always (x .judge)) (x .free)
 
-      -- the same, if the inside may have been checked and there are enough levels
+      -- the same, if the inside was checked and there are enough levels
+      skip-checked : (n : Name) (levels least : ℕ) → Opens k n → levels ≤ least + 1 → (r : Bool) → (ltb least left && r) ≡ true
+          → (r ≡ true → RowlessFrom (start n) levels c) → closes id c ≡ true → VisitJustified e k whole left id c (Skip next)
+      skip-checked n levels least (i, x, is) enough r test checked kept =
+          let (deep, seen) = and-eq-true-iff (ltb least left) r .0 test in
+          let room : levels ≤ left = omega (arith, ltb-true least left deep, enough) in
+          skip-inside (said-always (x .judge)) (x .free) kept
+          (λ m p. ap (λ (j : ℕ). countsAt e left j m p c) is ∙ checked seen e left m p room)
+
+      -- if it may have been
       pub skip-small : (n : Name) (levels least : ℕ) → Opens k n → levels ≤ least + 1 → (r : Bool) → (r ≡ true → RowlessFrom (start n) levels c)
-          → VisitJustified e k whole left id c (elim (ltb least left && r) [ true ↦ Skip next | false ↦ Descend next ])
-      skip-small n levels least (i, x, is) enough r checked = go (ltb least left && r) refl
+          → closes id c ≡ true → VisitJustified e k whole left id c (elim (ltb least left && r) [ true ↦ Skip next | false ↦ Descend next ])
+      skip-small n levels least (i, x, is) enough r checked kept = go (ltb least left && r) refl
         where
           go : (t : Bool) → (ltb least left && r) ≡ t → VisitJustified e k whole left id c (elim t [ true ↦ Skip next | false ↦ Descend next ])
-          go false test = descend-lines x
-          go true test =
-              let (deep, seen) = and-eq-true-iff (ltb least left) r .0 test in
-              let room : levels ≤ left = omega (arith, ltb-true least left deep, enough) in
-              skip-inside (said-always (x .judge)) (x .free)
-              (λ m p. ap (λ (j : ℕ). countsAt e left j m p c) is ∙ checked seen e left m p room)
+          go false test = descend-lines x kept
+          go true test = skip-checked n levels least (i, x, is) enough r test checked kept
+
+      -- if it may have been, and the rule at the element's end otherwise decides
+      pub skip-set : (n : Name) (levels least : ℕ) → Opens k n → levels ≤ least + 1 → (r : Bool)
+          → (r ≡ true → RowlessFrom (start n) levels c × (closes id c ≡ true))
+          → VisitJustified e k whole left id c
+          (elim (ltb least left && r) [ true ↦ Skip next | false ↦ elim (closes id c) [ true ↦ Descend next | false ↦ Refuse ] ])
+      skip-set n levels least (i, x, is) enough r checked = go (ltb least left && r) refl (closes id c) refl
+        where
+          go : (t : Bool) → (ltb least left && r) ≡ t → (b : Bool) → closes id c ≡ b
+              → VisitJustified e k whole left id c (elim t [ true ↦ Skip next | false ↦ elim b [ true ↦ Descend next | false ↦ Refuse ] ])
+          go true test b ends =
+              let seen = and-eq-true-iff (ltb least left) r .0 test .1 in
+              skip-checked n levels least (i, x, is) enough r test (λ t. checked t .0) (checked seen .1)
+          go false test true kept = descend-lines x kept
+          go false test false lost = refuse-end (x .free) lost
 
 -- A certReqId: its content has at most 8 octets, and is an INTEGER's.
 pub skip-id : (e k whole left id : ℕ) (c : List ℕ) (next : ℕ) → next ≡ line k .next → actionOf (line k) ≡ codes.takeCertReqId → Plain k 0x02 always false

@@ -8,6 +8,7 @@ use lib.ListN.{length, drop, getD}
 use Rattle.der.specs.declared.element.length.Span.{Span}
 use Rattle.der.specs.meaning.Bounds.{longest}
 use Rattle.der.specs.steps.Span.{spanOf}
+use Rattle.der.specs.steps.Order.{closes}
 use Rattle.der.specs.steps.Recognise.{isElement}
 use Rattle.crmf.specs.declared.grammar.judge.Onward.the-variants.{To, Breaks}
 use Rattle.crmf.specs.declared.recognise.Advance.{Advance}
@@ -28,7 +29,7 @@ contentCount e k whole left n p id c =
       | false ↦ Unrecognised
       | true ↦ elim (eqb (line k .inside) 0) [
         | true ↦ elim (isElement id left c) [ true ↦ Rows n | false ↦ Unrecognised ]
-        | false ↦ countsAt e left (line k .inside) n p c
+        | false ↦ elim (closes id c) [ true ↦ countsAt e left (line k .inside) n p c | false ↦ Unrecognised ]
       ]
     ]
 

@@ -3,6 +3,7 @@
 -- this invariant: the answer from `at` on is the whole list's. Assumes nothing.
 use Prim.Native.Nat.{ℕ, _+_, _-_, _*_, _≤_, _<_}
 use mathlib.Core.Path.{_≡_, sym, ap, _∙_}
+use mathlib.Core.Bool.{Bool}
 use native.Mathlib.Nat.{add-zero}
 use native.Mathlib.Omega.{arith}
 use borrow.Author.Needs.{needs}
@@ -13,12 +14,14 @@ use lib.ListN.{length, take, drop}
 use Rattle.der.specs.declared.element.header.Head.the-variants.{Stands}
 use Rattle.der.specs.declared.explain.Nest.the-variants.{End}
 use Rattle.der.specs.steps.Header.{headOf}
-use Rattle.der.specs.steps.Explain.{listOf, elementOf}
+use Rattle.der.specs.steps.Explain.{listOf, byRule, afterInside, elementOf}
 use Rattle.der.proofs.theorems.element.Headers.{head-fits}
 use Rattle.der.proofs.theorems.explain.ExplainWays.{lent-part, way-deep, way-broken, way-inside, way-value, From, from-within, from-next, from-stop, from-done}
 use Rattle.der.proofs.element.header.read.Reads as read-reads
 use Rattle.der.proofs.element.identifier.is_constructed.Reads as is-constructed-reads
-use Rattle.der.proofs.explain.primitive.Reads as primitive-reads
+use Rattle.der.proofs.content.holds.Reads as holds-reads
+use Rattle.der.proofs.explain.after_inside.Reads as after-inside-reads
+use Rattle.der.proofs.explain.by_rule.Reads as by-rule-reads
 use Rattle.der.proofs.explain.fault.Reads as fault-reads
 use Rattle.der.proofs.explain.element.Reads as element
 use Rattle.der.proofs.explain.element.Kinds as element-kinds
@@ -69,8 +72,12 @@ module _ (t : ℕ) where
     is-constructed-reads.Learnt,
     list-below,
     list.Post,
-    primitive-reads.Asked,
-    primitive-reads.Learnt,
+    after-inside-reads.Asked,
+    after-inside-reads.Learnt,
+    holds-reads.Asked,
+    holds-reads.Learnt,
+    by-rule-reads.Asked,
+    by-rule-reads.Learnt,
   )
 
   -- what `list` knows of the function that it calls
@@ -141,13 +148,19 @@ module _ (t : ℕ) where
       let part = lent-part (octets d) (octets d + size d) (omega arith) (fits d .1) (start .pre .1) in
       (omega (arith, start .pre .0, part .0, fits d), part .1)
 
-  element-add-primitive : element-lts.Need-add-primitive element-calls element-at element.Post
-  element-add-primitive c =
-      let d = c .before .before .before .before in
+  element-after-inside-requires : element-lts.Need-after-inside-requires element-calls element-at element.Post
+  element-after-inside-requires c κs = tt
+
+  element-holds-requires : element-lts.Need-holds-requires element-calls element-at element.Post
+  element-holds-requires c κs = tt
+
+  element-add-by-rule : element-lts.Need-add-by-rule element-calls element-at element.Post
+  element-add-by-rule c =
+      let d = c .before .before .before .before .before in
       omega (arith, fits d, d .before .before .before .before .before .pre .1 .placed)
 
-  element-primitive-requires : element-lts.Need-primitive-requires element-calls element-at element.Post
-  element-primitive-requires c κs = tt
+  element-by-rule-requires : element-lts.Need-by-rule-requires element-calls element-at element.Post
+  element-by-rule-requires c κs = tt
 
   element-returns-2 : element-lts.Need-returns-2 element-calls element-at element.Post
   element-returns-2 c =
@@ -159,19 +172,24 @@ module _ (t : ℕ) where
 
   element-returns-3 : element-lts.Need-returns-3 element-calls element-at element.Post
   element-returns-3 c =
-      let d = c .before .before .before .before .before in
+      let made = c .before .before in
+      let d = made .before .before .before .before in
       let a = d .before .before .before .before .before .args in
-      c .list .ensures
+      let content = take (octets d + size d - octets d) (drop (octets d) (a .bytes .now)) in
+      c .after-inside .ensures
+      ∙ ap (afterInside (a .place) (d .identifier .given .0 .0) content) (c .before .list .ensures)
       ∙ way-inside (a .left) (a .place) (a .bytes .now) (d .before .before .before .if1 .left) (stands d)
-      (sym (c .before .before .is-constructed .ensures) ∙ c .before .if2 .taken)
+      (sym (made .before .is-constructed .ensures) ∙ made .if2 .taken)
 
   element-returns-4 : element-lts.Need-returns-4 element-calls element-at element.Post
   element-returns-4 c =
-      let d = c .before .before .before .before .before in
+      let plain = c .before .before in
+      let d = plain .before .before .before .before in
       let a = d .before .before .before .before .before .args in
-      c .primitive .ensures
+      c .by-rule .ensures
+      ∙ ap (λ (kept : Bool). byRule kept (a .place) (a .place + (octets d + size d)) (d .identifier .given .0 .0)) (c .before .holds .ensures)
       ∙ way-value (a .left) (a .place) (a .bytes .now) (d .before .before .before .if1 .left) (stands d)
-      (sym (c .before .before .is-constructed .ensures) ∙ c .before .if2 .left)
+      (sym (plain .before .is-constructed .ensures) ∙ plain .if2 .left)
 
   list-loop-holds : list-lts.Need-loop-holds list-calls list-at list.Post list-Inv-loop list-μ-loop
   list-loop-holds c =
@@ -264,8 +282,10 @@ pub +element+list-spec : {M : Type 1} → statement M
     (element-add-list t)
     (element-sub-list t)
     (element-list-requires t)
-    (element-add-primitive t)
-    (element-primitive-requires t)
+    (element-after-inside-requires t)
+    (element-holds-requires t)
+    (element-add-by-rule t)
+    (element-by-rule-requires t)
     (element-returns-2 t)
     (element-returns-3 t)
     (element-returns-4 t))

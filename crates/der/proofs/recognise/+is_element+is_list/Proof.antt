@@ -13,10 +13,12 @@ use denote.Ref.{now}
 use lib.ListN.{length, take, drop, getD}
 use Rattle.der.specs.meaning.Bounds.{longest}
 use Rattle.der.specs.meaning.Identifier.{allowed}
+use Rattle.der.specs.steps.Order.{closes}
 use Rattle.der.specs.steps.Recognise.{isList, isElement}
 use Rattle.der.proofs.theorems.lists.Parts.{length-part}
 use Rattle.der.proofs.theorems.recognise.Recognising.{is-list-long, is-element-refused, is-element-inside, is-element-value}
 use Rattle.der.proofs.theorems.recognise.RecogniseWays.{from-done, from-lost, from-deep, from-within, from-next}
+use Rattle.der.proofs.closing.closes.Reads as closes-reads
 use Rattle.der.proofs.content.holds.Reads as holds-reads
 use Rattle.der.proofs.element.identifier.is_allowed.Reads as is-allowed-reads
 use Rattle.der.proofs.element.identifier.is_constructed.Reads as is-constructed-reads
@@ -70,6 +72,8 @@ module _ (t : ℕ) where
     is-constructed-reads.Learnt,
     is-list-below,
     is-list.Post,
+    closes-reads.Asked,
+    closes-reads.Learnt,
     holds-reads.Asked,
     holds-reads.Learnt,
   )
@@ -221,18 +225,35 @@ module _ (t : ℕ) where
   known : (c : is-element-lts.Else1 is-element-calls is-element-at is-element.Post) → allowed (c .before .before .before .args .id) ≡ true
   known c = sym (c .before .is-allowed .ensures) ∙ not-false _ (c .if1 .left)
 
-  is-element-returns-2 : is-element-lts.Need-returns-2 is-element-calls is-element-at is-element.Post
-  is-element-returns-2 c =
+  is-element-closes-requires : is-element-lts.Need-closes-requires is-element-calls is-element-at is-element.Post
+  is-element-closes-requires c κs = tt
+
+  -- a constructed element, by the answer of `is_list`
+  inside-decides : (c : is-element-lts.After-is-list is-element-calls is-element-at is-element.Post) → let a = c .before .before .before .before .before .before .args in
+      isElement (a .id) (a .left) (a .content .now) ≡ (c .is-list .result && closes (a .id) (a .content .now))
+  inside-decides c =
       let e = c .before .before .before in
       let a = e .before .before .before .args in
-      c .is-list .ensures
-      ∙ sym (is-element-inside (a .id) (a .left) (a .content .now) (known e) (sym (c .before .before .is-constructed .ensures) ∙ c .before .if2 .taken))
+      is-element-inside (a .id) (a .left) (a .content .now) (known e) (sym (c .before .before .is-constructed .ensures) ∙ c .before .if2 .taken)
+      ∙ ap (λ (b : Bool). b && closes (a .id) (a .content .now)) (sym (c .is-list .ensures))
+
+  is-element-returns-2 : is-element-lts.Need-returns-2 is-element-calls is-element-at is-element.Post
+  is-element-returns-2 c =
+      let d = c .before .before in
+      let a = d .before .before .before .before .before .before .args in
+      c .closes .ensures ∙ sym (inside-decides d ∙ ap (λ (b : Bool). b && closes (a .id) (a .content .now)) (c .before .if3 .taken))
+
+  is-element-returns-3 : is-element-lts.Need-returns-3 is-element-calls is-element-at is-element.Post
+  is-element-returns-3 c =
+      let d = c .before in
+      let a = d .before .before .before .before .before .before .args in
+      c .if3 .left ∙ sym (inside-decides d ∙ ap (λ (b : Bool). b && closes (a .id) (a .content .now)) (c .if3 .left))
 
   is-element-holds-requires : is-element-lts.Need-holds-requires is-element-calls is-element-at is-element.Post
   is-element-holds-requires c κs = tt
 
-  is-element-returns-3 : is-element-lts.Need-returns-3 is-element-calls is-element-at is-element.Post
-  is-element-returns-3 c =
+  is-element-returns-4 : is-element-lts.Need-returns-4 is-element-calls is-element-at is-element.Post
+  is-element-returns-4 c =
       let e = c .before .before .before in
       let a = e .before .before .before .args in
       c .holds .ensures
@@ -246,9 +267,11 @@ pub +is-element+is-list-spec : {M : Type 1} → statement M
     (is-element-returns t)
     (is-element-is-constructed-requires t)
     (is-element-is-list-requires t)
+    (is-element-closes-requires t)
     (is-element-returns-2 t)
+    (is-element-returns-3 t)
     (is-element-holds-requires t)
-    (is-element-returns-3 t))
+    (is-element-returns-4 t))
     (λ t. is-list-lts.spec (is-list-calls t) (is-list-at t) is-list.Post is-list-Inv-loop is-list-μ-loop
     (is-list-returns t)
     (is-list-loop-holds t)

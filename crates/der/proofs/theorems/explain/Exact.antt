@@ -17,16 +17,19 @@ use Rattle.der.specs.meaning.Identifier.{allowed, constructed}
 use Rattle.der.specs.steps.Header.{headOf}
 use Rattle.der.specs.meaning.Content.{Content}
 use Rattle.der.specs.steps.ContentTest.{holds}
+use Rattle.der.specs.steps.Order.{closes}
 use Rattle.der.specs.meaning.Bounds.{depth, longest}
-use Rattle.der.specs.steps.Explain.{listOf, elementOf, walkAt}
+use Rattle.der.specs.steps.Explain.{listOf, byRule, elementOf, walkAt}
 use Rattle.der.specs.steps.Reading.{tree}
-use Rattle.der.specs.meaning.Tree.{Tree, none, element, header, encode, Formed, WellFormed, Single}
+use Rattle.der.specs.meaning.Order.{Closing}
+use Rattle.der.specs.meaning.Tree.{Tree, none, element, header, encode, members, Formed, WellFormed, Single}
 use Rattle.der.proofs.theorems.content.ContentRules.{content-exact}
 use Rattle.der.proofs.theorems.element.Headers.{passed, head-fits, head-encoded, head-octets}
 use Rattle.der.proofs.theorems.lists.Parts.{octets-drop, octets-part, take-middle, append-parts, length-part, part-short}
 use Rattle.der.proofs.theorems.explain.Progress.{Ended, list-along, element-deep, element-end, element-progress, elements-next}
+use Rattle.der.proofs.theorems.closing.Closing.{closing-none, closes-encoded}
 use Rattle.der.proofs.theorems.reading.Readings.{tree-encode}
-use Rattle.der.proofs.theorems.explain.Steps.{element-inside, element-value, value-kept, list-empty, end-fault, walk-whole}
+use Rattle.der.proofs.theorems.explain.Steps.{inside-ends, element-value, rule-kept, list-empty, end-fault, walk-whole}
 use Rattle.der.proofs.theorems.reading.Trees.{encode-length}
 
 -- the trees of two lists of elements, one after the other
@@ -104,9 +107,10 @@ module _ (left : ℕ)
 
     -- an element that ends, with what is inside it
     sound-with : (inside : Tree) → (constructed (d .identifier) ≡ true → (content ≡ encode inside) × WellFormed left (p + d .before) inside)
+        → Closing (d .identifier) (members inside)
         → (constructed (d .identifier) ≡ false → (inside ≡ none) × Content (d .identifier) content) → Sound (suc left) p q bs
     unfolding encode WellFormed Single
-    sound-with inside filled valued =
+    sound-with inside filled closing valued =
         let id = d .identifier in
         let c = content in
         let o = head-octets bs id (d .before) (d .size) octets short (d .stands) in
@@ -119,6 +123,7 @@ module _ (left : ℕ)
               sized = refl;
               identified = o .0;
               filled = λ made. (filled made .0, subst (λ (x : ℕ). WellFormed left (p + x) inside) (o .1) (filled made .1));
+              closing = closing;
               valued = valued;
             },
             tt,
@@ -131,13 +136,17 @@ module _ (left : ℕ)
 
     -- an element that ends, primitive or constructed
     sound-kind : (b : Bool) → constructed (d .identifier) ≡ b → Sound (suc left) p q bs
+    unfolding members
     sound-kind false plain =
-        sound-with none (λ made. absurd (false≢true (sym plain ∙ made)))
-        (λ k. (refl, content-exact (d .identifier) content .0 (d .valued plain)))
+        sound-with none (λ made. absurd (false≢true (sym plain ∙ made))) (closing-none (d .identifier))
+        (λ k. (refl, content-exact (d .identifier) content .0 (rw (d .valued plain) tt)))
     sound-kind true made =
         let part = part-short bs (d .before) (d .size) in
         let inner = sound-list (d .size) (p + d .before) content (omega arith) (octets-part (d .before) (d .size) bs octets) (omega arith) q (d .listed made) in
-        sound-with (inner .tree) (λ m. (inner .whole, inner .formed)) (λ plain. absurd (false≢true (sym plain ∙ made)))
+        let size = ap length (inner .whole) in
+        let closing = closes-encoded (d .identifier) left (p + d .before) (inner .tree) (inner .formed) (omega arith) .0
+        (sym (ap (closes (d .identifier)) (inner .whole)) ∙ d .closed made) in
+        sound-with (inner .tree) (λ m. (inner .whole, inner .formed)) closing (λ plain. absurd (false≢true (sym plain ∙ made)))
 
 -- Soundness: an element that ends is the encoding of a well-formed tree of a single element, with further octets after it.
 pub element-sound : (left p q : ℕ) (bs : List ℕ) → Octets bs → length bs ≤ longest → elementOf left p bs ≡ End q → Sound left p q bs
@@ -147,9 +156,9 @@ element-sound (suc left) p q bs octets short ends =
     sound-kind left (element-sound left) p q bs octets short d (constructed (d .identifier)) refl
 
 -- Soundness of a list: one that ends is the encoding of a well-formed tree.
-pub list-sound : (left p q : ℕ) (bs : List ℕ) → Octets bs → length bs ≤ longest → listOf (elementOf left) (length bs) p bs ≡ End q
+pub list-sound : (left n p q : ℕ) (bs : List ℕ) → length bs ≤ n → Octets bs → length bs ≤ longest → listOf (elementOf left) n p bs ≡ End q
     → ListSound left p q bs
-list-sound left p q bs octets short = sound-list left (element-sound left) (length bs) p bs (omega arith) octets short q
+list-sound left n p q bs enough octets short = sound-list left (element-sound left) n p bs enough octets short q
 
 -- an element has an octet or more
 some-octets : (id : ℕ) (c : List ℕ) → 0 < length (header id c ++ c)
@@ -191,11 +200,18 @@ complete-element left p id first whole c more inside formed short inner = go (co
         let filled = formed .filled made in
         let size = ap length (filled .0) in
         let listed = over-end left (length c) (p + h) inside inner (filled .1) (omega arith) (omega arith) in
-        element-inside left p bs stands made ∙ cc (take-middle (header id c) c more, filled .0, listed, place)
+        let kept = closes-encoded id left (p + h) inside (filled .1) (omega arith) .1 (formed .closing) in
+        let content = take-middle (header id c) c more ∙ filled .0 in
+        inside-ends left p bs stands made (rw content listed)
+        ∙ ap (λ l. byRule (closes id l) p (p + h + length (encode inside)) id) content
+        ∙ rule-kept p (p + h + length (encode inside)) id kept
+        ∙ ap End (omega (arith, place))
     go false plain =
         let kept = passed (holds id c) (content-exact id c .1 (formed .valued plain .1)) in
         element-value left p bs stands plain
-        ∙ cc (take-middle (header id c) c more, value-kept p (p + h + length c) id c kept, place)
+        ∙ ap (λ l. byRule (holds id l) p (p + h + length c) id) (take-middle (header id c) c more)
+        ∙ rule-kept p (p + h + length c) id kept
+        ∙ ap End place
 
 -- the walk over a list goes on after the encoding of a well-formed tree
 pub list-over : (left : ℕ) (t : Tree) (more : List ℕ) → Over left t more
@@ -230,9 +246,9 @@ element-complete (suc left) p (element id first whole c inside rest) more formed
     rw (single, append-nil) (complete-element left p id first whole c more inside (formed .0) (omega arith) (list-over left inside []))
 
 -- Completeness of a list: the encoding of a well-formed tree ends with its octets.
-pub list-complete : (left p : ℕ) (t : Tree) → WellFormed left p t → length (encode t) ≤ longest
-    → listOf (elementOf left) (length (encode t)) p (encode t) ≡ End (p + length (encode t))
-list-complete left p t formed short = over-end left (length (encode t)) p t (list-over left t []) formed short (omega arith)
+pub list-complete : (left n p : ℕ) (t : Tree) → WellFormed left p t → length (encode t) ≤ longest → length (encode t) ≤ n
+    → listOf (elementOf left) n p (encode t) ≡ End (p + length (encode t))
+list-complete left n p t = over-end left n p t (list-over left t [])
 
 -- the octets up to e are the encoding of a well-formed tree of a single element
 abbrev pub Encoded : List ℕ → ℕ → Type 0

@@ -14,7 +14,8 @@ use Rattle.der.specs.declared.explain.Nest.{Nest}
 use Rattle.der.specs.declared.explain.Nest.the-variants.{End, Fault}
 use Rattle.der.specs.meaning.Identifier.{constructed}
 use Rattle.der.specs.steps.Header.{headOf}
-use Rattle.der.specs.steps.Explain.{Lent, faultAt, listOf, primitiveOf, elementOf}
+use Rattle.der.specs.steps.ContentTest.{holds}
+use Rattle.der.specs.steps.Explain.{Lent, faultAt, listOf, byRule, afterInside, elementOf}
 use Rattle.der.proofs.theorems.element.Headers.{head-fits}
 use Rattle.der.proofs.theorems.lists.Parts.{take-from, middle, length-part}
 use Rattle.der.proofs.theorems.explain.Progress.{element-progress, elements-next}
@@ -45,12 +46,12 @@ module _ (left p : ℕ) (bs : List ℕ) (some : left ≡ 0 → ⊥) where
   module _ {id h n : ℕ} (stands : headOf bs ≡ Stands id h n) where
     -- the element is constructed
     pub way-inside : constructed id ≡ true → let c = take (h + n - h) (drop h bs) in
-        listOf (elementOf (left - 1)) (length c) (p + h) c ≡ elementOf left p bs
+        afterInside p id c (listOf (elementOf (left - 1)) (length c) (p + h) c) ≡ elementOf left p bs
     way-inside made =
         rw (middle bs h n, length-part bs h n (head-fits bs id h n stands .1)) (sym (level ∙ element-inside (left - 1) p bs stands made))
 
     -- the element is primitive
-    pub way-value : constructed id ≡ false → primitiveOf p (p + (h + n)) id (take (h + n - h) (drop h bs)) ≡ elementOf left p bs
+    pub way-value : constructed id ≡ false → byRule (holds id (take (h + n - h) (drop h bs))) p (p + (h + n)) id ≡ elementOf left p bs
     way-value plain = rw (middle bs h n, ← add-assoc p h n) (sym (level ∙ element-value (left - 1) p bs stands plain))
 
 -- the list from the place `at` on of a list at p

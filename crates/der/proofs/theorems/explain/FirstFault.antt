@@ -11,25 +11,29 @@ use lib.Dec.{leb}
 use lib.ListN.{length, take, drop, getD, length-append, length-take, length-drop}
 use lib.Seq.{drop-at, getD-append-add, getD-take, getD-drop}
 use borrow.Author.Tests.{leb-true, leb-false}
+use Rattle.der.specs.declared.cause.Cause.{Cause}
 use Rattle.der.specs.declared.element.header.Head.{Head}
 use Rattle.der.specs.declared.element.header.Head.the-variants.{Stands, Broken}
 use Rattle.der.specs.declared.explain.Nest.{Nest}
 use Rattle.der.specs.declared.explain.Nest.the-variants.{End, Fault}
 use Rattle.der.specs.meaning.Octets.{Octets}
-use Rattle.der.specs.meaning.Identifier.{constructed}
+use Rattle.der.specs.meaning.Identifier.{tagNumber, constructed}
 use Rattle.der.specs.steps.Header.{sizedBy, headOf}
 use Rattle.der.specs.meaning.Content.{Content}
 use Rattle.der.specs.steps.ContentTest.{holds}
 use Rattle.der.specs.meaning.Tree.{none, encode, WellFormed}
 use Rattle.der.specs.meaning.Bounds.{depth, longest}
-use Rattle.der.specs.steps.Explain.{numberOf, placeOf, listOf, elementOf, walkAt}
+use Rattle.der.specs.steps.Order.{closes}
+use Rattle.der.specs.steps.Explain.{numberOf, placeOf, faultAt, listOf, byRule, afterInside, elementOf, walkAt}
 use Rattle.der.specs.meaning.Fault.{Headed, Breaks, Faults, FaultOf, FirstIn, First, Named}
 use Rattle.der.proofs.theorems.content.ContentRules.{content-exact}
-use Rattle.der.proofs.theorems.explain.Exact.{joined, joined-encode, joined-formed, Sound, element-sound, list-over, Encoded, exact}
+use Rattle.der.proofs.theorems.explain.Exact.{joined, joined-encode, joined-formed, Sound, element-sound, list-sound, list-over, list-complete, Encoded, exact}
+use Rattle.der.proofs.theorems.closing.MembersRead.{members-encoded}
+use Rattle.der.proofs.theorems.closing.Closing.{closes-not}
 use Rattle.der.proofs.theorems.element.Headers.{head-parts, headed-stands, head-breaks, head-fits}
 use Rattle.der.proofs.theorems.lists.Parts.{octets-drop, octets-part, part-short, filled}
 use Rattle.der.proofs.theorems.explain.Progress.{list-along, element-progress}
-use Rattle.der.proofs.theorems.explain.Steps.{head-wrong, head-sized, head-past, element-broken, element-inside, element-value, value-kept, value-unkept}
+use Rattle.der.proofs.theorems.explain.Steps.{head-wrong, head-sized, head-past, element-broken, element-inside, inside-fault, inside-ends, element-value, rule-broken}
 use Rattle.der.proofs.theorems.explain.Steps.{list-stop, walk-whole, walk-long}
 
 -- a header that stands has the first octet for its identifier
@@ -37,7 +41,7 @@ head-first : (bs : List ℕ) (id h n : ℕ) → Headed bs id h n → id ≡ getD
 head-first bs id h n x = sym (ap (λ l. getD l 0 0) (x .split))
 
 -- A content that fails the test breaks its rule, and the other way round.
-unkept : (id : ℕ) (c : List ℕ) → holds id c ≡ false ↔ (Content id c → ⊥)
+pub unkept : (id : ℕ) (c : List ℕ) → holds id c ≡ false ↔ (Content id c → ⊥)
 unkept id c = (λ e k. rw e at (content-exact id c .1 k), go (holds id c) refl)
   where
     go : (b : Bool) → holds id c ≡ b → (Content id c → ⊥) → b ≡ false
@@ -45,7 +49,7 @@ unkept id c = (λ e k. rw e at (content-exact id c .1 k), go (holds id c) refl)
     go false e f = refl
 
 -- A rule that an element breaks itself is answered.
-own-found : (left p : ℕ) {bs : List ℕ} {number detail : ℕ} → Breaks bs number detail → elementOf (suc left) p bs ≡ Fault number p detail
+pub own-found : (left p : ℕ) {bs : List ℕ} {number detail : ℕ} → Breaks bs number detail → elementOf (suc left) p bs ≡ Fault number p detail
 unfolding headOf sizedBy
 own-found left p Breaks.noIdentifier = element-broken left p [] refl
 own-found left p (Breaks.identifier {id} {bs} u) = element-broken left p (id ∷ bs) (head-wrong id bs u)
@@ -54,16 +58,7 @@ own-found left p (Breaks.length {id} {bs} u v) = element-broken left p (id ∷ b
 own-found left p (Breaks.pastEnd {id} {bs} k n u v w) = element-broken left p (id ∷ bs) (head-past id bs u v w)
 own-found left p (Breaks.content {bs} id h n e u v) =
     let c = take n (drop h bs) in
-    element-value left p bs (headed-stands e) u ∙ value-unkept p (p + h + n) id c (unkept id c .1 v)
-
--- So a relation that holds between a fault and the answer that it is, and between the faults inside an element and the answers for its
--- inside, holds between the element's faults and its answer.
-pub related : (left p : ℕ) (Inside : Faults) (R : Nest → ℕ → ℕ → ℕ → Type 0) (bs : List ℕ) {number at detail : ℕ}
-    → ((n a d : ℕ) → R (Fault n a d) n a d)
-    → ((h n : ℕ) → Inside (p + h) (take n (drop h bs)) number at detail → R (listOf (elementOf left) n (p + h) (take n (drop h bs))) number at detail)
-    → FaultOf Inside p bs number at detail → R (elementOf (suc left) p bs) number at detail
-related left p Inside R bs same list (FaultOf.own {number} {detail} b) = rw (own-found left p b) (same number p detail)
-related left p Inside R bs same list (FaultOf.inside id h n e u f) = rw (element-inside left p bs (headed-stands e) u) (list h n f)
+    element-value left p bs (headed-stands e) u ∙ rule-broken p (p + h + n) id (unkept id c .1 v)
 
 -- What is claimed of the fault that an answer has; an end has none.
 abbrev pub Claim : (ℕ → ℕ → ℕ → Type 0) → Nest → Type 0
@@ -75,26 +70,23 @@ pub claim : (F G : ℕ → ℕ → ℕ → Type 0) → ((number at detail : ℕ)
 claim F G so (End q) f = tt
 claim F G so (Fault number at detail) f = so number at detail f
 
--- what the answers for an element's inside are claimed to have inside, the element's answer has
-pub element-claim : (left p : ℕ) (bs : List ℕ) (Inside : Faults)
-    → ((h n : ℕ) → Claim (Inside (p + h) (take n (drop h bs))) (listOf (elementOf left) n (p + h) (take n (drop h bs))))
-    → Claim (FaultOf Inside p bs) (elementOf (suc left) p bs)
-element-claim left p bs Inside list = by-head (headOf bs) refl
+-- What holds of the answers for a broken header, for a primitive element's rule, and for a constructed element by that for its inside, holds of
+-- an element's answer.
+pub element-ways : (left p : ℕ) (bs : List ℕ) (P : Nest → Type 0)
+    → ((c : Cause) → headOf bs ≡ Broken c → P (faultAt c p))
+    → ((id h n : ℕ) → headOf bs ≡ Stands id h n → constructed id ≡ false → P (byRule (holds id (take n (drop h bs))) p (p + h + n) id))
+    → ((id h n : ℕ) → headOf bs ≡ Stands id h n → constructed id ≡ true → let c = take n (drop h bs) in
+    P (afterInside p id c (listOf (elementOf left) n (p + h) c)))
+    → P (elementOf (suc left) p bs)
+element-ways left p bs P broken value inside = by-head (headOf bs) refl
   where
-    by-kind : (id h n : ℕ) → headOf bs ≡ Stands id h n → (made kept : Bool) → constructed id ≡ made → holds id (take n (drop h bs)) ≡ kept
-        → Claim (FaultOf Inside p bs) (elementOf (suc left) p bs)
-    by-kind id h n f true kept g k =
-        let c = take n (drop h bs) in
-        rw (element-inside left p bs f g)
-        (claim (Inside (p + h) c) (FaultOf Inside p bs) (λ number at detail. FaultOf.inside id h n (head-parts bs f) g) (listOf (elementOf left) n (p + h) c) (list h n))
-    by-kind id h n f false true g k = rw (element-value left p bs f g, value-kept p (p + h + n) id (take n (drop h bs)) k) tt
-    by-kind id h n f false false g k =
-        let c = take n (drop h bs) in
-        rw (element-value left p bs f g, value-unkept p (p + h + n) id c k) (FaultOf.own (Breaks.content id h n (head-parts bs f) g (unkept id c .0 k)))
+    by-kind : (id h n : ℕ) → headOf bs ≡ Stands id h n → (made : Bool) → constructed id ≡ made → P (elementOf (suc left) p bs)
+    by-kind id h n f true g = rw (element-inside left p bs f g) (inside id h n f g)
+    by-kind id h n f false g = rw (element-value left p bs f g) (value id h n f g)
 
-    by-head : (r : Head) → headOf bs ≡ r → Claim (FaultOf Inside p bs) (elementOf (suc left) p bs)
-    by-head (Broken c) f = rw (element-broken left p bs f) (FaultOf.own (head-breaks bs f))
-    by-head (Stands id h n) f = by-kind id h n f (constructed id) (holds id (take n (drop h bs))) refl refl
+    by-head : (r : Head) → headOf bs ≡ r → P (elementOf (suc left) p bs)
+    by-head (Broken c) f = rw (element-broken left p bs f) (broken c f)
+    by-head (Stands id h n) f = by-kind id h n f (constructed id) refl
 
 -- a list whose first element has a fault
 stops : (left : ℕ) (F : Faults) (p : ℕ) (bs : List ℕ) (number at detail : ℕ) → 0 < length bs → F p bs number at detail
@@ -135,15 +127,48 @@ list-true left known =
     claim (FirstIn left (First left) q (drop (q - p) bs)) (FirstIn left (First left) p bs)
     (goes-on left p q (First left) bs (element-sound left p q bs o l f)) r (further (octets-drop (q - p) bs o) (simp length-drop (omega arith))))
 
+-- an element's fault is the first, if those of the elements inside it are
+module _ (left p : ℕ) (bs : List ℕ) (o : Octets bs) (l : length bs ≤ longest) where
+  -- the fault of an element whose header stands
+  abbrev Of : Nest → Type 0
+  Of = Claim (FaultOf left (FirstIn left (First left)) p bs)
+
+  -- a primitive one's
+  value-true : (id h n : ℕ) → headOf bs ≡ Stands id h n → constructed id ≡ false → (kept : Bool) → holds id (take n (drop h bs)) ≡ kept
+      → Of (byRule kept p (p + h + n) id)
+  unfolding byRule
+  value-true id h n f g true k = tt
+  value-true id h n f g false k = FaultOf.own (Breaks.content id h n (head-parts bs f) g (unkept id (take n (drop h bs)) .0 k))
+
+  -- a constructed one's, by the answer for its inside
+  inside-true : (id h n : ℕ) → headOf bs ≡ Stands id h n → constructed id ≡ true → let c = take n (drop h bs) in
+      (r : Nest) → listOf (elementOf left) n (p + h) c ≡ r → Claim (FirstIn left (First left) (p + h) c) r → (kept : Bool) → closes id c ≡ kept
+      → Of (afterInside p id c r)
+  unfolding afterInside byRule
+  inside-true id h n f g (Fault m q k) faulty known kept is = FaultOf.inside id h n (head-parts bs f) g known
+  inside-true id h n f g (End q) ends known true is = rw is tt
+  inside-true id h n f g (End q) ends known false is =
+      let part = part-short bs h n in
+      let c = take n (drop h bs) in
+      let k = list-sound left n (p + h) q c (omega arith) (octets-part h n bs o) (omega arith) ends in
+      let size = ap length (k .whole) in
+      let listed = members-encoded left (p + h) (k .tree) (k .formed) (omega arith) in
+      rw is
+      (FaultOf.closing id h n (head-parts bs f) g (k .tree) (k .formed) (k .whole)
+      (closes-not id listed (omega arith) .0 (sym (ap (closes id) (k .whole)) ∙ is)))
+
 -- an element's fault is the first
 element-true : (left p : ℕ) (bs : List ℕ) → Octets bs → length bs ≤ longest → Claim (First left p bs) (elementOf left p bs)
 unfolding elementOf
 element-true zero p bs o l = (refl, refl, refl)
 element-true (suc left) p bs o l =
-    element-claim left p bs (FirstIn left (First left))
-    (λ h n.
+    element-ways left p bs (Of left p bs o l)
+    (λ c broken. FaultOf.own (head-breaks bs broken))
+    (λ id h n f g. value-true left p bs o l id h n f g _ refl)
+    (λ id h n f g.
     let part = part-short bs h n in
-    list-true left (element-true left) n (p + h) (take n (drop h bs)) (omega arith) (octets-part h n bs o) (omega arith))
+    inside-true left p bs o l id h n f g _ refl
+    (list-true left (element-true left) n (p + h) (take n (drop h bs)) (omega arith) (octets-part h n bs o) (omega arith)) _ refl)
 
 -- A fault that the walk answers is true and the first in the order of judging.
 pub fault-true : (left p : ℕ) (bs : List ℕ) (number at detail : ℕ) → Octets bs → length bs ≤ longest → elementOf left p bs ≡ Fault number at detail
@@ -174,11 +199,17 @@ fault-found zero p bs number at detail l f =
     let b : at ≡ p = f .1 in
     let c : detail ≡ 0 = f .2 in
     cc
-fault-found (suc left) p bs number at detail l f =
-    related left p (FirstIn left (First left)) (λ r n a d. r ≡ Fault n a d) bs (λ n a d. refl)
-    (λ h n.
+fault-found (suc left) p bs number at detail l (FaultOf.own b) = own-found left p b
+fault-found (suc left) p bs number at detail l (FaultOf.inside id h n e made f) =
     let part = part-short bs h n in
-    list-found left (fault-found left) n (p + h) (take n (drop h bs)) number at detail (omega arith) (omega arith)) f
+    inside-fault left p bs (headed-stands e) made
+    (list-found left (fault-found left) n (p + h) (take n (drop h bs)) number at detail (omega arith) (omega arith) f)
+fault-found (suc left) p bs number at detail l (FaultOf.closing id h n e made t formed whole unasked) =
+    let part = part-short bs h n in
+    let size = ap length whole in
+    let ends = list-complete left n (p + h) t formed (omega arith) (omega arith) in
+    let lost = closes-not id (members-encoded left (p + h) t formed (omega arith)) (omega arith) .1 unasked in
+    inside-ends left p bs (headed-stands e) made (rw whole ends) ∙ rule-broken p (p + h + length (encode t)) id (ap (closes id) whole ∙ lost)
 
 -- The walk over an element answers a fault exactly if it is true and the first in the order of judging.
 pub first-fault : (left p : ℕ) (bs : List ℕ) (number at detail : ℕ) → Octets bs → length bs ≤ longest
@@ -253,6 +284,7 @@ placed-of : (left p : ℕ) (bs : List ℕ) {number at detail : ℕ}
     → ((p : ℕ) (bs : List ℕ) (number at detail : ℕ) → First left p bs number at detail → Placed p bs number at detail)
     → First (suc left) p bs number at detail → Placed p bs number at detail
 placed-of left p bs known (FaultOf.own {number} {detail} b) = placed-here p bs number detail (breaks-named b)
+placed-of left p bs known (FaultOf.closing id h n e made t formed whole unasked) = placed-here p bs 5 (tagNumber id) (rw (head-first bs id h n e) Named.content)
 placed-of left p bs known (FaultOf.inside {number} {at} {detail} id h n e u f) =
     let x = encode (f .before) in
     let k = placed-after (p + h) x (f .after) number at detail (f .one) (known (p + h + length x) (f .after) number at detail (f .faulty)) in

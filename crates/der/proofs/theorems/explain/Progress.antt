@@ -6,7 +6,6 @@ use native.Mathlib.Omega.{arith}
 use mathlib.Core.Path.{_≡_, refl, sym, _∙_}
 use mathlib.Core.Bool.{Bool, true, false}
 use mathlib.Core.List.{List, [], _∷_}
-use lib.Dec.{T}
 use lib.ListN.{length, take, drop, length-drop}
 use Rattle.der.specs.declared.element.header.Head.{Head}
 use Rattle.der.specs.declared.element.header.Head.the-variants.{Stands, Broken}
@@ -15,10 +14,11 @@ use Rattle.der.specs.declared.explain.Nest.the-variants.{End, Fault}
 use Rattle.der.specs.meaning.Identifier.{constructed}
 use Rattle.der.specs.steps.Header.{headOf}
 use Rattle.der.specs.steps.ContentTest.{holds}
-use Rattle.der.specs.steps.Explain.{listOf, primitiveOf, elementOf}
+use Rattle.der.specs.steps.Order.{closes}
+use Rattle.der.specs.steps.Explain.{listOf, byRule, afterInside, elementOf}
 use Rattle.der.proofs.theorems.element.Headers.{head-fits}
 use Rattle.der.proofs.theorems.lists.Parts.{length-part}
-use Rattle.der.proofs.theorems.explain.Steps.{element-broken, element-inside, element-value, value-kept, value-unkept, list-empty, list-next, list-stop, end-fault}
+use Rattle.der.proofs.theorems.explain.Steps.{element-broken, element-inside, element-value, rule-kept, rule-broken, after-end, after-fault, list-empty, list-next, list-stop, end-fault}
 
 -- each element that ends does so two octets or more past its first byte, and within its octets
 abbrev pub Forward : (ℕ → List ℕ → Nest) → Type 0
@@ -70,34 +70,38 @@ pub record Ended (left p q : ℕ) (bs : List ℕ) : Type 0 where
   pub size : ℕ
   pub stands : headOf bs ≡ Stands identifier before size
   pub listed : constructed identifier ≡ true → listOf (elementOf left) size (p + before) (take size (drop before bs)) ≡ End q
-  pub valued : constructed identifier ≡ false → T (holds identifier (take size (drop before bs)))
+  pub closed : constructed identifier ≡ true → closes identifier (take size (drop before bs)) ≡ true
+  pub valued : constructed identifier ≡ false → holds identifier (take size (drop before bs)) ≡ true
   pub ends : q ≡ p + (before + size)
 
--- only a content that keeps its rule ends its element
-value-end : (p q id e : ℕ) (c : List ℕ) → primitiveOf p q id c ≡ End e → T (holds id c) × (e ≡ q)
-value-end p q id e c ends = go (holds id c) refl
-  where
-    go : (b : Bool) → holds id c ≡ b → T (holds id c) × (e ≡ q)
-    go true kept = (rw kept tt, cc (value-kept p q id c kept))
-    go false lost = end-fault ends (value-unkept p q id c lost)
+-- only an element that keeps its rule ends
+rule-end : (p q id e : ℕ) (kept : Bool) → byRule kept p q id ≡ End e → (kept ≡ true) × (e ≡ q)
+rule-end p q id e true ends = (refl, cc (rule-kept p q id {kept = true} refl))
+rule-end p q id e false ends = end-fault ends (rule-broken p q id {kept = false} refl)
+
+-- only one whose inside ends there too
+inside-end : (p id e : ℕ) (c : List ℕ) (r : Nest) → afterInside p id c r ≡ End e → (r ≡ End e) × (closes id c ≡ true)
+inside-end p id e c (End q) ends = let (kept, same) = rule-end p q id e (closes id c) (sym (after-end p id c q) ∙ ends) in (rw same, kept)
+inside-end p id e c (Fault m q k) ends = end-fault ends (after-fault p id c m q k)
 
 -- An element that ends, if those inside it go forward.
 module _ (left : ℕ) (on : Forward (elementOf left)) (p q : ℕ) (bs : List ℕ) (e : elementOf (suc left) p bs ≡ End q) where
   module _ (id h n : ℕ) (stands : headOf bs ≡ Stands id h n) where
-    -- what is inside a constructed one ends there too
-    listed : constructed id ≡ true → listOf (elementOf left) n (p + h) (take n (drop h bs)) ≡ End q
-    listed made = sym (element-inside left p bs stands made) ∙ e
+    -- what is inside a constructed one ends there too, and the rule at its end is kept
+    listed : constructed id ≡ true
+        → (listOf (elementOf left) n (p + h) (take n (drop h bs)) ≡ End q) × (closes id (take n (drop h bs)) ≡ true)
+    listed made = inside-end p id q (take n (drop h bs)) _ (sym (element-inside left p bs stands made) ∙ e)
 
     -- the content of a primitive one holds
-    valued : constructed id ≡ false → T (holds id (take n (drop h bs))) × (q ≡ p + h + n)
-    valued plain = value-end p (p + h + n) id q (take n (drop h bs)) (sym (element-value left p bs stands plain) ∙ e)
+    valued : constructed id ≡ false → (holds id (take n (drop h bs)) ≡ true) × (q ≡ p + h + n)
+    valued plain = rule-end p (p + h + n) id q (holds id (take n (drop h bs))) (sym (element-value left p bs stands plain) ∙ e)
 
     -- both end where the header says
     ends : (b : Bool) → constructed id ≡ b → q ≡ p + (h + n)
     ends false plain = omega (arith, valued plain .1)
     ends true made =
         let size = length-part bs h n (head-fits bs id h n stands .1) in
-        omega (arith, list-end (elementOf left) on n (p + h) (take n (drop h bs)) (omega arith) q (listed made))
+        omega (arith, list-end (elementOf left) on n (p + h) (take n (drop h bs)) (omega arith) q (listed made .0))
 
   -- its header stands
   ended : (r : Head) → headOf bs ≡ r → Ended left p q bs
@@ -108,7 +112,8 @@ module _ (left : ℕ) (on : Forward (elementOf left)) (p q : ℕ) (bs : List ℕ
         before = h;
         size = n;
         stands = stands;
-        listed = listed id h n stands;
+        listed = λ made. listed id h n stands made .0;
+        closed = λ made. listed id h n stands made .1;
         valued = λ plain. valued id h n stands plain .0;
         ends = ends id h n stands (constructed id) refl;
       }

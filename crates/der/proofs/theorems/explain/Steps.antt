@@ -1,7 +1,7 @@
 -- How the header's answer and the walk go on, one step at a time, with what was found before as equations. Assumes nothing.
 use Prim.Native.Nat.{ℕ, zero, suc, _+_, _-_, _≤_, _<_}
-use mathlib.Core.Path.{_≡_, refl, _∙_}
-use mathlib.Core.Bool.{true, false}
+use mathlib.Core.Path.{_≡_, refl, ap, _∙_}
+use mathlib.Core.Bool.{Bool, true, false}
 use mathlib.Core.List.{List, [], _∷_}
 use native.Mathlib.Numerals.{sub-one}
 use native.Mathlib.Omega.{arith}
@@ -18,8 +18,9 @@ use Rattle.der.specs.meaning.Identifier.{allowed, constructed, tagNumber
 use Rattle.der.specs.meaning.Length.{Length, octets, lengthOf}
 use Rattle.der.specs.steps.Header.{fitting, sizedBy, headOf}
 use Rattle.der.specs.steps.ContentTest.{holds}
+use Rattle.der.specs.steps.Order.{closes}
 use Rattle.der.specs.meaning.Bounds.{depth, longest}
-use Rattle.der.specs.steps.Explain.{faultAt, listOf, primitiveOf, elementOf, walkAt}
+use Rattle.der.specs.steps.Explain.{faultAt, listOf, byRule, afterInside, elementOf, walkAt}
 
 -- The header, by the identifier and the octets after it.
 module _ (id : ℕ) (bs : List ℕ) where
@@ -43,17 +44,29 @@ module _ (id : ℕ) (bs : List ℕ) where
   unfolding sizedBy
   head-past e f far = rw (head-sized e f, fitting, lt-leb _ _ far)
 
--- A primitive element, by its content's rule.
-module _ (p q id : ℕ) (c : List ℕ) where
-  -- the content keeps it
-  pub value-kept : holds id c ≡ true → primitiveOf p q id c ≡ End q
-  unfolding primitiveOf
-  value-kept e = rw (e, primitiveOf)
+-- An element by the rule of its identifier.
+module _ (p q id : ℕ) {kept : Bool} where
+  -- it keeps it
+  pub rule-kept : kept ≡ true → byRule kept p q id ≡ End q
+  unfolding byRule
+  rule-kept e = rw (e, byRule)
 
-  -- the content breaks it
-  pub value-unkept : holds id c ≡ false → primitiveOf p q id c ≡ Fault 5 p (tagNumber id)
-  unfolding primitiveOf
-  value-unkept e = rw (e, primitiveOf)
+  -- it breaks it
+  pub rule-broken : kept ≡ false → byRule kept p q id ≡ Fault 5 p (tagNumber id)
+  unfolding byRule
+  rule-broken e = rw (e, byRule)
+
+-- A constructed element, by the answer for its inside.
+module _ (p id : ℕ) (c : List ℕ) where
+  -- without a fault there, the rule at the end decides
+  pub after-end : (q : ℕ) → afterInside p id c (End q) ≡ byRule (closes id c) p q id
+  unfolding afterInside
+  after-end q = refl
+
+  -- a fault there is the element's
+  pub after-fault : (m q k : ℕ) → afterInside p id c (Fault m q k) ≡ Fault m q k
+  unfolding afterInside
+  after-fault m q k = refl
 
 -- The walk over an element with a level of depth left, by its header.
 module _ (left p : ℕ) (bs : List ℕ) where
@@ -63,13 +76,24 @@ module _ (left p : ℕ) (bs : List ℕ) where
   element-broken e = rw (e, elementOf)
 
   module _ {id h n : ℕ} (e : headOf bs ≡ Stands id h n) where
-    -- constructed: the list inside answers
-    pub element-inside : constructed id ≡ true → elementOf (suc left) p bs ≡ listOf (elementOf left) n (p + h) (take n (drop h bs))
+    -- constructed: the list inside answers, and then the rule at the end
+    pub element-inside : constructed id ≡ true → let c = take n (drop h bs) in
+        elementOf (suc left) p bs ≡ afterInside p id c (listOf (elementOf left) n (p + h) c)
     unfolding elementOf
     element-inside f = rw (e, elementOf) (rw f)
 
+    -- a fault there is the element's
+    pub inside-fault : constructed id ≡ true → {m q k : ℕ} → listOf (elementOf left) n (p + h) (take n (drop h bs)) ≡ Fault m q k
+        → elementOf (suc left) p bs ≡ Fault m q k
+    inside-fault f faulty = element-inside f ∙ ap (afterInside p id (take n (drop h bs))) faulty ∙ after-fault p id _ _ _ _
+
+    -- without one the rule at the end decides
+    pub inside-ends : constructed id ≡ true → {q : ℕ} → listOf (elementOf left) n (p + h) (take n (drop h bs)) ≡ End q
+        → elementOf (suc left) p bs ≡ byRule (closes id (take n (drop h bs))) p q id
+    inside-ends f ends = element-inside f ∙ ap (afterInside p id (take n (drop h bs))) ends ∙ after-end p id _ _
+
     -- primitive: the content answers
-    pub element-value : constructed id ≡ false → elementOf (suc left) p bs ≡ primitiveOf p (p + h + n) id (take n (drop h bs))
+    pub element-value : constructed id ≡ false → elementOf (suc left) p bs ≡ byRule (holds id (take n (drop h bs))) p (p + h + n) id
     unfolding elementOf
     element-value f = rw (e, elementOf) (rw f)
 

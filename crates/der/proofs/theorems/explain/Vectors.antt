@@ -11,7 +11,8 @@ use Rattle.der.specs.meaning.Length.{valueFrom, shortest, longForm, leng
 use Rattle.der.specs.steps.Header.{sizedBy, headOf}
 use Rattle.der.specs.meaning.Content.{boolean, integer, null, lastOf, unpadded, objectIdentifier, bitString}
 use Rattle.der.specs.steps.ContentTest.{holds}
-use Rattle.der.specs.steps.Explain.{listOf, primitiveOf, elementOf, walkAt}
+use Rattle.der.specs.steps.Order.{closes}
+use Rattle.der.specs.steps.Explain.{listOf, byRule, afterInside, elementOf, walkAt}
 
 -- octets, and what the walk over the whole of them answers
 abbrev nests : List (List ℕ × Nest)
@@ -30,7 +31,7 @@ nests =
 
 -- the walk answers so
 answered : map (λ c. walkAt (c .0) 0 (length (c .0))) nests ≡ map (λ c. c .1) nests
-unfolding walkAt elementOf allowed constructed tagNumber headOf sizedBy lengthOf longForm shortest valueFrom listOf primitiveOf holds integer
+unfolding walkAt elementOf allowed constructed tagNumber headOf sizedBy lengthOf longForm shortest valueFrom listOf byRule afterInside closes holds integer
 answered = refl
 
 -- the rule takes each content of the first list and refuses each of the second

@@ -24,13 +24,14 @@ use Rattle.der.specs.steps.Recognise.{faultless, isList, isElement}
 use Rattle.der.specs.meaning.Tree.{none, Single}
 use Rattle.der.specs.steps.Reading.{tree}
 use Rattle.der.specs.meaning.Bounds.{depth, longest}
-use Rattle.der.specs.steps.Explain.{listOf, primitiveOf, elementOf, walkAt}
+use Rattle.der.specs.steps.Order.{closes}
+use Rattle.der.specs.steps.Explain.{listOf, byRule, afterInside, elementOf, walkAt}
 use Rattle.der.proofs.theorems.element.Spans.{head-refused}
 use Rattle.der.proofs.theorems.lists.Parts.{take-drop, length-part}
 use Rattle.der.proofs.theorems.explain.Progress.{element-end, element-progress, elements-next, list-enough}
 use Rattle.der.proofs.theorems.reading.Readings.{tree-end, tree-step}
 use Rattle.der.proofs.theorems.element.Spans.{span-fits, span-stands, span-broken, span-tree}
-use Rattle.der.proofs.theorems.explain.Steps.{element-broken, element-inside, element-value, value-kept, value-unkept, list-stop, end-fault, walk-whole, walk-long}
+use Rattle.der.proofs.theorems.explain.Steps.{element-broken, element-inside, element-value, list-stop, end-fault, walk-whole, walk-long}
 use Rattle.der.proofs.theorems.reading.Trees.{single-none, single-element}
 
 -- an answer d bytes further on
@@ -62,13 +63,17 @@ list-shifted judge moves (suc n) d p (b ∷ bs) =
         ap (λ (k : ℕ). listOf judge n (d + q) (drop k (b ∷ bs))) same ∙ rest q (drop (q - p) (b ∷ bs))
     go rest (Fault m q k) = refl
 
--- a primitive element further on
-value-shifted : (d p q id : ℕ) (c : List ℕ) → primitiveOf (d + p) (d + q) id c ≡ shifted d (primitiveOf p q id c)
-value-shifted d p q id c = go (holds id c) refl
-  where
-    go : (t : Bool) → holds id c ≡ t → primitiveOf (d + p) (d + q) id c ≡ shifted d (primitiveOf p q id c)
-    go true e = value-kept (d + p) (d + q) id c e ∙ ap (shifted d) (sym (value-kept p q id c e))
-    go false e = value-unkept (d + p) (d + q) id c e ∙ ap (shifted d) (sym (value-unkept p q id c e))
+-- an element further on, by its rule
+rule-shifted : (d p q id : ℕ) (kept : Bool) → byRule kept (d + p) (d + q) id ≡ shifted d (byRule kept p q id)
+unfolding byRule
+rule-shifted d p q id true = refl
+rule-shifted d p q id false = refl
+
+-- a constructed element further on, by the answer for its inside
+after-shifted : (d p id : ℕ) (c : List ℕ) (r : Nest) → afterInside (d + p) id c (shifted d r) ≡ shifted d (afterInside p id c r)
+unfolding afterInside
+after-shifted d p id c (End q) = rule-shifted d p q id (closes id c)
+after-shifted d p id c (Fault m q k) = refl
 
 -- an element further on has the same answer, further on
 element-shifted : (left d p : ℕ) (bs : List ℕ) → elementOf left (d + p) bs ≡ shifted d (elementOf left p bs)
@@ -81,15 +86,16 @@ element-shifted (suc left) d p bs = by-head (headOf bs) refl (element-shifted le
     content id h n e inside true f =
         let c = take n (drop h bs) in
         element-inside left (d + p) bs e f
-        ∙ ap (λ (x : ℕ). listOf (elementOf left) n x c) (add-assoc d p h)
-        ∙ list-shifted (elementOf left) inside n d (p + h) c
+        ∙ ap (afterInside (d + p) id c)
+        (ap (λ (x : ℕ). listOf (elementOf left) n x c) (add-assoc d p h) ∙ list-shifted (elementOf left) inside n d (p + h) c)
+        ∙ after-shifted d p id c (listOf (elementOf left) n (p + h) c)
         ∙ ap (shifted d) (sym (element-inside left p bs e f))
     content id h n e inside false f =
         let c = take n (drop h bs) in
         let end : d + p + h + n ≡ d + (p + h + n) = omega arith in
         element-value left (d + p) bs e f
-        ∙ ap (λ (x : ℕ). primitiveOf (d + p) x id c) end
-        ∙ value-shifted d p (p + h + n) id c
+        ∙ ap (λ (x : ℕ). byRule (holds id c) (d + p) x id) end
+        ∙ rule-shifted d p (p + h + n) id (holds id c)
         ∙ ap (shifted d) (sym (element-value left p bs e f))
 
     by-head : (x : Head) → headOf bs ≡ x → ((d p : ℕ) (cs : List ℕ) → elementOf left (d + p) cs ≡ shifted d (elementOf left p cs))
@@ -169,8 +175,8 @@ pub is-element-refused : (id left : ℕ) (c : List ℕ) → allowed id ≡ false
 unfolding isElement
 is-element-refused id left c wrong = rw (isElement, wrong)
 
--- a constructed element has none if the list inside it has none
-pub is-element-inside : (id left : ℕ) (c : List ℕ) → allowed id ≡ true → constructed id ≡ true → isElement id left c ≡ isList left c
+-- a constructed element has none if the list inside it has none and the rule at its end is kept
+pub is-element-inside : (id left : ℕ) (c : List ℕ) → allowed id ≡ true → constructed id ≡ true → isElement id left c ≡ (isList left c && closes id c)
 unfolding isElement
 is-element-inside id left c known made = rw (isElement, known) (rw made)
 
@@ -179,14 +185,17 @@ pub is-element-value : (id left : ℕ) (c : List ℕ) → allowed id ≡ true �
 unfolding isElement
 is-element-value id left c known plain = rw (isElement, known) (rw plain)
 
--- a primitive element's answer is its content's
-value-faultless : (p q id : ℕ) (c : List ℕ) → faultless (primitiveOf p q id c) ≡ holds id c
-unfolding faultless
-value-faultless p q id c = go (holds id c) refl
-  where
-    go : (t : Bool) → holds id c ≡ t → faultless (primitiveOf p q id c) ≡ t
-    go true e = ap faultless (value-kept p q id c e)
-    go false e = ap faultless (value-unkept p q id c e)
+-- an element has no fault if it keeps its rule
+rule-faultless : (p q id : ℕ) (kept : Bool) → faultless (byRule kept p q id) ≡ kept
+unfolding faultless byRule
+rule-faultless p q id true = refl
+rule-faultless p q id false = refl
+
+-- a constructed one has none if there is none inside and it keeps the rule at its end
+after-faultless : (p id : ℕ) (c : List ℕ) (r : Nest) → faultless (afterInside p id c r) ≡ (faultless r && closes id c)
+unfolding faultless afterInside
+after-faultless p id c (End q) = rule-faultless p q id (closes id c)
+after-faultless p id c (Fault m q k) = refl
 
 -- The element that a span gives, in octets that are not too many.
 module _ (left : ℕ) (bs : List ℕ) (short : length bs ≤ longest) (some : spanOf bs .octets ≡ 0 → ⊥) where
@@ -223,12 +232,13 @@ module _ (left : ℕ) (bs : List ℕ) (short : length bs ≤ longest) (some : sp
       let c = take size (drop front bs) in
       let long = length-part bs front size (span-fits bs some .1) in
       ap faultless (element-inside left 0 bs (span-stands bs some known) made)
-      ∙ sym (is-list-listed left size (0 + front) c (omega (arith, span-fits bs some)) (omega arith))
+      ∙ after-faultless 0 identifier c (listOf (elementOf left) size (0 + front) c)
+      ∙ ap (λ (b : Bool). b && closes identifier c) (sym (is-list-listed left size (0 + front) c (omega (arith, span-fits bs some)) (omega arith)))
       ∙ sym (is-element-inside identifier left c known made)
   element-content known false plain =
       let c = take size (drop front bs) in
       ap faultless (element-value left 0 bs (span-stands bs some known) plain)
-      ∙ value-faultless 0 (0 + front + size) identifier c
+      ∙ rule-faultless 0 (0 + front + size) identifier (holds identifier c)
       ∙ sym (is-element-value identifier left c known plain)
 
   -- it has no fault if its identifier and its content have none

@@ -10,7 +10,8 @@ use Rattle.der.specs.meaning.Length.{valueFrom, shortest, longForm, lengthOf}
 use Rattle.der.specs.steps.Header.{sizedBy, headOf}
 use Rattle.der.specs.meaning.Content.{integer, lastOf, unpadded, objectIdentifier}
 use Rattle.der.specs.steps.ContentTest.{holds}
-use Rattle.der.specs.steps.Explain.{listOf, primitiveOf, elementOf, walkAt}
+use Rattle.der.specs.steps.Order.{closes}
+use Rattle.der.specs.steps.Explain.{listOf, byRule, afterInside, elementOf, walkAt}
 use Rattle.der.specs.steps.Reading.{given, read, treeOf, tree, nothingAt}
 use Rattle.crmf.specs.meaning.Value.{isUpTo, keeps, typeNumber, selected}
 use Rattle.crmf.specs.meaning.Lists.{same}
@@ -89,7 +90,7 @@ cases =
 -- each is accepted in both editions and searched so
 searches : Each (λ x. (duplicatesAnswer 1 (x .octets) ≡ searched (x .pair)) × (duplicatesAnswer 2 (x .octets) ≡ searched (x .pair))) cases
 unfolding tagNumber constructed allowed valueFrom shortest longForm lengthOf sizedBy headOf
-    integer lastOf unpadded objectIdentifier holds listOf primitiveOf elementOf walkAt nothingAt given read treeOf tree same isUpTo keeps typeNumber selected
+    integer lastOf unpadded objectIdentifier holds listOf byRule closes afterInside elementOf walkAt nothingAt given read treeOf tree same isUpTo keeps typeNumber selected
     among named order content partSize size startsFrom start insideLine passOf formLines nextLine wayLine partLines containerLines linesFrom lines
     line findLineIn findLine closedIn closed judged withForm withLongId withElement walk emptyTally firstLong goes rowsFrom rowsOfInput fields missing nth Fields.firstWith child messageOf batch messages
     batchAnswer answer cases signed ownIds ids find pairFrom duplicatesAnswer

@@ -8,7 +8,8 @@ use Rattle.der.specs.meaning.Length.{valueFrom, shortest, longForm, lengthOf}
 use Rattle.der.specs.steps.Header.{sizedBy, headOf}
 use Rattle.der.specs.meaning.Content.{integer, lastOf, unpadded, objectIdentifier}
 use Rattle.der.specs.steps.ContentTest.{holds}
-use Rattle.der.specs.steps.Explain.{listOf, primitiveOf, elementOf, walkAt}
+use Rattle.der.specs.steps.Order.{closes}
+use Rattle.der.specs.steps.Explain.{listOf, byRule, afterInside, elementOf, walkAt}
 use Rattle.der.specs.steps.Reading.{given, read, treeOf, tree, nothingAt}
 use Rattle.crmf.specs.meaning.Value.{isUpTo, keeps, typeNumber, selected}
 use Rattle.crmf.specs.meaning.Lists.{same}
@@ -35,7 +36,7 @@ JudgesEntry x i (v ∷ vs) =
 
 judgings : Each (λ x. JudgesEntry x 0 (x .verdicts)) entries
 unfolding tagNumber constructed allowed valueFrom shortest longForm lengthOf sizedBy headOf
-    integer lastOf unpadded objectIdentifier holds listOf primitiveOf elementOf walkAt nothingAt given read treeOf tree same isUpTo keeps typeNumber selected
+    integer lastOf unpadded objectIdentifier holds listOf byRule closes afterInside elementOf walkAt nothingAt given read treeOf tree same isUpTo keeps typeNumber selected
     among named order content partSize size startsFrom start insideLine passOf formLines nextLine wayLine partLines containerLines linesFrom lines
     line findLineIn findLine closedIn closed judged withForm withLongId withElement walk emptyTally firstLong goes rowsFrom rowsOfInput fields missing nth Fields.firstWith child messageOf batch messages
     batchAnswer answer verdictOf signedOf verdictAnswer

@@ -9,7 +9,8 @@ use Rattle.der.specs.meaning.Length.{valueFrom, shortest, longForm, lengthOf}
 use Rattle.der.specs.steps.Header.{sizedBy, headOf}
 use Rattle.der.specs.meaning.Content.{integer, lastOf, unpadded, objectIdentifier, bitString}
 use Rattle.der.specs.steps.ContentTest.{holds}
-use Rattle.der.specs.steps.Explain.{listOf, primitiveOf, elementOf, walkAt}
+use Rattle.der.specs.steps.Order.{closes}
+use Rattle.der.specs.steps.Explain.{listOf, byRule, afterInside, elementOf, walkAt}
 use Rattle.der.specs.steps.Reading.{given, read, treeOf, tree, nothingAt}
 use Rattle.crmf.specs.meaning.Value.{isUpTo, isEmpty, keeps, typeNumber, selected}
 use Rattle.crmf.specs.meaning.Lists.{same}
@@ -106,7 +107,7 @@ Judges x =
 -- Every message of the list is judged as document 01 says, and there is none after it.
 pub each-verdict : Each Judges cases
 unfolding tagNumber constructed allowed valueFrom shortest longForm lengthOf sizedBy headOf
-    integer lastOf unpadded objectIdentifier bitString holds listOf primitiveOf elementOf walkAt nothingAt given read treeOf tree same isEmpty isUpTo keeps typeNumber selected
+    integer lastOf unpadded objectIdentifier bitString holds listOf byRule closes afterInside elementOf walkAt nothingAt given read treeOf tree same isEmpty isUpTo keeps typeNumber selected
     among named order content partSize size startsFrom start insideLine passOf formLines nextLine wayLine partLines containerLines linesFrom lines
     line findLineIn findLine closedIn closed judged withForm withLongId withElement walk emptyTally firstLong goes rowsFrom rowsOfInput fields missing nth Fields.firstWith child messageOf batch messages
     batchAnswer answer verdictOf signedOf verdictAnswer

@@ -3,7 +3,7 @@ use borrow.Author.Needs.{needs}
 use borrow.Author.Tests.{eq-eqb}
 use mathlib.Core.Bool.{not, false≢true}
 use mathlib.Core.Path.{refl, sym, ap, _∙_}
-use Rattle.crmf.proofs.theorems.recognise.RowlessInsides.{sole-starts, rowless-rdn}
+use Rattle.crmf.proofs.theorems.recognise.RowlessInsides.{sole-starts, sole-closes, rowless-rdn}
 use Rattle.crmf.proofs.recognise.common.rdn.Statement.{statement}
 use Rattle.crmf.proofs.recognise.common.rdn.Tie as tie
 
@@ -26,7 +26,8 @@ returns : tie.Need-returns
 returns c = λ yes.
     let one = c .before .before in
     let start = one .before .before .before in
-    rowless-rdn (start .args .bytes .now) (start .pre) (one .before .sole .ensures (one .if1 .taken)) (c .type-and-value .ensures yes .1 refl)
+    let sole = one .before .sole .ensures (one .if1 .taken) in
+    (rowless-rdn (start .args .bytes .now) (start .pre) sole (c .type-and-value .ensures yes .1 refl), λ id. sole-closes id sole)
 
 returns-2 : tie.Need-returns-2
 returns-2 c = λ yes. absurd (false≢true (sym (ap not (eq-eqb _ 0 (c .if1 .left))) ∙ yes))

@@ -80,7 +80,7 @@ loop-again c =
       ends one .1,
       λ rest. a .loop .inv .1
           (rowless-rdn-from bytes (a .before .before .pre) (a .loop .at) (told .leading .ensures (one .if1 .left))
-          (c .before .rdn .ensures (not-false _ (c .if2 .left))) rest),
+          (let (inner, ends) = c .before .rdn .ensures (not-false _ (c .if2 .left)) in (inner, ends 0x31)) rest),
     )
 
 returns-3 : tie.Need-returns-3 Inv-loop μ-loop

@@ -8,6 +8,7 @@ use native.Mathlib.Omega.{arith}
 use lib.Arith.{lt-of-le-ne}
 use lib.Dec.{eqb, ltb, lit≤}
 use lib.ListN.{getD}
+use Rattle.der.specs.steps.Order.{closes}
 use Rattle.der.proofs.Laws.{holds-integer, holds-bit-string, holds-object-identifier, holds-utf8}
 use Rattle.crmf.specs.declared.recognise.step.Visit.{Visit}
 use Rattle.crmf.specs.declared.recognise.step.Visit.the-variants.{Skip, Descend}
@@ -19,9 +20,9 @@ use Rattle.crmf.specs.steps.grammar.Packed.{packed, nextField, actionOf}
 use Rattle.crmf.specs.steps.explain.Walk.{line}
 use Rattle.crmf.specs.steps.recognise.Inner.{VisitJustified, RowlessFrom}
 use Rattle.crmf.proofs.theorems.lines.WordFields.{next-at, action-small}
-use Rattle.crmf.proofs.theorems.recognise.Actions.{nothing-line, free-line, object-line, integer-line, id-line, id-kind, bits-line, text-line, any-line, inside-line}
+use Rattle.crmf.proofs.theorems.recognise.Actions.{nothing-line, free-line, object-line, integer-line, id-line, id-kind, bits-line, text-line, any-line, inside-line, inside-closes}
 use Rattle.crmf.proofs.theorems.recognise.Actions.{Opens, algorithm-line, attribute-line, part-line, key-line, name-line}
-use Rattle.crmf.proofs.theorems.recognise.StepWays.{asked-mark, stands-at, skip-untyped, skip-typed, skip-asked, skip-id, skip-any, descend-lines, skip-small}
+use Rattle.crmf.proofs.theorems.recognise.StepWays.{asked-mark, stands-at, skip-untyped, skip-typed, skip-asked, skip-id, skip-any, descend-lines, skip-small, skip-set}
 use Rattle.crmf.proofs.recognise.step.take.Statement.{statement}
 use Rattle.crmf.proofs.recognise.step.take.Tie as tie
 
@@ -82,8 +83,8 @@ skip-or-descend-requires-2 c κs = search needs
 rdn-requires : tie.Need-rdn-requires
 rdn-requires c κs = search needs
 
-skip-or-descend-requires-3 : tie.Need-skip-or-descend-requires-3
-skip-or-descend-requires-3 c κs = search needs
+take-set-requires : tie.Need-take-set-requires
+take-set-requires c κs = search needs
 
 take-by-fields-requires : tie.Need-take-by-fields-requires
 take-by-fields-requires c κs = search needs
@@ -91,14 +92,14 @@ take-by-fields-requires c κs = search needs
 subject-public-key-info-requires : tie.Need-subject-public-key-info-requires
 subject-public-key-info-requires c κs = search needs
 
-skip-or-descend-requires-4 : tie.Need-skip-or-descend-requires-4
-skip-or-descend-requires-4 c κs = search needs
+skip-or-descend-requires-3 : tie.Need-skip-or-descend-requires-3
+skip-or-descend-requires-3 c κs = search needs
 
 name-requires : tie.Need-name-requires
 name-requires c κs = search needs
 
-skip-or-descend-requires-5 : tie.Need-skip-or-descend-requires-5
-skip-or-descend-requires-5 c κs = search needs
+skip-or-descend-requires-4 : tie.Need-skip-or-descend-requires-4
+skip-or-descend-requires-4 c κs = search needs
 
 -- after the reading of the action
 module _ (c : tie.After-action-of) where
@@ -118,16 +119,27 @@ module _ (c : tie.After-action-of) where
   next : (k : ℕ) → word ≡ getD packed k 0 → c .before .next-of .result ≡ line k .next
   next k e = c .before .next-of .ensures ∙ ap nextField e ∙ next-at k
 
+  -- the element's identifier
+  abbrev id : ℕ
+  id = c .before .before .before .args .id
+
+  -- unless its action is a SET's, an element with lines inside has no rule at its end
+  unasked : (k a : ℕ) → word ≡ getD packed k 0 → c .action-of .result ≡ a → eqb a codes.takeRdn ≡ false → named (line k .identifiers) id ≡ true
+      → eqb (line k .inside) 0 ≡ false → closes id content ≡ true
+  unasked k a e is other fits lined =
+      inside-closes k id fits lined (ap (λ (x : ℕ). eqb x codes.takeRdn) (action k a e is) ∙ other) content
+
   -- an element that is a container, whose content may have been checked
-  passed : (k whole a : ℕ) → word ≡ getD packed k 0 → c .action-of .result ≡ a → eqb a codes.takeCertReqId ≡ false
-      → (n : Name) → (actionOf (line k) ≡ a → Opens k n) → (levels least : ℕ) → levels ≤ least + 1 → (r : Bool) → (r ≡ true → RowlessFrom (start n) levels content)
+  passed : (k whole a : ℕ) → word ≡ getD packed k 0 → c .action-of .result ≡ a → eqb a codes.takeCertReqId ≡ false → eqb a codes.takeRdn ≡ false
+      → named (line k .identifiers) id ≡ true → (n : Name) → (actionOf (line k) ≡ a → Opens k n) → (levels least : ℕ) → levels ≤ least + 1 → (r : Bool) → (r ≡ true → RowlessFrom (start n) levels content)
       → (s : Visit) → s ≡ elim (ltb least left && r) [ true ↦ Skip (c .before .next-of .result) | false ↦ Descend (c .before .next-of .result) ]
-      → VisitJustified (c .before .before .before .args .edition) k whole left (c .before .before .before .args .id) content s
-  passed k whole a e is other n line-opens levels least enough r checked s same =
+      → VisitJustified (c .before .before .before .args .edition) k whole left id content s
+  passed k whole a e is other plain fits n line-opens levels least enough r checked s same =
       let acts = action k a e is in
       let x = line-opens acts in
       subst (VisitJustified _ k whole left _ content) (sym same)
-      (skip-small _ k whole left _ content (stands-at _ k whole a (x .1 .mark) acts other) _ (next k e) n levels least x enough r checked)
+      (skip-small _ k whole left _ content (stands-at _ k whole a (x .1 .mark) acts other) _ (next k e) n levels least x enough r checked
+      (unasked k a e is plain fits (x .1 .free)))
 
 returns : tie.Need-returns
 returns c k whole e fits sized =
@@ -192,37 +204,44 @@ returns-8 c k whole e fits sized =
     let a = action d k codes.takeInside e (c .match .keys8) in
     let (i, x) = inside-line k a in
     descend-lines _ k whole _ _ _ (stands-at _ k whole codes.takeInside (x .mark) a refl) _ (next d k e) x
+    (unasked d k codes.takeInside e (c .match .keys8) refl fits (x .free))
 
 returns-9 : tie.Need-returns-9
 returns-9 c k whole e fits sized =
-    passed (c .before .before .before) k whole codes.takeAlgId e (c .before .before .match .keys9) refl AlgId (algorithm-line k) 1 1 (lit≤ tt) _
+    passed (c .before .before .before) k whole codes.takeAlgId e (c .before .before .match .keys9) refl refl fits AlgId (algorithm-line k) 1 1 (lit≤ tt) _
     (λ t. c .before .type-and-value .ensures t .0 refl) _ (c .skip-or-descend .ensures)
 
 returns-10 : tie.Need-returns-10
 returns-10 c k whole e fits sized =
-    passed (c .before .before .before) k whole codes.takeAttribute e (c .before .before .match .keys10) refl Attribute (attribute-line k) 1 1 (lit≤ tt) _
+    passed (c .before .before .before) k whole codes.takeAttribute e (c .before .before .match .keys10) refl refl fits Attribute (attribute-line k) 1 1 (lit≤ tt) _
     (λ t. c .before .type-and-value2 .ensures t .1 refl) _ (c .skip-or-descend2 .ensures)
 
 returns-11 : tie.Need-returns-11
 returns-11 c k whole e fits sized =
-    passed (c .before .before .before) k whole codes.takeRdn e (c .before .before .match .keys11) refl Rdn (part-line k) 2 1 (lit≤ tt) _
-    (c .before .rdn .ensures) _ (c .skip-or-descend3 .ensures)
+    let d = c .before .before .before in
+    let a = action d k codes.takeRdn e (c .before .before .match .keys11) in
+    let x = part-line k a in
+    let edition = d .before .before .before .args .edition in
+    subst (VisitJustified edition k whole (left d) (id d) (content d)) (sym (c .take-set .ensures))
+    (skip-set edition k whole (left d) (id d) (content d) (stands-at edition k whole codes.takeRdn (x .1 .mark) a refl) _ (next d k e) Rdn 2 1 x (lit≤ tt) _
+    (λ t. let (inner, ends) = c .before .rdn .ensures t in (inner, ends (id d))))
 
 returns-12 : tie.Need-returns-12
 returns-12 c k whole e fits sized =
     let d = c .before .before in
     let a = action d k codes.takeByLine e (c .before .match .keys12) in
     c .take-by-fields .ensures k whole e (id-kind k ∙ ap (λ (x : ℕ). eqb x codes.takeCertReqId) a)
+    (unasked d k codes.takeByLine e (c .before .match .keys12) refl fits)
 
 returns-13 : tie.Need-returns-13
 returns-13 c k whole e fits sized =
-    passed (c .before .before .before) k whole codes.takeSpki e (c .before .before .match .keys13) refl Spki (key-line k) 2 1 (lit≤ tt) _
-    (c .before .subject-public-key-info .ensures) _ (c .skip-or-descend4 .ensures)
+    passed (c .before .before .before) k whole codes.takeSpki e (c .before .before .match .keys13) refl refl fits Spki (key-line k) 2 1 (lit≤ tt) _
+    (c .before .subject-public-key-info .ensures) _ (c .skip-or-descend3 .ensures)
 
 returns-14 : tie.Need-returns-14
 returns-14 c k whole e fits sized =
-    passed (c .before .before .before) k whole codes.takeName e (c .before .before .match .keys14) refl OneName (name-line k) 4 3 (lit≤ tt) _
-    (c .before .name .ensures) _ (c .skip-or-descend5 .ensures)
+    passed (c .before .before .before) k whole codes.takeName e (c .before .before .match .keys14) refl refl fits OneName (name-line k) 4 3 (lit≤ tt) _
+    (c .before .name .ensures) _ (c .skip-or-descend4 .ensures)
 
 -- what is below n + 1 and not n is below n
 down : (n : ℕ) {a : ℕ} → a < n + 1 → (a ≡ n → ⊥) → a < n
@@ -267,12 +286,12 @@ take-spec =
     type-and-value-requires-2
     skip-or-descend-requires-2
     rdn-requires
-    skip-or-descend-requires-3
+    take-set-requires
     take-by-fields-requires
     subject-public-key-info-requires
-    skip-or-descend-requires-4
+    skip-or-descend-requires-3
     name-requires
-    skip-or-descend-requires-5
+    skip-or-descend-requires-4
     returns
     returns-2
     returns-3

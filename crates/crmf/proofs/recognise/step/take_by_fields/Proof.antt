@@ -35,7 +35,7 @@ module _ (c : tie.After-mark-of) where
       stands-by _ k whole short ∙ reads k _ _ coded ∙ ap not test
 
 returns : tie.Need-returns
-returns c k whole e short = refuse-wrong _ k whole _ _ _ (standing (c .before) k whole e short true (c .if1 .taken))
+returns c k whole e short ends = refuse-wrong _ k whole _ _ _ (standing (c .before) k whole e short true (c .if1 .taken))
 
 judge-value-requires : tie.Need-judge-value-requires
 judge-value-requires c κs = search needs
@@ -70,9 +70,10 @@ module _ (c : tie.After-inside-of) where
   stood k whole e short = standing marked k whole e short false (c .before .before .before .before .before .if1 .left)
 
 returns-2 : tie.Need-returns-2
-returns-2 c k whole e short =
+returns-2 c k whole e short ends =
     let d = c .before in
-    descend _ k whole _ _ _ (stood d k whole e short) _ (says d k e) (ne-eqb _ _ (λ z. c .if2 .taken (inside d k e ∙ z)))
+    let lined = ne-eqb _ _ (λ z. c .if2 .taken (inside d k e ∙ z)) in
+    descend _ k whole _ _ _ (stood d k whole e short) _ (says d k e) lined (ends lined)
 
 is-element-requires : tie.Need-is-element-requires
 is-element-requires c κs = search needs
@@ -81,11 +82,11 @@ skip-or-refuse-requires : tie.Need-skip-or-refuse-requires
 skip-or-refuse-requires c κs = search needs
 
 returns-3 : tie.Need-returns-3
-returns-3 c k whole e short =
+returns-3 c k whole e short ends =
     refuse-breaks _ k whole _ _ _ _ (sym (c .before .before .before .judge-value .ensures k e) ∙ c .before .detail .given .1)
 
 returns-4 : tie.Need-returns-4
-returns-4 c k whole e short =
+returns-4 c k whole e short ends =
     let d = c .before .before .before in
     subst (VisitJustified _ k whole _ _ _) (sym (c .skip-or-refuse .ensures))
     (skip-whole _ k whole _ _ _ (stood d k whole e short) _ (says d k e) (eq-eqb _ _ (sym (inside d k e) ∙ c .before .before .if2 .left)) _
