@@ -17,6 +17,9 @@ pub const ENUMERATED: u8 = 0x0A;
 
 pub const UTF8_STRING: u8 = 0x0C;
 
+// The identifier of the constructed type with a rule on its members.
+pub const SET: u8 = 0x31;
+
 // Answers whether the identifier is constructed (bit 6): the content is a list of elements.
 pub fn is_constructed(id: u8) -> bool
     ensures { λ r. ⌜ r ≡ constructed id ⌝ }

@@ -1,6 +1,6 @@
 -- The laws of length octets: below 65,536 they are one, two or three, the shortest are read back, and what is read is the shortest. Assumes nothing.
 use Prim.Native.Nat.{ℕ, zero, suc, _+_, _-_, _*_, _/_, _%_, _^_, _≤_, _<_}
-use mathlib.Core.Path.{_≡_, refl, sym, ap, _∙_}
+use mathlib.Core.Path.{_≡_, refl, sym, ap, ap₂, _∙_}
 use mathlib.Core.Bool.{Bool, true, false, _&&_}
 use mathlib.Core.List.{List, [], _∷_, _++_}
 use native.Mathlib.Nat.{mul-assoc, mul-le-mul-right, pow-succ', lt-of-lt-of-le}
@@ -220,3 +220,36 @@ length-counted (b ∷ bs) k n e = test (ltb b 0x80) refl
         let one : k ≡ 1 = cc in
         omega arith
     test false p = omega (arith, long-read (b - 0x80) bs k n (rw (lengthOf, p) at e) .counted)
+
+-- the long form looks at its own octets alone
+long-decided : (j : ℕ) (bs cs : List ℕ) (k n : ℕ) → longForm j bs ≡ octets k n → j ≤ length cs → take j cs ≡ take j bs → longForm j cs ≡ octets k n
+unfolding longForm
+long-decided j bs cs k n e room same = tests (leb 1 j && leb j 126) (leb j (length bs)) refl refl
+  where
+    tests : (a b : Bool) → (leb 1 j && leb j 126) ≡ a → leb j (length bs) ≡ b → longForm j cs ≡ octets k n
+    tests false b p q = never-wrong (rw (longForm, p) at e)
+    tests true false p q = never-missing (rw (longForm, p, q) at e)
+    tests true true p q =
+        let x = long-read j bs k n e in
+        let brief : shortest (take j cs) ≡ true = ap shortest same ∙ x .brief in
+        rw (longForm, p, le-leb j (length cs) room, brief)
+        (ap (λ (l : List ℕ). octets (suc j) (valueFrom 0 l)) same ∙ ap₂ octets (sym (x .counted)) (sym (x .valued)))
+
+-- What octets say of a length is decided by the length octets alone.
+pub length-decided : (bs cs : List ℕ) (k n : ℕ) → lengthOf bs ≡ octets k n → k ≤ length cs → take k cs ≡ take k bs → lengthOf cs ≡ octets k n
+unfolding lengthOf
+length-decided [] cs k n e room same = never-missing e
+length-decided (b ∷ bs) [] k n e room same = absurd (omega (arith, length-counted (b ∷ bs) k n e))
+length-decided (b ∷ bs) (c ∷ cs) zero n e room same = absurd (omega (arith, length-counted (b ∷ bs) zero n e))
+length-decided (b ∷ bs) (c ∷ cs) (suc k) n e room same = test (ltb b 0x80) refl
+  where
+    first : c ≡ b
+    first = cc
+
+    test : (t : Bool) → ltb b 0x80 ≡ t → lengthOf (c ∷ cs) ≡ octets (suc k) n
+    test true p = ap (λ (x : ℕ). lengthOf (x ∷ cs)) first ∙ rw (lengthOf, p) (rw (lengthOf, p) at e)
+    test false p =
+        let h : longForm (b - 0x80) bs ≡ octets (suc k) n = rw (lengthOf, p) at e in
+        let counted : b - 0x80 ≡ k = omega (arith, long-read (b - 0x80) bs (suc k) n h .counted) in
+        let rest : take (b - 0x80) cs ≡ take (b - 0x80) bs = rw counted (cc) in
+        ap (λ (x : ℕ). lengthOf (x ∷ cs)) first ∙ rw (lengthOf, p) (long-decided (b - 0x80) bs cs (suc k) n h (omega arith) rest)

@@ -110,6 +110,25 @@ within (suc left) p bs n a d e f = of-within left (within left) p bs f
 within-list : (left p : ℕ) (bs : List ℕ) (n a d e : ℕ) → AnyIn (Any left) p bs n a d e → WithinList p bs a e
 within-list left = in-within left (within left)
 
+-- The rule at an element's end, decided at its last byte, comes after every fault inside it and before every fault of the elements after it.
+module _ (left p : ℕ) (bs : List ℕ) (id h n : ℕ) (e : Headed bs id h n) where
+  abbrev last : ℕ
+  last = p + (h + n) - 1
+
+  pub inside-sooner : (m a d x : ℕ) → AnyIn (Any left) (p + h) (take n (drop h bs)) m a d x → Sooner a x p last
+  inside-sooner m a d x f = go (leb (suc x) last) refl
+    where
+      go : (b : Bool) → leb (suc x) last ≡ b → Sooner a x p last
+      go true before = inl (omega (arith, leb-true (suc x) last before))
+      go false past =
+          let near = within-list left (p + h) (take n (drop h bs)) m a d x f in
+          inr (omega (arith, part-short bs h n, leb-false (suc x) last past), omega (arith, head-fits bs id h n (headed-stands e)))
+
+  pub behind-later : (m a d x : ℕ) → AnyIn (Any left) (p + (h + n)) (drop (h + n) bs) m a d x → Sooner p last a x
+  behind-later m a d x f =
+      let far = within-list left (p + (h + n)) (drop (h + n) bs) m a d x f in
+      inl (omega (arith, head-fits bs id h n (headed-stands e)))
+
 -- What an answer says of the faults: an end that there is none, a fault that it is the one that is decided first.
 abbrev Settled : (ℕ → ℕ → ℕ → ℕ → Type 0) → Nest → Type 0
 Settled F (End q) = (n a d e : ℕ) → F n a d e → ⊥
@@ -258,19 +277,12 @@ module _ (left p : ℕ) (bs : List ℕ) (o : Octets bs) (l : length bs ≤ longe
             others = λ m a d x f. others f;
           }
         where
-          last : (b : Bool) → leb (suc (s .decided)) (p + (h + n) - 1) ≡ b → Sooner q (s .decided) p (p + (h + n) - 1)
-          last true is = inl (omega (arith, leb-true (suc (s .decided)) (p + (h + n) - 1) is))
-          last false is =
-              let near = within-list left (p + h) content m q k (s .decided) (s .any) in
-              let past = leb-false (suc (s .decided)) (p + (h + n) - 1) is in
-              inr (omega (arith, content-size), omega (arith, head-fits bs id h n stands))
-
           others : {i a d x : ℕ} → Faulty i a d x → ((m ≡ i) × (q ≡ a) × (k ≡ d)) ⊎ Sooner q (s .decided) a x
           others (AnyOf.own b) = inl (own-same answer b)
           others (AnyOf.inside id′ h′ n′ e made′ f) = s .others _ _ _ _ (inner e f)
           others (AnyOf.closing id′ h′ n′ e made′ ms listed unasked) =
               let (same, front, size) = one-header e in
-              rw (sym front, sym size) (inr (last (leb (suc (s .decided)) (p + (h + n) - 1)) refl))
+              rw (sym front, sym size) (inr (inside-sooner left p bs id h n (head-parts bs stands) m q k (s .decided) (s .any)))
 
       -- without one
       end-settled : (q : ℕ) → listOf (elementOf left) n (p + h) content ≡ End q → ((m a d x : ℕ) → Inside m a d x → ⊥) → (kept : Bool)
@@ -350,6 +362,11 @@ soonest-fault left p bs number at detail o l = (λ e. rw e at (settled left p bs
     from k (Fault n a d) e s =
         let t : Soonest (Any left p bs) n a d = rw e at s in
         e ∙ same n a d k t (k .others n a d (t .decided) (t .any)) (t .others number at detail (k .decided) (k .any))
+
+-- An element with any fault, of its own or inside it, doesn't end. So a SET whose members descend breaks DER wherever headers lead to it.
+pub faulty-never-ends : (left p : ℕ) (bs : List ℕ) (number at detail decided q : ℕ) → Octets bs → length bs ≤ longest
+    → Any left p bs number at detail decided → elementOf left p bs ≡ End q → ⊥
+faulty-never-ends left p bs number at detail decided q o l f ends = (rw ends at (settled left p bs o l)) number at detail decided f
 
 -- The same for a whole input.
 pub walk-soonest : (s : List ℕ) → Octets s → length s ≤ longest → (number at detail : ℕ)

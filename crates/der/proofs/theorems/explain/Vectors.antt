@@ -11,7 +11,8 @@ use Rattle.der.specs.meaning.Length.{valueFrom, shortest, longForm, leng
 use Rattle.der.specs.steps.Header.{sizedBy, headOf}
 use Rattle.der.specs.meaning.Content.{boolean, integer, null, lastOf, unpadded, objectIdentifier, bitString}
 use Rattle.der.specs.steps.ContentTest.{holds}
-use Rattle.der.specs.steps.Order.{closes}
+use Rattle.der.specs.steps.Span.{spanBy, spanOf}
+use Rattle.der.specs.steps.Order.{descends, ascendsFrom, ascends, closes}
 use Rattle.der.specs.steps.Explain.{listOf, byRule, afterInside, elementOf, walkAt}
 
 -- octets, and what the walk over the whole of them answers
@@ -27,11 +28,19 @@ nests =
     ∷ (0x30 ∷ 0xFF ∷ [], Fault 4 0 0)
     ∷ (0x30 ∷ 0x02 ∷ 0x30 ∷ 0x82 ∷ 0x00 ∷ 0x80 ∷ [], Fault 2 2 2)
     ∷ (0x30 ∷ 0x09 ∷ 0x30 ∷ 0x07 ∷ 0x30 ∷ 0x05 ∷ 0x02 ∷ 0x01 ∷ 0x00 ∷ 0x30 ∷ 0x00 ∷ [], End 11)
+    -- document 02, A3: members of a SET that descend; under B1 they may; equal ones; the inner of two SETs; by whole encodings; a fault after the SET
+    ∷ (0x31 ∷ 0x05 ∷ 0x05 ∷ 0x00 ∷ 0x02 ∷ 0x01 ∷ 0x00 ∷ [], Fault 5 0 17)
+    ∷ (0xB1 ∷ 0x05 ∷ 0x05 ∷ 0x00 ∷ 0x02 ∷ 0x01 ∷ 0x00 ∷ [], End 7)
+    ∷ (0x31 ∷ 0x04 ∷ 0x05 ∷ 0x00 ∷ 0x05 ∷ 0x00 ∷ [], End 6)
+    ∷ (0x31 ∷ 0x09 ∷ 0x05 ∷ 0x00 ∷ 0x31 ∷ 0x05 ∷ 0x05 ∷ 0x00 ∷ 0x02 ∷ 0x01 ∷ 0x00 ∷ [], Fault 5 4 17)
+    ∷ (0x31 ∷ 0x05 ∷ 0x04 ∷ 0x01 ∷ 0x00 ∷ 0x04 ∷ 0x00 ∷ [], Fault 5 0 17)
+    ∷ (0x31 ∷ 0x05 ∷ 0x04 ∷ 0x00 ∷ 0x04 ∷ 0x01 ∷ 0x00 ∷ [], End 7)
+    ∷ (0x30 ∷ 0x0B ∷ 0x31 ∷ 0x05 ∷ 0x05 ∷ 0x00 ∷ 0x02 ∷ 0x01 ∷ 0x00 ∷ 0x30 ∷ 0x02 ∷ 0x00 ∷ 0x00 ∷ [], Fault 5 2 17)
     ∷ []
 
 -- the walk answers so
 answered : map (λ c. walkAt (c .0) 0 (length (c .0))) nests ≡ map (λ c. c .1) nests
-unfolding walkAt elementOf allowed constructed tagNumber headOf sizedBy lengthOf longForm shortest valueFrom listOf byRule afterInside closes holds integer
+unfolding walkAt elementOf allowed constructed tagNumber headOf sizedBy lengthOf longForm shortest valueFrom listOf byRule afterInside spanBy spanOf descends ascendsFrom ascends closes holds integer null
 answered = refl
 
 -- the rule takes each content of the first list and refuses each of the second
