@@ -1,10 +1,13 @@
-"""A model of document 01's section "The nest of elements", written from that document alone.
+"""A model of document 01's section "The nest of elements" with document 02's A3, written from those documents alone.
 
-It takes the text at its word: every rule is judged by itself, as far as there are octets to judge, and of all the faults the one
-with the least first byte is answered, and within one element the first in the document's order. The answer is
-(number, place, detail), or (ACCEPTED, end) if there is no fault: end is the place past the first element. TRUNCATED has a
-TruncatedDetail, BAD_CONTENT the tag number, and any other fault 0.
+It takes the text at its word: every rule is judged by itself, as far as there are octets to judge, and all the faults are collected, each
+with the byte at which it is decided. That is the element's first byte, but for the order of a SET's members, which is decided at the
+SET's last byte. Of all the faults the one that is decided first is answered; of those decided at the same byte the one of the innermost
+element; and within one element the first in the document's order. The answer is (number, place, detail), or (ACCEPTED, end) if there is
+no fault: end is the place past the first element. TRUNCATED has a TruncatedDetail, BAD_CONTENT the tag number, and any other fault 0.
 """
+
+import itertools
 
 from paper import DEEPEST, LONGEST, Answer, TruncatedDetail, Type
 
@@ -20,7 +23,9 @@ ORDER = [
     ("length", Answer.BAD_LENGTH, 0),
     ("past the end", Answer.TRUNCATED, TruncatedDetail.PAST_THE_END),
     ("content", Answer.BAD_CONTENT, None),
+    ("order", Answer.BAD_CONTENT, None),
 ]
+RANK = {name: rank for rank, (name, _, _) in enumerate(ORDER)}
 
 
 def nest(octets):
@@ -30,15 +35,16 @@ def nest(octets):
     end = element(octets, 0, len(octets), 1, faults)
     if not faults:
         return (Answer.ACCEPTED, end)
-    place = min(place for place, _ in faults)
-    number, detail = next((number, detail) for name, number, detail in ORDER if (place, name) in faults)
+    _, place, name = min(faults, key=lambda fault: (fault[0], -fault[1], RANK[fault[2]]))
+    _, number, detail = ORDER[RANK[name]]
     return (number, place, octets[place] % 32 if detail is None else detail)
 
 
 def element(octets, place, parent_end, depth, faults):
-    """Adds the faults of an element and of those inside it, as (first byte, name); answers its end, or None if it has a fault."""
+    """Adds the faults of an element and of those inside it, as (byte at which it is decided, first byte, name); answers the element's
+    end, or None if it can't be told."""
     own = octets[place:parent_end]
-    broken = set()
+    broken, end = set(), None
     if depth > DEEPEST:
         broken.add("too deep")
     if len(own) == 0:
@@ -55,15 +61,33 @@ def element(octets, place, parent_end, depth, faults):
             broken.add("no length")
         elif header + size > len(own):
             broken.add("past the end")
+        else:
+            end = place + header + size
         if size is not None and not content_rule(own[0], own[header:header + size]):
             broken.add("content")
-    faults |= {(place, name) for name in broken}
-    if broken:
-        return None
-    inner, end = place + header, place + header + size
-    while own[0] & 0x20 and inner is not None and inner < end:
-        inner = element(octets, inner, end, depth + 1, faults)
+    faults |= {(place, place, name) for name in broken}
+    if end is not None and own[0] & 0x20 and depth <= DEEPEST:
+        members = elements(octets, place + header, end, depth + 1, faults)
+        if own[0] == Type.SET and any(itertools.starmap(descends, itertools.pairwise(members))):
+            faults.add((end - 1, place, "order"))
     return end
+
+
+def elements(octets, place, parent_end, depth, faults):
+    """The octets of each element from a place on, as far as they can be told apart; adds their faults."""
+    found = []
+    while place is not None and place < parent_end:
+        end = element(octets, place, parent_end, depth, faults)
+        if end is not None:
+            found.append(octets[place:end])
+        place = end
+    return found
+
+
+def descends(first, second):
+    """Whether the second octet string is less than the first, the shorter one padded with zero octets (X.690 11.6)."""
+    longer = max(len(first), len(second))
+    return second.ljust(longer, b"\0") < first.ljust(longer, b"\0")
 
 
 def allowed(identifier):

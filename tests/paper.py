@@ -161,6 +161,7 @@ class Type(Number):
     OBJECT_IDENTIFIER = 0x06
     ENUMERATED = 0x0A
     UTF8_STRING = 0x0C
+    SET = 0x31
 
 
 def told(number, place, count):
