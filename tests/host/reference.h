@@ -1,5 +1,5 @@
-/* The reading, the writing, the verdict and the duplicate search by document 01, written from that paper alone. The comparisons check
- * the archive against them. */
+/* The reading, the writing, the verdict and the duplicate search by document 01 and by document 02's A3, written from those papers alone.
+ * The comparisons check the archive against them. */
 #ifndef REFERENCE_H
 #define REFERENCE_H
 
@@ -49,7 +49,14 @@ enum {
     BYTE_OF_POSITIONS = 10, /* a position kept in a byte */
     CARRIED_IDS = 11,       /* carried certReqIds counted among the messages' own */
     LEAST_EARLIER = 12,     /* the pair with the least earlier position */
-    LAST_OCTETS = 13        /* certReqIds compared by their last octet */
+    LAST_OCTETS = 13,       /* certReqIds compared by their last octet */
+
+    /* in the order of a SET's members */
+    ORDER_BEFORE_INSIDE = 14, /* a SET's order judged before what is inside it */
+    CONTENTS_ORDERED = 15,    /* a SET's members compared by their contents */
+    TAGGED_ORDERED = 16,      /* elements of other classes with a SET's tag number judged too */
+    FIRST_PAIR_ORDERED = 17,  /* only the first two members of a SET compared */
+    EQUALS_REFUSED = 18       /* equal members of a SET refused */
 };
 extern int reference_fault;
 

@@ -1,7 +1,8 @@
-/* The nest of elements by document 01. Identifiers are in hex, as the paper writes them. */
+/* The nest of elements by document 01 and by document 02's A3. Identifiers are in hex, as the papers write them. */
 #include "reference_nest.h"
 
 #include "paper.h"
+#include "reference.h"
 
 static bool identifier_allowed(uint8_t id)
 {
@@ -118,6 +119,36 @@ static bool content_holds(uint8_t id, const uint8_t *content, size_t size)
     }
 }
 
+/* Whether the octets of one element come after those of the next; past its end each has zero octets (X.690 11.6). */
+static bool comes_after(const uint8_t *bytes, Element one, Element next)
+{
+    bool whole = reference_fault != CONTENTS_ORDERED;
+    size_t i = whole ? one.at : one.inside, k = whole ? next.at : next.inside;
+    for (; i < one.end || k < next.end; i++, k++) {
+        int octet = i < one.end ? bytes[i] : 0, other = k < next.end ? bytes[k] : 0;
+        if (octet != other)
+            return octet > other;
+    }
+    return reference_fault == EQUALS_REFUSED;
+}
+
+/* Whether the members are in order of an element that has to have them so: a SET, and no other that is tagged as one. */
+static bool order_holds(const uint8_t *bytes, Element set)
+{
+    Element member, next;
+    if (reference_fault == TAGGED_ORDERED ? (set.id & 0x3F) != 0x31 : set.id != 0x31)
+        return true;
+    if (set.inside == set.end || header(bytes, set.inside, set.end, &member) != ACCEPTED)
+        return true;
+    for (; member.end < set.end && header(bytes, member.end, set.end, &next) == ACCEPTED; member = next) {
+        if (comes_after(bytes, member, next))
+            return false;
+        if (reference_fault == FIRST_PAIR_ORDERED)
+            break;
+    }
+    return true;
+}
+
 int nest(const uint8_t *bytes, size_t at, size_t end, int depth, Element *element, size_t *place)
 {
     *place = at;
@@ -128,11 +159,14 @@ int nest(const uint8_t *bytes, size_t at, size_t end, int depth, Element *elemen
         return fault;
     if (!(element->id & 0x20))
         return content_holds(element->id, bytes + element->inside, element->end - element->inside) ? ACCEPTED : BAD_CONTENT;
+    if (reference_fault == ORDER_BEFORE_INSIDE && !order_holds(bytes, *element))
+        return BAD_CONTENT;
     Element inner;
     for (size_t next = element->inside; next < element->end; next = inner.end) {
         fault = nest(bytes, next, element->end, depth + 1, &inner, place);
         if (fault != ACCEPTED)
             return fault;
     }
-    return ACCEPTED;
+    *place = at;
+    return order_holds(bytes, *element) ? ACCEPTED : BAD_CONTENT;
 }

@@ -1,4 +1,4 @@
-/* The nest of elements by document 01, which the reading in reference.c starts from. */
+/* The nest of elements by document 01 and by document 02's A3, which the reading in reference.c starts from. */
 #ifndef REFERENCE_NEST_H
 #define REFERENCE_NEST_H
 
