@@ -118,6 +118,29 @@ static Node *text(uint8_t id)
     return leaf(id, content, size - (size > 0 && slip()));
 }
 
+/* A SET with its members in order, or a list that is tagged like one, whose order is free. */
+static Node *ordered(Node *set)
+{
+    return set->id != 0x31 || slip() ? set : in_order(set);
+}
+
+/* A SET, or a list that is tagged like one: members that differ early or late, equal ones, and SETs again. */
+static Node *set(int levels)
+{
+    static const uint8_t ids[] = {0x31, 0x31, 0x31, 0x31, 0xB1, 0xA0, 0x71};
+    Node *node = box(ids[below(sizeof ids)]);
+    for (size_t left = below(5); left > 0; left--)
+        if (node->last && chance(6))
+            add(node, copy(node->last));
+        else if (levels > 0 && chance(3))
+            add(node, set(levels - 1));
+        else if (chance(12))
+            add(node, random_octets(0x04, 300));
+        else
+            add(node, leaf((uint8_t[]){0x04, 0x04, 0x13, 0x80}[below(4)], "aaaaaaaaaaab\0\0" + below(12), below(4)));
+    return ordered(node);
+}
+
 static Node *key_proof(uint8_t id);
 
 Node *any(int levels)
@@ -125,11 +148,13 @@ Node *any(int levels)
     static const uint8_t plain[] = {0x04, 0x12, 0x13, 0x14, 0x15, 0x16, 0x17, 0x18, 0x19, 0x1A, 0x1B, 0x1C, 0x1E, 0x80, 0x81, 0x82, 0x83,
         0x86, 0x9E, 0x41, 0x5E, 0xC0, 0xDE};
     static const uint8_t boxes[] = {0x30, 0x30, 0x31, 0xA0, 0xA1, 0xA2, 0xA3, 0xA4, 0xBE, 0x60, 0x7E, 0xE0, 0xFE};
+    if (levels > 0 && chance(16))
+        return set((int)below(4));
     if (levels > 0 && chance(3)) {
         Node *node = box(boxes[below(sizeof boxes)]);
         for (size_t left = below(4); left > 0; left--)
             add(node, any(levels - 1));
-        return node;
+        return ordered(node);
     }
     switch (below(levels > 0 && !chance(3) ? 8 : 12)) {
     case 0: return leaf(0x05, "\0", slip());
@@ -189,20 +214,27 @@ static Node *key_in(Node *node)
     return node;
 }
 
+static Node *attribute(void)
+{
+    Node *node = box(0x30);
+    bool usual = chance(2); /* a type and a value that others have too, as far as the value is long */
+    if (!slip())
+        add(node, usual ? leaf(0x06, (uint8_t[]){0x55, 0x04, (uint8_t[]){0x03, 0x05, 0x0A}[below(3)]}, 3) : object_identifier());
+    if (!slip())
+        add(node, usual ? leaf(0x13, "Meier & SonsMeier & Sans" + 12 * below(2), below(13)) : any(1));
+    if (slip())
+        add(node, any(1));
+    return node;
+}
+
 static Node *name(void)
 {
     Node *node = box(0x30);
     for (size_t left = below(4); left > 0; left--) {
-        Node *level = add(node, box(slip() ? 0x30 : 0x31))->last;
-        for (size_t pairs = slip() ? 0 : 1 + chance(4); pairs > 0; pairs--) {
-            Node *pair = add(level, box(0x30))->last;
-            if (!slip())
-                add(pair, object_identifier());
-            if (!slip())
-                add(pair, any(1));
-            if (slip())
-                add(pair, any(1));
-        }
+        Node *level = box(slip() ? 0x30 : 0x31);
+        for (size_t attributes = slip() ? 0 : chance(2) ? 1 : 1 + below(4); attributes > 0; attributes--)
+            add(level, level->last && chance(6) ? copy(level->last) : attribute());
+        add(node, ordered(level));
     }
     return node;
 }

@@ -22,8 +22,11 @@ static void differs(const char *what, size_t edition, size_t room)
 
 enum { NEAR_THE_END = 65000, LEAST_STOPS = 100 };
 enum { CHOICE = 1, PAIRS, LOCATION, DIFFERENCES }; /* document 01's differences D1 to D3 */
+enum { TAGS = 32 };
+static const uint8_t ruled[] = {1, 2, 3, 5, 6, 10, 12, 17}; /* the tag numbers of the types whose content has a rule */
 
 static size_t answers[EDITIONS][NUMBERS]; /* of editions 1 and 2, given room */
+static size_t contents[EDITIONS][TAGS];   /* BAD_CONTENT, by the tag number at its place */
 static size_t short_tables, wrong_editions, calls, total_bytes;
 static bool stops[EDITIONS][PHAGUNDRO_LONGEST + 1]; /* places of NOT_IN_GRAMMAR */
 static size_t differences[EDITIONS][DIFFERENCES];   /* places of OTHER_EDITION, by listed difference */
@@ -52,6 +55,8 @@ static void accepted(size_t edition, const size_t *rows, size_t count)
 static void occurred(size_t edition, reference_answer answer, const size_t *rows)
 {
     answers[edition][answer.number]++;
+    if (answer.number == PHAGUNDRO_BAD_CONTENT)
+        contents[edition][input[answer.place] % TAGS]++;
     if (answer.number == PHAGUNDRO_NOT_IN_GRAMMAR)
         stops[edition][answer.place] = true;
     if (answer.number == PHAGUNDRO_OTHER_EDITION)
@@ -149,6 +154,10 @@ static int account_answers(size_t edition)
     for (size_t n = PHAGUNDRO_TOO_LONG; n <= PHAGUNDRO_LONG_CERT_REQ_ID; n++) {
         printf("%s %zu: %zu", n > PHAGUNDRO_TOO_LONG ? "," : "", n, answers[edition][n]);
         lacking += missing(answers[edition][n] > 0, "number", n, edition);
+    }
+    for (size_t i = 0; i < sizeof ruled; i++) {
+        printf("%s %u: %zu", i > 0 ? "," : "; 5 by tag number", ruled[i], contents[edition][ruled[i]]);
+        lacking += missing(contents[edition][ruled[i]] > 0, "5 for the tag number", ruled[i], edition);
     }
     for (size_t i = 0; i <= PHAGUNDRO_LONGEST; i++)
         places += stops[edition][i];

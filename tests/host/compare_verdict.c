@@ -21,7 +21,7 @@ static void differs(const char *what, size_t edition, size_t position)
 
 static size_t refusals[EDITIONS][NUMBERS], verdicts[EDITIONS][VERDICTS]; /* of the verdict's calls */
 static size_t searches[EDITIONS][2];                                     /* nothing found, and a pair */
-static size_t calls, wrong_editions, far_pairs, most_searched, longest_part;
+static size_t calls, wrong_editions, far_pairs, most_searched, longest_part, disordered;
 
 /* -- One input -- */
 
@@ -50,6 +50,7 @@ static void compare_verdict(size_t edition, size_t position)
     if (edition != PHAGUNDRO_RFC2511 && edition != PHAGUNDRO_RFC4211)
         return;
     refusals[edition][right.number]++;
+    disordered += right.number == PHAGUNDRO_BAD_CONTENT && input[right.place] == 0x31;
     if (right.number == PHAGUNDRO_ACCEPTED)
         verdicts[edition][right.verdict]++;
     keep_most(&longest_part, right.length);
@@ -120,10 +121,11 @@ static int account(size_t inputs)
 {
     printf("%zu inputs of seed %llu, %zu calls: no difference\n", inputs, (unsigned long long)seed, calls);
     int lacking = account_edition(PHAGUNDRO_RFC2511) + account_edition(PHAGUNDRO_RFC4211);
-    printf("pairs past position 254: %zu; most messages without a pair: %zu; longest part: %zu; neither edition (13): %zu\n", far_pairs,
-        most_searched, longest_part, wrong_editions);
+    printf("pairs past position 254: %zu; most messages without a pair: %zu; longest part: %zu; neither edition (13): %zu; SETs out of order "
+        "(5): %zu\n", far_pairs, most_searched, longest_part, wrong_editions, disordered);
     lacking += missing(far_pairs > 0, "a pair past position", FAR_POSITION, 0);
     lacking += missing(wrong_editions > 0, "number", PHAGUNDRO_UNKNOWN_EDITION, 0);
+    lacking += missing(disordered > 0, "SETs out of order, number", PHAGUNDRO_BAD_CONTENT, 0);
     lacking += missing(most_searched > MANY_MESSAGES, "no pair among more messages than", MANY_MESSAGES, 0);
     return comparison_status(lacking);
 }

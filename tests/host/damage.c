@@ -149,6 +149,98 @@ static void replaced_by_a_construct(Node *parent, Node *node)
     replace(parent, node, constructs[below(sizeof constructs / sizeof *constructs)]());
 }
 
+/* -- SETs -- */
+
+static bool several(const Node *node)
+{
+    return node->id == 0x31 && node->first != node->last;
+}
+
+/* A SET with two members or more inside the root, and its parent; NULL if there is none. */
+static Node *some_set(Node *root, Node **parent)
+{
+    size_t all = tally(root) - 1, from = all > 0 ? below(all) : 0;
+    for (size_t i = 0; i < all; i++) {
+        size_t nth = (from + i) % all;
+        Node *node = pick(root, &nth, parent);
+        if (several(node))
+            return node;
+    }
+    return NULL;
+}
+
+static void neighbours_swapped(Node *set)
+{
+    size_t members = 0;
+    for (Node *child = set->first; child; child = child->next)
+        members++;
+    Node *node = set->first;
+    for (size_t left = below(members - 1); left > 0; left--)
+        node = node->next;
+    swapped_with_the_next(set, node);
+}
+
+bool disorder(Node *root)
+{
+    Node *parent, *set = some_set(root, &parent);
+    if (set)
+        neighbours_swapped(set);
+    return set != NULL;
+}
+
+/* An element that breaks a rule of the nest. */
+static Node *faulty(void)
+{
+    static const uint8_t zero[1];
+    Node *node = leaf(0x04, zero, 1);
+    switch (below(4)) {
+    case 0: return leaf(0x05, zero, 1);
+    case 1: node->id = 0x1F; return node;
+    case 2: return chain(21);
+    default: node->form = (int[]){LONGER_FORM, INDEFINITE, ENORMOUS}[below(3)]; return node;
+    }
+}
+
+/* Puts an element before the nth inside another, or after the last. */
+static void insert(Node *parent, size_t nth, Node *made)
+{
+    Node **link = &parent->first;
+    for (; nth > 0 && *link; nth--)
+        link = &(*link)->next;
+    made->next = *link;
+    *link = made;
+    if (!made->next)
+        parent->last = made;
+}
+
+/* Swaps two neighbours in each SET around this one; answers whether it is the node or inside it. */
+static bool swapped_around(Node *node, const Node *set)
+{
+    bool inside = false;
+    for (Node *child = node->first; child && !inside; child = child->next)
+        inside = swapped_around(child, set);
+    if (inside && several(node))
+        neighbours_swapped(node);
+    return inside || node == set;
+}
+
+void disorder_tree(Node *root)
+{
+    Node *parent, *set = some_set(root, &parent);
+    if (!set)
+        return;
+    neighbours_swapped(set);
+    switch (below(6)) {
+    case 0: insert(parent, below(2), faulty()); break; /* before it or after it */
+    case 1: insert_after(parent, set, faulty()); break;
+    case 2: insert(set, below(4), faulty()); break;
+    case 3: set->id = (uint8_t[]){0xB1, 0xA0, 0x71, 0x30}[below(4)]; break; /* so that its order is free */
+    default: break;
+    }
+    if (chance(2))
+        swapped_around(root, set);
+}
+
 void damage_tree(Node *root)
 {
     static void (*const damages[])(Node *parent, Node *node) = {dropped, doubled, swapped_with_the_next, identifier_changed,

@@ -7,6 +7,12 @@
 /* Damages an element inside the root. */
 void damage_tree(Node *root);
 
+/* Takes a SET with two members or more inside the root and swaps two neighbours; answers whether there is one. */
+bool disorder(Node *root);
+
+/* Puts SETs out of order, and perhaps another fault before, in or after one of them. */
+void disorder_tree(Node *root);
+
 /* Damages bytes, of which there may be INPUT_ROOM; answers how many there are now. */
 size_t damage_bytes(uint8_t *input, size_t length);
 

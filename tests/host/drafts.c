@@ -2,6 +2,7 @@
  * says is done to the rows or the slice. */
 #include "drafts.h"
 
+#include "damage.h"
 #include "draft_rows.h"
 #include "inputs.h"
 #include "kinds.h"
@@ -353,6 +354,20 @@ static void octet_changed(Draft *draft)
     *octet = (uint8_t)(chance(2) ? *octet ^ 1u << below(8) : below(256));
 }
 
+/* Two neighbours, perhaps equal ones, are swapped in a SET of a leaf, if there is one. */
+static void set_disordered(Draft *draft)
+{
+    size_t from = below(rows(draft));
+    for (size_t k = 0; k < rows(draft); k++) {
+        size_t *numbers = row(draft, (from + k) % rows(draft));
+        Node *whole = box(0x30);
+        if (is_container(numbers[KIND]) || !parse(whole, draft->slice + numbers[FIRST], numbers[WHOLE]) || !disorder(whole))
+            continue;
+        encode(whole->first, draft->slice + numbers[FIRST], numbers[WHOLE]);
+        return;
+    }
+}
+
 /* A certReqId of 8 content octets or more. */
 static void longer_id(Draft *draft)
 {
@@ -475,6 +490,17 @@ static void deep_leaf(Draft *draft)
     add_row(draft, PHAGUNDRO_KIND_UNKNOWN_REG_INFO, add_octets(draft, item, 5 + 2 * levels), 5 + 2 * levels, 5);
 }
 
+/* A subject of one RDN with two attributes, in order, equal or out of order. */
+static void two_attributes(Draft *draft)
+{
+    static const uint8_t attributes[][8] = {{0x30, 0x06, 0x06, 0x01, 0x55, 0x0C, 0x01, 0x61}, {0x30, 0x06, 0x06, 0x01, 0x55, 0x0C, 0x01, 0x62}};
+    open_request(draft);
+    size_t at = add_octets(draft, "\xA5\x14\x30\x12\x31\x10", 6);
+    for (int i = 0; i < 2; i++)
+        add_octets(draft, attributes[below(2)], sizeof *attributes);
+    add_row(draft, PHAGUNDRO_KIND_SUBJECT, at, draft->length - at, 4);
+}
+
 /* Containers inside each other. */
 static void deep_containers(Draft *draft)
 {
@@ -539,6 +565,7 @@ const DraftSort draft_sorts[DRAFT_SORTS] = {
     {"an empty leaf", NO_BATCH, 30, empty_leaf},
     {"a container as a leaf, or the reverse", NO_BATCH, 30, other_nature},
     {"another octet in a leaf", OPEN, 60, octet_changed},
+    {"a SET out of order", OPEN, 60, set_disordered},
     {"a certReqId of 8 to 10 octets", OPEN, 15, longer_id},
     {"the slice cut", OPEN, 30, slice_cut},
     {"place and length wrap", NO_BATCH, 30, wrapping},
@@ -547,6 +574,7 @@ const DraftSort draft_sorts[DRAFT_SORTS] = {
     {"any rows", OPEN, 30, any_rows},
     {"near or past the longest", OPEN, 4, long_batch},
     {"a leaf near or past the deepest", OPEN, 8, deep_leaf},
+    {"two attributes in an RDN", OPEN, 8, two_attributes},
     {"containers too deep", NO_BATCH, 3, deep_containers},
     {"many rows", OPEN, 2, many_rows},
     {"many empty leaves", NO_BATCH, 2, many_empty_leaves},

@@ -1,5 +1,5 @@
 /* The row of inputs. Inputs are trees of elements that are built, damaged and encoded, and then damaged as bytes. The first inputs are the
- * same for each seed: the files, and the sizes and depths at which document 01 draws a line. */
+ * same for each seed: the files, the sizes and depths at which document 01 draws a line, and SETs of two members. */
 #include "inputs.h"
 
 #include "../../include/phagundro.h"
@@ -64,7 +64,37 @@ static Node *on_a_day(size_t n)
     return around(0x30, around(0x30, add(add(box(0x30), leaf(0x02, "\0", 1)), fields)));
 }
 
-/* Inputs at the lines that document 01 draws; NULL if there are no more. */
+enum { MEMBERS = 8, SETS = 3 * MEMBERS * MEMBERS };
+
+static Node *member(size_t n)
+{
+    static const uint8_t zeros[128];
+    switch (n) {
+    case 0: return leaf(0x02, "\5", 1);
+    case 1: return leaf(0x04, NULL, 0);
+    case 2: return leaf(0x04, zeros, 1);
+    case 3: return leaf(0x04, "\1", 1);
+    case 4: return leaf(0x04, zeros, 127);
+    case 5: return leaf(0x04, zeros, 128);
+    case 6: return leaf(0x05, NULL, 0);
+    default: return box(0x31);
+    }
+}
+
+/* A batch with each pair of members in a SET: by itself, as the last member of a SET that descends, and before a fault. */
+static Node *in_a_set(size_t n)
+{
+    size_t one = n % MEMBERS, other = n / MEMBERS % MEMBERS;
+    Node *set = add(add(box(0x31), member(one)), member(other));
+    switch (n / (MEMBERS * MEMBERS)) {
+    case 0: break;
+    case 1: set = add(add(box(0x31), leaf(0x80, NULL, 0)), set); break;
+    default: set = add(around(0x30, set), leaf(0x05, "\0", 1));
+    }
+    return around(0x30, message_around(set));
+}
+
+/* Inputs at the lines that the papers draw; NULL if there are no more. */
 static Node *at_a_line(size_t n)
 {
     enum { DEPTHS = 30, ID_SIZES = 12 };
@@ -86,7 +116,10 @@ static Node *at_a_line(size_t n)
     n -= DEPTHS;
     if (n < ID_SIZES)
         return request(integer_of(0x02, n + 1));
-    return on_a_day(n - ID_SIZES);
+    n -= ID_SIZES;
+    if (n < SETS)
+        return in_a_set(n);
+    return on_a_day(n - SETS);
 }
 
 /* A file, rarely a long one; NULL if there is none. */
@@ -150,6 +183,8 @@ static size_t built(uint8_t *input)
     Node *root = random_tree();
     for (size_t left = chance(3) ? 1 + below(2) : 0; left > 0; left--)
         damage_tree(root);
+    if (chance(12))
+        disorder_tree(root);
     if (chance(100))
         root->id = any_identifier();
     size_t length = encode(root, input, INPUT_ROOM);

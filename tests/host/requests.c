@@ -103,8 +103,21 @@ static void proof(size_t sort)
         signature(sort);
 }
 
-/* The parts of a template; NEIGHBOURS are fields beside the other two that look alike. */
-enum { SUBJECT = 1, PUBLIC_KEY = 2, NEIGHBOURS = 4, TEMPLATES = 8 };
+/* The parts of a template; NEIGHBOURS are fields beside the other two that look alike. A subject is empty, or has an RDN of two attributes:
+ * TWO_ATTRIBUTES, and DESCENDING if they are out of order. */
+enum { SUBJECT = 1, PUBLIC_KEY = 2, NEIGHBOURS = 4, TEMPLATES = 8, TWO_ATTRIBUTES = 8, DESCENDING = 16 };
+
+static void subject(size_t parts)
+{
+    size_t end = start;
+    if (parts & TWO_ATTRIBUTES) {
+        WRITE(0x30, 0x06, 0x06, 0x01, 0x55, 0x0C, 0x01, parts & DESCENDING ? 0x61 : 0x62);
+        WRITE(0x30, 0x06, 0x06, 0x01, 0x55, 0x0C, 0x01, parts & DESCENDING ? 0x62 : 0x61);
+        enclose(0x31, end);
+    }
+    enclose(0x30, end);
+    enclose(0xA5, end);
+}
 
 static void template(size_t parts)
 {
@@ -117,7 +130,7 @@ static void template(size_t parts)
         enclose(0xA6, key);
     }
     if (parts & SUBJECT)
-        WRITE(0xA5, 0x02, 0x30, 0x00);
+        subject(parts);
     if (parts & NEIGHBOURS)
         WRITE(0x80, 0x01, 0x02, 0xA3, 0x02, 0x30, 0x00);
     enclose(0x30, end);
@@ -197,7 +210,8 @@ static size_t at_random(uint8_t *batch)
     begin();
     for (size_t left = 1 + below(8); left > 0; left--) {
         int64_t carried = near_number();
-        message(near_number(), below(TEMPLATES), below(SORTS), below(4) == 0 ? &carried : NULL);
+        size_t attributes = below(4) == 0 ? TWO_ATTRIBUTES + (below(20) == 0 ? DESCENDING : 0) : 0;
+        message(near_number(), below(TEMPLATES) + attributes, below(SORTS), below(4) == 0 ? &carried : NULL);
     }
     return finish(batch);
 }

@@ -148,6 +148,34 @@ size_t encode(Node *root, uint8_t *output, size_t room)
     return (size_t)(next_octet - output);
 }
 
+/* Whether an element's octets are less than another's; the shorter one's are followed by zero octets. */
+static bool less(Node *one, Node *other)
+{
+    static uint8_t octets_of[2][1 << 16];
+    size_t size = encode(one, octets_of[0], sizeof octets_of[0]), other_size = encode(other, octets_of[1], sizeof octets_of[1]);
+    size_t longer = size > other_size ? size : other_size;
+    memset(octets_of[0] + size, 0, longer - size);
+    memset(octets_of[1] + other_size, 0, longer - other_size);
+    return memcmp(octets_of[0], octets_of[1], longer) < 0;
+}
+
+Node *in_order(Node *node)
+{
+    Node *left = node->first;
+    node->first = node->last = NULL;
+    while (left) {
+        Node *taken = left, **link = &node->first;
+        left = left->next;
+        while (*link && !less(taken, *link))
+            link = &(*link)->next;
+        taken->next = *link;
+        *link = taken;
+        if (!taken->next)
+            node->last = taken;
+    }
+    return node;
+}
+
 bool parse(Node *parent, const uint8_t *bytes, size_t size)
 {
     while (size > 0) {

@@ -34,6 +34,9 @@ Node *add(Node *node, Node *child);
 
 Node *copy(const Node *node);
 
+/* Puts what is inside an element in the order of the encodings, as a SET has it, and answers the element. */
+Node *in_order(Node *node);
+
 /* Measures the content of each element; answers the whole length. */
 size_t measure(Node *node);
 
