@@ -1,9 +1,11 @@
-"""The stored files of the program der_cases, built from the table der_cases.txt, and the table checked against the model."""
+"""The stored files of the program der_cases: the cases of the table der_cases.txt, and messages of corpus/ with two attributes of a name
+swapped; and the table checked against the model."""
 
 import pathlib
 import re
 
 import cases
+import corpus
 import nest_model
 from paper import Answer
 
@@ -36,7 +38,10 @@ def expand(written):
 
 def files():
     """What the crate's folder has to hold."""
-    return cases.files([(expand(written), written, answer) for written, answer in table()])
+    found = [(expand(written), written, answer) for written, answer in table()]
+    for _, octets, place in corpus.swapped():
+        found.append((octets, octets.hex().upper(), shown((Answer.BAD_CONTENT, place, corpus.SET_TAG))))
+    return cases.files(found)
 
 
 def shown(answer):

@@ -1,5 +1,5 @@
-"""The stored files of the program editions_cases: the cases of the table editions_cases.txt and the messages of corpus/; and the table
-checked against the model."""
+"""The stored files of the program editions_cases: the cases of the table editions_cases.txt, the messages of corpus/, and those with two
+attributes of a name swapped; and the table checked against the model."""
 
 import functools
 import pathlib
@@ -74,6 +74,8 @@ def files():
     for name in corpus.names():
         octets = corpus.octets(name)
         found.append((octets, ":" + octets.hex().upper(), message(name)))
+    for _, octets, place in corpus.swapped():
+        found.append((octets, ":" + octets.hex().upper(), "\n".join(told(Answer.BAD_CONTENT, place, 0) for _ in EDITIONS)))
     return cases.files(found, None)
 
 

@@ -56,6 +56,16 @@ def other_than_corpus():
     return wrong
 
 
+def other_than_refused(read):
+    """Where a reading doesn't refuse the corpus's names with two attributes swapped, at their RDN."""
+    wrong, asked = corpus.unswapped(), list(corpus.swapped())
+    for (name, _, place), answer in zip(asked, read(octets for _, octets, _ in asked), strict=True):
+        for edition, (number, found, _) in answer.items():
+            if (number, found) != (Answer.BAD_CONTENT, place):
+                wrong.append(f"{name}, swapped at {place}, edition {edition}: found {number}@{found}")
+    return wrong
+
+
 def examples():
     """The lines of examples.txt, as (octets as written, by edition the answer as written)."""
     form = r"(\d+@\d+|count \d+|rows(?: \d+)+)"
@@ -111,5 +121,7 @@ TESTS = [
     ("the reading in C gives the expected answers and rows of the corpus", other_than_corpus),
     ("the reading in C gives the answers of the examples", functools.partial(other_than_examples, answers)),
     ("the archive gives the answers of the examples", functools.partial(other_than_examples, archive_answers)),
+    ("the reading in C refuses the corpus's names with two attributes swapped", functools.partial(other_than_refused, answers)),
+    ("the archive refuses the corpus's names with two attributes swapped", functools.partial(other_than_refused, archive_answers)),
     ("the reading in C and the model of the grammar agree", other_than_model),
 ] + host.comparison_tests("compare_reading", "reading", INPUTS, "inputs", FAULTS)
