@@ -1,4 +1,5 @@
 // Times reading, writing and accepting against copying, a plain walk of the nest and OpenSSL, on the same batches.
+#include "names.h"
 #include "phagundro.h"
 #include "rounds.h"
 #include "subjects.h"
@@ -63,17 +64,21 @@ static subject subjects[SUBJECTS] = {
     [OPENSSL] = {"OpenSSL", do_openssl},
 };
 
-static void load(const char *name)
+static void take_rows(const char *name)
 {
-    FILE *file = fopen(name, "rb");
-    if (file == NULL)
-        fail("cannot be opened", name);
-    length = fread(batch, 1, sizeof batch, file);
-    fclose(file);
     phagundro_answer answer = phagundro_read(EDITION, batch, length, draft, NUMBERS);
     if (answer.number != PHAGUNDRO_ACCEPTED)
         fail("is not accepted", name);
     numbers = PHAGUNDRO_ROW_NUMBERS * answer.count;
+}
+
+static void load(const char *path)
+{
+    FILE *file = fopen(path, "rb");
+    if (file == NULL)
+        fail("cannot be opened", path);
+    length = fread(batch, 1, sizeof batch, file);
+    fclose(file);
 }
 
 typedef struct {
@@ -110,26 +115,39 @@ static void show_figures(const figures *input, bool ratio)
     printf("\n");
 }
 
-static void measure_file(const char *path, figures *input)
+static void measure_batch(const char *name, figures *input)
 {
-    const char *folder = strrchr(path, '/');
-    load(path);
-    best_times(subjects, SUBJECTS, path, input->best);
-    input->name = folder ? folder + 1 : path;
+    take_rows(name);
+    best_times(subjects, SUBJECTS, name, input->best);
+    input->name = name;
     input->length = length;
     input->rows = numbers / PHAGUNDRO_ROW_NUMBERS;
 }
 
+static void measure_file(const char *path, figures *input)
+{
+    const char *folder = strrchr(path, '/');
+    load(path);
+    measure_batch(folder ? folder + 1 : path, input);
+}
+
+static void measure_names(figures *input)
+{
+    length = names_batch(batch);
+    measure_batch("three attributes in each RDN", input);
+}
+
 void measure_batches(int count, char **paths)
 {
-    static figures inputs[MOST_BATCHES];
+    static figures inputs[MOST_BATCHES + 1];
     if (!openssl_there)
         subjects[OPENSSL].run = NULL;
     for (int i = 0; i < count; i++)
         measure_file(paths[i], &inputs[i]);
+    measure_names(&inputs[count]);
     for (int ratio = 0; ratio < 2; ratio++) {
         show_head(ratio);
-        for (int i = 0; i < count; i++)
+        for (int i = 0; i <= count; i++)
             show_figures(&inputs[i], ratio);
     }
 }

@@ -1,4 +1,4 @@
-// The benchmarks: the library's calls on the batches that are named, and the check of UTF-8 on texts of its own.
+// The benchmarks: the library's calls on the batches that are named and on one of its own, and the check of UTF-8 on texts of its own.
 #include "tables.h"
 
 #include <stdio.h>

@@ -16,6 +16,7 @@ import tempfile
 
 import corpus
 import crmf_cases
+import editions_cases
 import host
 import verdict_cases
 
@@ -23,7 +24,8 @@ TARGET = pathlib.Path(__file__).with_name("fuzz") / "batches.c"
 SECONDS = 20
 LONGEST = 1024  # bytes of an input
 LEAST = 2_000  # inputs, or it was no run
-FINDS = ("SUBJECT_IS_NAME", "FALSE_ACCEPTED", "LAST_DIFFERENCE", "EITHER_NAMES", "CARRIED_IDS", "LEAST_EARLIER", "LAST_OCTETS")
+FINDS = ("SUBJECT_IS_NAME", "FALSE_ACCEPTED", "LAST_DIFFERENCE", "EITHER_NAMES", "CARRIED_IDS", "LEAST_EARLIER", "LAST_OCTETS",
+    "ORDER_BEFORE_INSIDE", "CONTENTS_ORDERED", "TAGGED_ORDERED", "FIRST_PAIR_ORDERED", "EQUALS_REFUSED")
 
 
 @functools.cache
@@ -37,9 +39,11 @@ def built(archive):
 
 
 def starts():
-    """What the fuzzer starts from: the corpus, and the batches of the tables of cases, as far as they are short."""
-    found = [path.read_bytes() for path in corpus.files()]
+    """What the fuzzer starts from: the corpus, also with names out of order, and the batches of the tables of cases, as far as they are
+    short."""
+    found = [path.read_bytes() for path in corpus.files()] + [octets for _, octets, _ in corpus.swapped()]
     found += [crmf_cases.built(batch)[0] for batch, _ in crmf_cases.table()[1]]
+    found += [case.built()[0] for case in editions_cases.table()[1]]
     found += [case.octets for case in verdict_cases.table()]
     return [octets for octets in found if len(octets) <= LONGEST]
 

@@ -9,8 +9,8 @@ import verdict_model
 from paper import EDITIONS
 
 INPUTS = 20_000  # that the archive is compared on
-MODELLED = 2_000  # inputs that the model is asked about, half of them batches of requests.c
-LEAST_ASKED = 1_500
+MODELLED = 3_000  # inputs that the model is asked about, half of them batches of requests.c
+LEAST_ASKED = 2_500
 LONGEST_MODELLED = 1_000  # bytes of them
 FAULTS = ("EITHER_NAMES", "BYTE_OF_POSITIONS", "CARRIED_IDS", "LEAST_EARLIER", "LAST_OCTETS")
 

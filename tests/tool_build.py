@@ -12,6 +12,7 @@ SANITIZED = 20  # corpus files that the tool built with AddressSanitizer runs on
 WATCHED = 2  # those that it runs on under valgrind
 LONG_FILE = "openssl-batch-259-ec-sig-near-64k"
 MEASURED = {"openssl-minimal": "| 11 | 5 |", "openssl-sig-rsa2048": "| 651 | 10 |"}  # with the bytes and rows that the benchmarks show
+MADE = "three attributes in each RDN | 65452 | 2021 |"  # a batch that the benchmarks make
 TEXTS = ("ASCII", *(f"ASCII, {which} another" for which in ("the last character", "every 100th character", "every 9th character")), "Cyrillic")
 
 
@@ -80,6 +81,7 @@ def other_benchmarks(folder):
     tool.made(f"BUILD={folder}", f"{folder}/bench")
     shown = host.did([folder / "bench", *map(tool.path, MEASURED)])
     wrong = [f"{name}: {shown[-500:]}" for name, numbers in MEASURED.items() if shown.count(f"{name}.der {numbers}") != 2]
+    wrong += [f"{MADE}: {shown[-500:]}"] if shown.count(f"\n| {MADE}") != 2 else []
     return wrong + [f"text {name}: {shown[-500:]}" for name in TEXTS if shown.count(f"\n| {name} |") != 1]
 
 
