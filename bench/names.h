@@ -4,8 +4,8 @@
 
 #include "phagundro.h"
 
-// Writes as many messages as a batch has room for, PHAGUNDRO_LONGEST bytes, and answers their length. Each has an issuer and a subject of one
-// RDN with three attributes, in the order that DER wants: the subject's differ in their second octet, the issuer's in their last.
+// Writes a batch of as many such messages as PHAGUNDRO_LONGEST bytes have room for, and answers its length. Each has an issuer and a subject
+// of one RDN with three attributes, in the order that DER wants: the subject's differ in their second octet, the issuer's in their last.
 size_t names_batch(uint8_t *batch);
 
 #endif

@@ -217,7 +217,7 @@ static Node *key_in(Node *node)
 static Node *attribute(void)
 {
     Node *node = box(0x30);
-    bool usual = chance(2); /* a type and a value that others have too, as far as the value is long */
+    bool usual = chance(2); /* a type that others have too, and a value like theirs but for its length or a letter */
     if (!slip())
         add(node, usual ? leaf(0x06, (uint8_t[]){0x55, 0x04, (uint8_t[]){0x03, 0x05, 0x0A}[below(3)]}, 3) : object_identifier());
     if (!slip())

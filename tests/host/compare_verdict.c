@@ -121,11 +121,12 @@ static int account(size_t inputs)
 {
     printf("%zu inputs of seed %llu, %zu calls: no difference\n", inputs, (unsigned long long)seed, calls);
     int lacking = account_edition(PHAGUNDRO_RFC2511) + account_edition(PHAGUNDRO_RFC4211);
-    printf("pairs past position 254: %zu; most messages without a pair: %zu; longest part: %zu; neither edition (13): %zu; SETs out of order "
-        "(5): %zu\n", far_pairs, most_searched, longest_part, wrong_editions, disordered);
+    printf("pairs past position 254: %zu; most messages without a pair: %zu; longest part: %zu; neither edition (13): %zu\n", far_pairs,
+        most_searched, longest_part, wrong_editions);
+    printf("verdicts refused for a SET out of order (5): %zu\n", disordered);
     lacking += missing(far_pairs > 0, "a pair past position", FAR_POSITION, 0);
     lacking += missing(wrong_editions > 0, "number", PHAGUNDRO_UNKNOWN_EDITION, 0);
-    lacking += missing(disordered > 0, "SETs out of order, number", PHAGUNDRO_BAD_CONTENT, 0);
+    lacking += missing(disordered > 0, "a SET out of order, number", PHAGUNDRO_BAD_CONTENT, 0);
     lacking += missing(most_searched > MANY_MESSAGES, "no pair among more messages than", MANY_MESSAGES, 0);
     return comparison_status(lacking);
 }

@@ -151,22 +151,40 @@ static void replaced_by_a_construct(Node *parent, Node *node)
 
 /* -- SETs -- */
 
+/* Whether an element is a SET with two members or more. */
 static bool several(const Node *node)
 {
     return node->id == 0x31 && node->first != node->last;
 }
 
-/* A SET with two members or more inside the root, and its parent; NULL if there is none. */
-static Node *some_set(Node *root, Node **parent)
+static size_t sets_in(const Node *node)
 {
-    size_t all = tally(root) - 1, from = all > 0 ? below(all) : 0;
-    for (size_t i = 0; i < all; i++) {
-        size_t nth = (from + i) % all;
-        Node *node = pick(root, &nth, parent);
-        if (several(node))
-            return node;
+    size_t found = 0;
+    for (const Node *child = node->first; child; child = child->next)
+        found += several(child) + sets_in(child);
+    return found;
+}
+
+/* The nth SET with two members or more inside an element, and its parent. */
+static Node *pick_set(Node *node, size_t *nth, Node **parent)
+{
+    for (Node *child = node->first; child; child = child->next) {
+        if (several(child) && (*nth)-- == 0) {
+            *parent = node;
+            return child;
+        }
+        Node *found = pick_set(child, nth, parent);
+        if (found)
+            return found;
     }
     return NULL;
+}
+
+/* One of them, or NULL if there is none. */
+static Node *some_set(Node *root, Node **parent)
+{
+    size_t most = sets_in(root), nth = most > 0 ? below(most) : 0;
+    return pick_set(root, &nth, parent);
 }
 
 static void neighbours_swapped(Node *set)
