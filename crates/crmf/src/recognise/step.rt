@@ -53,17 +53,14 @@ fn skip_or_descend(checked: bool, next: usize) -> Visit
     Visit::Descend(next)
 }
 
-// Skips the content if it was already checked. Else descends if the element keeps the rule at its end, and refuses it if not.
+// Skips the content if it was already checked. Otherwise descends if the element keeps the rule at its end, else refuses it.
 fn take_set(checked: bool, id: u8, content: &[u8], next: usize) -> Visit
     ensures { λ r. ⌜ r ≡ elim checked [ true ↦ Skip next | false ↦ elim (order.closes id (now (content .entry))) [ true ↦ Descend next | false ↦ Refuse ] ] ⌝ }
 {
-    if checked {
-        return Visit::Skip(next);
+    if !checked && !closes(id, content) {
+        return Visit::Refuse;
     }
-    if closes(id, content) {
-        return Visit::Descend(next);
-    }
-    Visit::Refuse
+    skip_or_descend(checked, next)
 }
 
 // How to go on at an element with the identifier and the content, in the form of the line that the word packs. `left` levels of depth are left

@@ -13,7 +13,8 @@ use Rattle.der.specs.steps.Header.{sizedBy, headOf}
 use Rattle.der.specs.steps.Utf8Classes.{classOf, leads, tails, lowest, highest, utf8From, utf8}
 use Rattle.der.specs.meaning.Content.{boolean, null, integer, bitString, lastOf, unpadded, objectIdentifier}
 use Rattle.der.specs.steps.ContentTest.{holds}
-use Rattle.der.specs.steps.Order.{closes}
+use Rattle.der.specs.steps.Span.{spanBy, spanOf}
+use Rattle.der.specs.steps.Order.{descends, ascendsFrom, ascends, closes}
 use Rattle.der.specs.steps.Explain.{listOf, byRule, afterInside, elementOf, walkAt}
 use Rattle.der.specs.steps.Reading.{given, read, treeOf, tree, nothingAt}
 use Rattle.crmf.specs.meaning.Value.{isEmpty, isUpTo, number, keeps, typeNumber, selected}
@@ -74,12 +75,12 @@ computed-told = ((refl, refl), (refl, refl)) & ((refl, refl), (refl, refl)) & ((
 
 computed-explained : Each (Both (λ e s r. Computed e s r × Reasoned e s r)) explained
 unfolding tagNumber constructed allowed valueFrom shortest longForm lengthOf sizedBy headOf
-    classOf leads tails lowest highest utf8From utf8 boolean null integer bitString lastOf unpadded objectIdentifier holds listOf byRule closes afterInside elementOf walkAt
+    classOf leads tails lowest highest utf8From utf8 boolean null integer bitString lastOf unpadded objectIdentifier holds listOf byRule spanBy spanOf descends ascendsFrom ascends closes afterInside elementOf walkAt
     nothingAt given read treeOf tree same isEmpty isUpTo number keeps typeNumber selected among named order content
     partSize size startsFrom start insideLine passOf formLines nextLine wayLine partLines containerLines linesFrom lines
     line findLineIn findLine closedIn closed judged withForm withLongId withElement walk emptyTally firstLong goes rowsFrom rowsOfInput
     batchAnswer answer areOctets base256 reasonOf
-computed-explained = (((refl, refl), (refl, refl, refl)), ((refl, refl), (refl, refl, refl))) & (((refl, refl), (refl, refl, refl)), ((refl, refl), (refl, refl, refl))) & (((refl, refl), (refl, refl, refl)), ((refl, refl), (refl, refl, refl))) & (((refl, refl), (refl, refl, refl)), ((refl, refl), (refl, refl, refl))) & (((refl, refl), (refl, refl, refl)), ((refl, refl), (refl, refl, refl))) & (((refl, refl), (refl, refl, refl)), ((refl, refl), (refl, refl, refl))) & (((refl, refl), (refl, refl, refl)), ((refl, refl), (refl, refl, refl))) & (((refl, refl), (refl, refl, refl)), ((refl, refl), (refl, refl, refl))) & (((refl, refl), (refl, refl, refl)), ((refl, refl), (refl, refl, refl))) & (((refl, refl), (refl, refl, refl)), ((refl, refl), (refl, refl, refl))) & (((refl, refl), (refl, refl, refl)), ((refl, refl), (refl, refl, refl))) & (((refl, refl), (refl, refl, refl)), ((refl, refl), (refl, refl, refl))) & (((refl, refl), (refl, refl, refl)), ((refl, refl), (refl, refl, refl))) & (((refl, refl), (refl, refl, refl)), ((refl, refl), (refl, refl, refl))) & (((refl, refl), (refl, refl, refl)), ((refl, refl), (refl, refl, refl))) & (((refl, refl), (refl, refl, refl)), ((refl, refl), (refl, refl, refl))) & (((refl, refl), (refl, refl, refl)), ((refl, refl), (refl, refl, refl))) & (((refl, refl), (refl, refl, refl)), ((refl, refl), (refl, refl, refl))) & (((refl, refl), (refl, refl, refl)), ((refl, refl), (refl, refl, refl))) & (((refl, refl), (refl, refl, refl)), ((refl, refl), (refl, refl, refl))) & (((refl, refl), (refl, refl, refl)), ((refl, refl), (refl, refl, refl))) & (((refl, refl), (refl, refl, refl)), ((refl, refl), (refl, refl, refl))) & (((refl, refl), (refl, refl, refl)), ((refl, refl), (refl, refl, refl))) & (((refl, refl), (refl, refl, refl)), ((refl, refl), (refl, refl, refl))) & (((refl, refl), (refl, refl, refl)), ((refl, refl), (refl, refl, refl))) & (((refl, refl), (refl, refl, refl)), ((refl, refl), (refl, refl, refl))) & (((refl, refl), (refl, refl, refl)), ((refl, refl), (refl, refl, refl))) & tt
+computed-explained = (((refl, refl), (refl, refl, refl)), ((refl, refl), (refl, refl, refl))) & (((refl, refl), (refl, refl, refl)), ((refl, refl), (refl, refl, refl))) & (((refl, refl), (refl, refl, refl)), ((refl, refl), (refl, refl, refl))) & (((refl, refl), (refl, refl, refl)), ((refl, refl), (refl, refl, refl))) & (((refl, refl), (refl, refl, refl)), ((refl, refl), (refl, refl, refl))) & (((refl, refl), (refl, refl, refl)), ((refl, refl), (refl, refl, refl))) & (((refl, refl), (refl, refl, refl)), ((refl, refl), (refl, refl, refl))) & (((refl, refl), (refl, refl, refl)), ((refl, refl), (refl, refl, refl))) & (((refl, refl), (refl, refl, refl)), ((refl, refl), (refl, refl, refl))) & (((refl, refl), (refl, refl, refl)), ((refl, refl), (refl, refl, refl))) & (((refl, refl), (refl, refl, refl)), ((refl, refl), (refl, refl, refl))) & (((refl, refl), (refl, refl, refl)), ((refl, refl), (refl, refl, refl))) & (((refl, refl), (refl, refl, refl)), ((refl, refl), (refl, refl, refl))) & (((refl, refl), (refl, refl, refl)), ((refl, refl), (refl, refl, refl))) & (((refl, refl), (refl, refl, refl)), ((refl, refl), (refl, refl, refl))) & (((refl, refl), (refl, refl, refl)), ((refl, refl), (refl, refl, refl))) & (((refl, refl), (refl, refl, refl)), ((refl, refl), (refl, refl, refl))) & (((refl, refl), (refl, refl, refl)), ((refl, refl), (refl, refl, refl))) & (((refl, refl), (refl, refl, refl)), ((refl, refl), (refl, refl, refl))) & (((refl, refl), (refl, refl, refl)), ((refl, refl), (refl, refl, refl))) & (((refl, refl), (refl, refl, refl)), ((refl, refl), (refl, refl, refl))) & (((refl, refl), (refl, refl, refl)), ((refl, refl), (refl, refl, refl))) & (((refl, refl), (refl, refl, refl)), ((refl, refl), (refl, refl, refl))) & (((refl, refl), (refl, refl, refl)), ((refl, refl), (refl, refl, refl))) & (((refl, refl), (refl, refl, refl)), ((refl, refl), (refl, refl, refl))) & (((refl, refl), (refl, refl, refl)), ((refl, refl), (refl, refl, refl))) & (((refl, refl), (refl, refl, refl)), ((refl, refl), (refl, refl, refl))) & (((refl, refl), (refl, refl, refl)), ((refl, refl), (refl, refl, refl))) & (((refl, refl), (refl, refl, refl)), ((refl, refl), (refl, refl, refl))) & (((refl, refl), (refl, refl, refl)), ((refl, refl), (refl, refl, refl))) & (((refl, refl), (refl, refl, refl)), ((refl, refl), (refl, refl, refl))) & tt
 
 -- Every refusal of the list is answered by its number and place, for the reason that its detail names.
 pub refusals-explained : Each (Both Explained) explained

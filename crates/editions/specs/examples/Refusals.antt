@@ -73,6 +73,11 @@ explained =
     ∷ each 0x301E301C30050201003000A202A400300F300D06092B06010505070502010400 (at 8 13 1) (at 8 30 1)
     -- a choice of edition 2, and an element after it that fits no part
     ∷ each 0x300F300D30050201003000A202A4000500 (at 8 13 1) (at 8 15 1)
+    -- document 02, A3: a SET whose members descend, in a free value and in a subject's name; the inner of two; before a fault after the SET
+    ∷ alike 0x3017301530130201003000300C300A06015531050500020100 (at 5 18 17)
+    ∷ alike 0x301F301D301B0201003016A5143012311030060601550C016230060601550C0161 (at 5 15 17)
+    ∷ alike 0x301B3019301702010030003010300E0601553109050031050500020100 (at 5 22 17)
+    ∷ alike 0x301B3019301702010030003010300A0601553105050002010030020000 (at 5 18 17)
     ∷ []
 
 -- Other refusals, by number and place; the detail is 0.

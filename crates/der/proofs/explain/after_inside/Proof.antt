@@ -31,11 +31,10 @@ returns c =
 
 returns-2 : tie.Need-returns-2
 returns-2 c =
-    let d = c .before in
-    let a = d .before .before .before .args in
-    let g = d .answer2 .given .0 in
-    sym (after-fault (a .place) (a .id) (a .content .now) (g .0) (g .1 .0) (g .1 .1 .0))
-    ∙ ap (afterInside (a .place) (a .id) (a .content .now)) (sym (d .answer2 .given .1))
+    let a = c .before .before .before .before .args in
+    let (fault, is) = c .before .answer2 .given in
+    sym (after-fault (a .place) (a .id) (a .content .now) (fault .0) (fault .1 .0) (fault .1 .1 .0))
+    ∙ ap (afterInside (a .place) (a .id) (a .content .now)) (sym is)
 
 pub after-inside-spec : {M : Type 1} → statement M
 after-inside-spec = tie.close (tie.spec enum-known-answer closes-requires by-rule-requires enum-known-answer-2 returns returns-2)
