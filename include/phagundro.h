@@ -58,16 +58,17 @@ enum {
  *     writing     UNKNOWN_EDITION; NO_SUCH_BATCH; NO_ROOM
  *     verdict     those of reading without NO_ROOM; NO_SUCH_MESSAGE
  *     duplicates  those of reading without NO_ROOM
- * Of several faults from TRUNCATED to TOO_DEEP the answer is the one with the least place. Within one element their order is TOO_DEEP;
- * TRUNCATED, if the identifier is missing; BAD_IDENTIFIER; TRUNCATED, if length octets are missing; BAD_LENGTH; TRUNCATED, if the content
- * goes past the end; BAD_CONTENT. */
+ * Of several faults from TRUNCATED to TOO_DEEP the answer is the one that is decided first: each at its element's first byte, but that a
+ * SET's members descend at the SET's last byte, after every fault inside it and before every fault after it. Of two SETs that end together
+ * the inner one is decided first. Within one element the order is TOO_DEEP; TRUNCATED, if the identifier is missing; BAD_IDENTIFIER;
+ * TRUNCATED, if length octets are missing; BAD_LENGTH; TRUNCATED, if the content goes past the end; BAD_CONTENT. */
 enum {
     PHAGUNDRO_ACCEPTED         = 0,  /* accepted; place 0 */
     PHAGUNDRO_TOO_LONG         = 1,  /* the input is longer than 65,535 bytes; place 0 */
     PHAGUNDRO_TRUNCATED        = 2,  /* an element is cut short or goes past its parent's end; its first byte */
     PHAGUNDRO_BAD_IDENTIFIER   = 3,  /* an identifier is not allowed; its element's first byte */
     PHAGUNDRO_BAD_LENGTH       = 4,  /* a length is indefinite or not the shortest; its element's first byte */
-    PHAGUNDRO_BAD_CONTENT      = 5,  /* an element's content breaks DER; its first byte */
+    PHAGUNDRO_BAD_CONTENT      = 5,  /* an element's content breaks DER, or a SET's members descend; its first byte */
     PHAGUNDRO_TOO_DEEP         = 6,  /* an element is deeper than 20, the batch being at depth 1; its first byte */
     PHAGUNDRO_TRAILING_BYTES   = 7,  /* there are bytes after the batch; the first of them */
     PHAGUNDRO_NOT_IN_GRAMMAR   = 8,  /* not in the grammar of either edition; the element at which reading in this edition stops */

@@ -12,7 +12,7 @@ static const struct {
     [PHAGUNDRO_TRUNCATED] = {"an element is cut short or goes past its parent's end", true},
     [PHAGUNDRO_BAD_IDENTIFIER] = {"an identifier is not allowed", true},
     [PHAGUNDRO_BAD_LENGTH] = {"a length is indefinite or not the shortest", true},
-    [PHAGUNDRO_BAD_CONTENT] = {"an element's content breaks DER", true},
+    [PHAGUNDRO_BAD_CONTENT] = {"an element's content breaks DER, or a SET's members descend", true},
     [PHAGUNDRO_TOO_DEEP] = {"an element is deeper than 20, the batch being at depth 1", true},
     [PHAGUNDRO_TRAILING_BYTES] = {"there are bytes after the batch", true},
     [PHAGUNDRO_NOT_IN_GRAMMAR] = {"not in the grammar of either edition", true},

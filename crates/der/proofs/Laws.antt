@@ -64,6 +64,8 @@
 --     single-is-list      an input whose first element ends where the input does is a list
 --     is-element-refused, is-element-inside, is-element-value    an element has no fault if its identifier is allowed and
 --                         the list inside it, or its content, has none, and it keeps the rule at its end
+--     sets-ascend         in well-formed elements every SET ascends, at any depth (`EverySetAscends`)
+--     walk-soonest        the walk over an input answers a fault exactly if it is decided first of all
 --     closes-free         only a SET has a rule at its end, and a SEQUENCE has none (`sequence-closing`)
 --     closes-one          one element alone keeps it
 --     holds-integer, holds-bit-string, holds-object-identifier, holds-utf8    the rule that an identifier asks of its content
@@ -95,4 +97,6 @@ pub use Rattle.der.proofs.theorems.element.Spans.{span-fits, span-small
 pub use Rattle.der.proofs.theorems.recognise.Recognising.{is-list-none, is-list-short, is-list-deep, is-list-lost, is-list-step, is-list-single, single-is-list, is-element-refused, is-element-inside, is-element-value}
 pub use Rattle.der.proofs.theorems.recognise.Recognising.{holds-integer, holds-bit-string, holds-object-identifier, holds-utf8, ruled, holds-free}
 pub use Rattle.der.proofs.theorems.closing.Closing.{sequence-closing, closes-free, closes-one}
+pub use Rattle.der.proofs.theorems.closing.SetsAscend.{EverySetAscends, sets-ascend}
+pub use Rattle.der.proofs.theorems.explain.SoonestFault.{walk-soonest}
 pub use Rattle.der.proofs.theorems.recognise.RecognisedTrees.{ListEncoded, is-list-exact, OneFormed, is-element-exact}

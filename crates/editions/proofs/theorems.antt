@@ -4,6 +4,7 @@ pub mod Answers
 pub mod AnswersExactly
 pub mod Demands
 pub mod Differing
+pub mod MendedNest
 pub mod OctetVectors
 pub mod OneElement
 pub mod OneWalk

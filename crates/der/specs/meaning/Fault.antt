@@ -41,7 +41,7 @@ abbrev pub Faults : Type 1
 Faults = ℕ → List ℕ → ℕ → ℕ → ℕ → Type 0
 
 -- The first fault of an element at a place, with the levels of depth that are left inside it: a rule that it breaks itself; the first fault
--- of the list of elements inside it; or, if there is none, the rule that is judged at its end.
+-- of the list of elements inside it; or, if there is none, the rule at its end ("decided after any fault within it").
 pub data FaultOf (left : ℕ) (Inside : Faults) (p : ℕ) (bs : List ℕ) : ℕ → ℕ → ℕ → Type 0 where
   own : {number detail : ℕ} → Breaks bs number detail → FaultOf left Inside p bs number p detail
   inside : {number at detail : ℕ} (id h n : ℕ) → Headed bs id h n → constructed id ≡ true
@@ -72,12 +72,12 @@ pub data Members : List ℕ → List (List ℕ) → Type 0 where
   none : Members [] []
   member : {bs : List ℕ} {ms : List (List ℕ)} (id h n : ℕ) → Headed bs id h n → Members (drop (h + n) bs) ms → Members bs (take (h + n) bs ∷ ms)
 
--- The same as a fault, with the place at which it is decided.
+-- The same with the place at which a fault is decided, after its number, place and detail.
 abbrev pub DecidedFaults : Type 1
 DecidedFaults = ℕ → List ℕ → ℕ → ℕ → ℕ → ℕ → Type 0
 
 -- Any fault of an element at a place, whatever else is wrong: a rule that it breaks itself, decided at its first byte; a fault of the list of
--- elements inside it; or the rule that is judged at its end, decided at its last byte.
+-- elements inside it; or the rule at its end, decided at its last byte.
 pub data AnyOf (Inside : DecidedFaults) (p : ℕ) (bs : List ℕ) : ℕ → ℕ → ℕ → ℕ → Type 0 where
   own : {number detail : ℕ} → Breaks bs number detail → AnyOf Inside p bs number p detail p
   inside : {number at detail decided : ℕ} (id h n : ℕ) → Headed bs id h n → constructed id ≡ true
@@ -97,8 +97,8 @@ abbrev pub Any : ℕ → DecidedFaults
 Any zero p bs number at detail decided = TooDeep p bs number at detail × (decided ≡ p)
 Any (suc left) p bs number at detail decided = AnyOf (AnyIn (Any left)) p bs number at detail decided
 
--- The order of judging: the fault that is decided at the smaller place comes first. Of two that are decided at one place, which is the last byte
--- of both their elements, the one of the inner element does.
+-- The order of judging: of two faults the one that is decided at the smaller place comes first. If both are decided at one place, it is the last
+-- byte of both elements, and the inner element's comes first.
 abbrev pub Sooner : (at decided at′ decided′ : ℕ) → Type 0
 Sooner at decided at′ decided′ = (decided < decided′) ⊎ ((decided ≡ decided′) × (at′ < at))
 
