@@ -26,6 +26,7 @@ OPEN = {
     "crmf.meaning.Rows.width": "document 01's number, which arithmetic multiplies by",
     "crmf.meaning.Messages.proofs": "document 01's list of identifiers",
     "der.meaning.Fault.First": "a type's name: the relation of the first fault",
+    "der.meaning.Fault.Any": "a type's name: the relation of any fault",
     "crmf.steps.explain.Walk.every": "the test that is always true",
     "crmf.meaning.Fields.StandsAt": "a type's name: an equation",
     "crmf.meaning.Pieces.pieceOf": "a record's name: its fields are read",

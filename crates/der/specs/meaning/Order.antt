@@ -19,5 +19,5 @@ Ascending (a ∷ b ∷ members) = (Precedes b a → ⊥) × Ascending (b ∷ mem
 
 -- What an identifier asks of the encodings of the elements inside, judged when these have no fault: "a SET (31) whose members descend anywhere
 -- breaks DER. Implicitly tagged sets stay unjudged."
-abbrev pub Closing : ℕ → List (List ℕ) → Type 0
+unfoldable pub Closing : ℕ → List (List ℕ) → Type 0
 Closing id members = id ≡ 0x31 → Ascending members

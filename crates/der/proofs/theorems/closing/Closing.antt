@@ -22,11 +22,12 @@ use Rattle.der.proofs.theorems.element.Spans.{span-fits}
 
 -- nothing inside is what every identifier allows
 pub closing-none : (id : ℕ) → Closing id []
-unfolding Ascending
+unfolding Closing Ascending
 closing-none id is = tt
 
 -- Only a SET has a rule at its end: under any other identifier members may come as they will.
 pub unjudged : (id : ℕ) (ms : List (List ℕ)) → (id ≡ 0x31 → ⊥) → Closing id ms
+unfolding Closing
 unjudged id ms other is = absurd (other is)
 
 -- so a SEQUENCE has none
@@ -60,6 +61,7 @@ closes-one id c some all = go (eqb id 0x31) refl
 
 -- The test over octets that consist of elements is exact.
 pub closes-exact : (id : ℕ) {bs : List ℕ} {ms : List (List ℕ)} → Members bs ms → length bs ≤ longest → closes id bs ≡ true ↔ Closing id ms
+unfolding Closing
 closes-exact id {bs} {ms} listed short = go (eqb id 0x31) refl
   where
     go : (t : Bool) → eqb id 0x31 ≡ t → closes id bs ≡ true ↔ Closing id ms

@@ -12,7 +12,7 @@ use lib.Seq.{drop-cons, drop-drop}
 use borrow.Author.Tests.{eq-eqb, ne-eqb}
 use Rattle.der.specs.declared.element.length.Span.{Span}
 use Rattle.der.specs.steps.Span.{spanOf}
-use Rattle.der.specs.steps.Order.{descends, ascendsFrom, ascends}
+use Rattle.der.specs.steps.Order.{descends, ascendsFrom}
 use Rattle.der.proofs.theorems.closing.Ascends.{ascends-none, ascends-lost, ascends-next, ascends-enough}
 use Rattle.der.proofs.theorems.element.Spans.{span-fits}
 use Rattle.der.proofs.theorems.lists.Parts.{take-from}

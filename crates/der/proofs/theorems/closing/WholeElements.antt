@@ -9,7 +9,7 @@ use native.Mathlib.Omega.{arith}
 use lib.Dec.{eqb, leb}
 use lib.ListN.{length, take, getD, List·getD-eq-default}
 use lib.Seq.{take-all, take-take, length-take-le, getD-take, ext-getD}
-use borrow.Author.Tests.{eqb-true, eqb-false, eq-eqb, ne-eqb, lt-ltb, ltb-true, leb-true, leb-false}
+use borrow.Author.Tests.{eqb-true, eq-eqb, ne-eqb, lt-ltb, ltb-true, leb-true, leb-false}
 use Rattle.der.specs.declared.element.header.Head.the-variants.{Stands}
 use Rattle.der.specs.meaning.Fault.{Headed}
 use Rattle.der.specs.meaning.Order.{Precedes}

@@ -25,7 +25,7 @@ use Rattle.der.specs.steps.ContentTest.{holds}
 use Rattle.der.specs.steps.Order.{closes}
 use Rattle.der.specs.steps.Explain.{faultAt, listOf, byRule, afterInside, elementOf, walkAt}
 use Rattle.der.proofs.theorems.closing.MembersRead.{members-encoded}
-use Rattle.der.proofs.theorems.closing.Closing.{closes-exact, closes-not}
+use Rattle.der.proofs.theorems.closing.Closing.{closes-not}
 use Rattle.der.proofs.theorems.explain.Exact.{list-sound}
 use Rattle.der.proofs.theorems.explain.FirstFault.{unkept, own-found, element-ways}
 use Rattle.der.proofs.theorems.element.Headers.{head-parts, headed-stands, head-breaks, head-fits}
