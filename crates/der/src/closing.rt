@@ -36,7 +36,7 @@ fn ascends(content: &[u8]) -> bool
 
 // Whether the second octet string has the smaller octet at the first place where they differ. Between two elements there is such a place in
 // both, or they are equal, so that the zero octets of X.690 11.6 never decide.
-fn descends(first: &[u8], second: &[u8]) -> bool
+pub(crate) fn descends(first: &[u8], second: &[u8]) -> bool
     ensures { λ r. ⌜ r ≡ order.descends (now (first .entry)) (now (second .entry)) ⌝ }
 {
     let mut i = 0;

@@ -1,6 +1,6 @@
 // DER elements (X.690; SPECIFICATION 2), with three jobs on bytes that may be anything:
 //
-//     recognise    whether a list of elements, or one element, has no fault (`recognise::is_list`, `recognise::is_element`)
+//     recognise    whether an element has no fault (`recognise::is_element`)
 //     explain      the first fault in document 01's order and its place, or the end of the first element (`explain::explain`)
 //     read         the element at a place (`element::reading::read_at`), or its length octets alone (`element::length::measure`)
 //

@@ -1,21 +1,26 @@
 // The recogniser: whether octets have no fault. It doesn't say which fault they have.
 use crate::bounds::LONGEST;
-use crate::closing::closes;
+use crate::closing::descends;
 use crate::content;
+use crate::element::identifier::SET;
 use crate::element::identifier::is_allowed;
 use crate::element::identifier::is_constructed;
 use crate::element::length::measure;
+ghost use mathlib.Core.Bool.{not, _&&_, _||_};
 ghost use mathlib.Core.Path.{_≡_};
+ghost use Rattle.der.specs.steps.Order.{ascends};
 ghost use Rattle.der.specs.steps.Recognise.{isList, isElement};
 
-// Answers whether the bytes are a list of elements without a fault, with `left` levels of depth left. Refuses more bytes than
-// LONGEST.
-pub fn is_list(bytes: &[u8], left: usize) -> bool
-    ensures { λ r. ⌜ r ≡ isList left (now (bytes .entry)) ⌝ }
+// Whether the bytes are a list of elements without a fault, with `left` levels of depth left; in a SET they ascend too. Refuses more bytes
+// than LONGEST.
+fn is_list(bytes: &[u8], left: usize, in_set: bool) -> bool
+    ensures { λ r. ⌜ r ≡ (isList left (now (bytes .entry)) && (not in_set || ascends (now (bytes .entry)))) ⌝ }
 {
     if LONGEST < bytes.len() {
         return false;
     }
+    // The element before the one at `at`; at first there is none.
+    let mut before = 0;
     let mut at = 0;
     while at < bytes.len() {
         let x = measure(&bytes[at..]);
@@ -30,6 +35,10 @@ pub fn is_list(bytes: &[u8], left: usize) -> bool
         if !is_element(bytes[at], &bytes[from..to], left - 1) {
             return false;
         }
+        if in_set & (before < at) && descends(&bytes[before..at], &bytes[at..to]) {
+            return false;
+        }
+        before = at;
         at = to;
     }
     true
@@ -43,7 +52,7 @@ pub fn is_element(id: u8, content: &[u8], left: usize) -> bool
         return false;
     }
     if is_constructed(id) {
-        return is_list(content, left) && closes(id, content);
+        return is_list(content, left, id == SET);
     }
     content::holds(id, content)
 }

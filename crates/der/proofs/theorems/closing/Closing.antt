@@ -2,7 +2,7 @@
 -- Assumes nothing.
 use Prim.Native.Nat.{ℕ, _+_, _-_, _≤_}
 use mathlib.Core.Path.{_≡_, refl, sym, ap, _∙_}
-use mathlib.Core.Bool.{Bool, true, false, false≢true}
+use mathlib.Core.Bool.{Bool, true, false, not, _||_, false≢true}
 use mathlib.Core.Logic.{_↔_}
 use mathlib.Core.List.{List, []}
 use native.Mathlib.Omega.{arith}
@@ -33,6 +33,11 @@ unjudged id ms other is = absurd (other is)
 -- so a SEQUENCE has none
 pub sequence-closing : (ms : List (List ℕ)) → Closing 0x30 ms
 sequence-closing ms = unjudged 0x30 ms (λ is. omega arith)
+
+-- the test, by the identifier and the members
+pub closes-asks : (id : ℕ) (c : List ℕ) → closes id c ≡ (not (eqb id 0x31) || ascends c)
+unfolding closes
+closes-asks id c = refl
 
 -- the test takes any content under another identifier
 pub closes-free : (id : ℕ) (c : List ℕ) → eqb id 0x31 ≡ false → closes id c ≡ true
