@@ -11,6 +11,10 @@
 #define STATUS_HELP \
     "Exit status: 0 accepted, 1 refused, 2 usage or file trouble.\n"
 
+#define FAULTS_HELP \
+    "Of several faults in the elements the one is shown that is decided first: at an element's first byte, or at its last byte if\n" \
+    "it is a SET whose members descend.\n"
+
 const char general_help[] =
     "phagundro: batches of certificate requests (CertReqMessages in DER), read, written and judged\n"
     "\n"
@@ -31,7 +35,7 @@ const char read_help[] =
     INPUT_HELP EDITION_HELP
     "  --numbers      the rows as plain numbers, a row a line: kind, first byte, whole length, parent's row\n"
     "  --json         the answer and the rows as JSON\n"
-    STATUS_HELP;
+    STATUS_HELP FAULTS_HELP;
 
 const char write_help[] =
     "phagundro write --edition N [--hex] [--output FILE] ROWS SLICE\n"
@@ -71,4 +75,5 @@ const char editions_help[] =
     "Reads a batch in both editions and shows the two answers.\n"
     INPUT_HELP
     "  --json         the answers as JSON\n"
-    "Exit status: 0 accepted in an edition or both, 1 refused in both, 2 usage or file trouble.\n";
+    "Exit status: 0 accepted in an edition or both, 1 refused in both, 2 usage or file trouble.\n"
+    FAULTS_HELP;
