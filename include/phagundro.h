@@ -58,10 +58,10 @@ enum {
  *     writing     UNKNOWN_EDITION; NO_SUCH_BATCH; NO_ROOM
  *     verdict     those of reading without NO_ROOM; NO_SUCH_MESSAGE
  *     duplicates  those of reading without NO_ROOM
- * Of several faults from TRUNCATED to TOO_DEEP the answer is the one that is decided first: each at its element's first byte, but that a
- * SET's members descend at the SET's last byte, after every fault inside it and before every fault after it. Of two SETs that end together
- * the inner one is decided first. Within one element the order is TOO_DEEP; TRUNCATED, if the identifier is missing; BAD_IDENTIFIER;
- * TRUNCATED, if length octets are missing; BAD_LENGTH; TRUNCATED, if the content goes past the end; BAD_CONTENT. */
+ * Of several faults from TRUNCATED to TOO_DEEP the answer is the one that is decided first. A fault is decided at its element's first byte;
+ * only the order of a SET's members is decided at the SET's last byte, after every fault inside it and before every fault after it. Of two
+ * SETs that end together the inner one is decided first. Within one element the order is TOO_DEEP; TRUNCATED, if the identifier is missing;
+ * BAD_IDENTIFIER; TRUNCATED, if length octets are missing; BAD_LENGTH; TRUNCATED, if the content goes past the end; BAD_CONTENT. */
 enum {
     PHAGUNDRO_ACCEPTED         = 0,  /* accepted; place 0 */
     PHAGUNDRO_TOO_LONG         = 1,  /* the input is longer than 65,535 bytes; place 0 */

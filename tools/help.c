@@ -12,8 +12,8 @@
     "Exit status: 0 accepted, 1 refused, 2 usage or file trouble.\n"
 
 #define FAULTS_HELP \
-    "Of several faults in the elements the one is shown that is decided first: at an element's first byte, or at its last byte if\n" \
-    "it is a SET whose members descend.\n"
+    "Of several faults in the elements, the one that is decided first is shown. A fault is decided at its element's first byte;\n" \
+    "only the order of a SET's members is decided at the SET's last byte.\n"
 
 const char general_help[] =
     "phagundro: batches of certificate requests (CertReqMessages in DER), read, written and judged\n"
