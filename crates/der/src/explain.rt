@@ -18,7 +18,7 @@ ghost use Rattle.der.specs.steps.Explain.{Lent, numberOf, placeOf, detai
 pub enum Nest {
     // No fault: the place after the element.
     End(usize),
-    // The first fault in document 01's order: its number and place, and request A9's detail.
+    // The first fault in the order of SPECIFICATION 2.4: its number and place, and request A9's detail.
     Fault {
         number: usize,
         place: usize,

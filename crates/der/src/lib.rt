@@ -1,7 +1,7 @@
 // DER elements (X.690; SPECIFICATION 2), with three jobs on bytes that may be anything:
 //
 //     recognise    whether an element has no fault (`recognise::is_element`)
-//     explain      the first fault in document 01's order and its place, or the end of the first element (`explain::explain`)
+//     explain      the first fault in the order of judging and its place, or the end of the first element (`explain::explain`)
 //     read         the element at a place (`element::reading::read_at`), or its length octets alone (`element::length::measure`)
 //
 // There are two ways to judge a nest, since nearly all input is right. The recogniser keeps no place and names no fault, so it is quick. Only

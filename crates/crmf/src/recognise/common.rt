@@ -3,6 +3,7 @@
 use der::content::bit_string;
 use der::content::holds;
 use der::content::object_identifier;
+use der::element::identifier::SET;
 use der::element::identifier::is_allowed;
 use der::element::identifier::is_constructed;
 use der::element::length::Span;
@@ -17,14 +18,12 @@ ghost use Rattle.crmf.specs.meaning.Notation.{AlgId, Spki, OneName, RdnS
 ghost use Rattle.crmf.specs.steps.grammar.Lines.{start};
 ghost use Rattle.crmf.specs.steps.recognise.Inner.{Leading, Sole, RowlessFrom};
 
-// The identifier octets of X.690 that these insides have.
+// The other identifier octets of X.690 that these insides have.
 const BIT_STRING: u8 = 0x03;
 
 const OBJECT_IDENTIFIER: u8 = 0x06;
 
 const SEQUENCE: u8 = 0x30;
-
-const SET: u8 = 0x31;
 
 // The span of the element that the bytes start with, if it has the identifier; else a span of no octets.
 fn leading(bytes: &[u8], id: u8) -> Span

@@ -72,7 +72,7 @@ pub data Members : List ℕ → List (List ℕ) → Type 0 where
   none : Members [] []
   member : {bs : List ℕ} {ms : List (List ℕ)} (id h n : ℕ) → Headed bs id h n → Members (drop (h + n) bs) ms → Members bs (take (h + n) bs ∷ ms)
 
--- The same with the place at which a fault is decided, after its number, place and detail.
+-- A fault as a relation, with the place at which it is decided after its number, place and detail.
 abbrev pub DecidedFaults : Type 1
 DecidedFaults = ℕ → List ℕ → ℕ → ℕ → ℕ → ℕ → Type 0
 
@@ -103,10 +103,10 @@ abbrev pub Sooner : (at decided at′ decided′ : ℕ) → Type 0
 Sooner at decided at′ decided′ = (decided < decided′) ⊎ ((decided ≡ decided′) × (at′ < at))
 
 -- "Of several faults": the one that is decided first. Every fault is this one or comes later.
-pub record Soonest (Any : ℕ → ℕ → ℕ → ℕ → Type 0) (number at detail : ℕ) : Type 0 where
+pub record Soonest (Faulty : ℕ → ℕ → ℕ → ℕ → Type 0) (number at detail : ℕ) : Type 0 where
   pub decided : ℕ
-  pub any : Any number at detail decided
-  pub others : (n a d e : ℕ) → Any n a d e → ((number ≡ n) × (at ≡ a) × (detail ≡ d)) ⊎ Sooner at decided a e
+  pub any : Faulty number at detail decided
+  pub others : (n a d e : ℕ) → Faulty n a d e → ((number ≡ n) × (at ≡ a) × (detail ≡ d)) ⊎ Sooner at decided a e
 
 -- The details that a fault's number can have, at an element with the identifier id.
 pub data Named (id : ℕ) : ℕ → ℕ → Type 0 where

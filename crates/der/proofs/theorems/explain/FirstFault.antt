@@ -296,9 +296,9 @@ placed zero p bs number at detail f = rw (f .0, f .1, f .2) (placed-here p bs 6 
 placed (suc left) p bs number at detail f = placed-of left p bs (placed left) f
 
 -- The first fault is at the element's first byte or after it, and before the end unless there is no octet.
-pub least-place : (left p : ℕ) (bs : List ℕ) (number at detail : ℕ) → First left p bs number at detail
+pub fault-within : (left p : ℕ) (bs : List ℕ) (number at detail : ℕ) → First left p bs number at detail
     → (p ≤ at) × (at ≤ p + length bs) × (0 < length bs → at < p + length bs)
-least-place left p bs number at detail f = omega (arith, placed left p bs number at detail f)
+fault-within left p bs number at detail f = omega (arith, placed left p bs number at detail f)
 
 -- The first fault's number is one of 2 to 6 with its detail; 5 has the tag number of the element at the fault's place.
 pub fault-named : (left p : ℕ) (bs : List ℕ) (number at detail : ℕ) → First left p bs number at detail → Named (getD bs (at - p) 0) number detail
