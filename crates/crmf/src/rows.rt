@@ -18,7 +18,7 @@ ghost use Rattle.crmf.specs.steps.grammar.Packed.{packed};
 ghost use Rattle.crmf.specs.steps.explain.Walk.{line};
 ghost use Rattle.crmf.specs.meaning.Rows.{parentIf, width};
 ghost use Rattle.crmf.specs.steps.rows.Fill as spec;
-ghost use Rattle.crmf.specs.steps.rows.Fill.{goes, rowOf, fits, filled, ownRows, rowAbove, Room, Wrote, Shown, Listed, Inner};
+ghost use Rattle.crmf.specs.steps.rows.Fill.{goes, rowOf, fits, filled, fitExtent, ownRows, rowAbove, Room, Wrote, Shown, Listed, Inner};
 
 // How many numbers a row has.
 pub const WIDTH: usize = 4;
@@ -145,7 +145,7 @@ fn element(
 // its own. Answers the number of the next row.
 fn own_rows(fit: Fit, row: usize, around: Around, limit: usize, out: &mut [usize]) -> usize
     requires { ⌜ (fit .first ≤ fit .end) × (row ≤ 131070) × (width * limit ≤ length (now out)) ⌝ }
-    ensures { λ r. ⌜ ((k : ℕ) → fit .word ≡ getD packed k 0 → Wrote (ownRows (line k) (fit .first) (fit .end - fit .first) row around) row limit (now (out .entry)) r (now (out .exit))) × (r ≤ row + 2) ⌝ }
+    ensures { λ r. ⌜ ((k : ℕ) → fit .word ≡ getD packed k 0 → Wrote (ownRows (line k) (fitExtent fit) row around) row limit (now (out .entry)) r (now (out .exit))) × (r ≤ row + 2) ⌝ }
 {
     let item = table::item_of(fit.word);
     let outer = Entry {

@@ -30,37 +30,54 @@ unfoldable pub container : ℕ → Bool
 container =
     among (kinds.batch ∷ kinds.message ∷ kinds.certReq ∷ kinds.certTemplate ∷ kinds.validity ∷ kinds.extensions ∷ kinds.controls ∷ kinds.signature ∷ kinds.keyEncipherment ∷ kinds.keyAgreement ∷ kinds.regInfo ∷ kinds.regInfoCertReq ∷ [])
 
--- the row of an element, if it has a kind
-abbrev pub rowIf : ℕ → ℕ → ℕ → ℕ → List Row
-rowIf kind first whole parent =
-    elim (eqb kind kinds.none) [ true ↦ [] | false ↦ record { kind = kind; first = first; whole = whole; parent = parent } ∷ [] ]
+-- What a row shows of where its element stands: "first byte, whole length".
+pub record Extent : Type 0 where
+  pub first : ℕ
+  pub whole : ℕ
+
+-- the extent of an element
+abbrev pub extentOf : (identifier first whole : ℕ) (content : List ℕ) → Extent
+extentOf id p w c = record { first = p; whole = w }
+
+-- the extent around the batch, where no element is
+abbrev pub noExtent : Extent
+noExtent = record { first = 0; whole = 0 }
+
+-- the row of an element, by its kind, its extent and its parent's row
+abbrev pub rowWith : ℕ → Extent → ℕ → Row
+rowWith kind extent parent = record { kind = kind; first = extent .first; whole = extent .whole; parent = parent }
+
+-- the same if it has a kind
+abbrev pub rowIf : ℕ → Extent → ℕ → List Row
+rowIf kind extent parent = elim (eqb kind kinds.none) [ true ↦ [] | false ↦ rowWith kind extent parent ∷ [] ]
 
 -- the number of the parent's row for the rows inside an element: n, that of its own row, if it has one, else up
 abbrev pub parentIf : ℕ → ℕ → ℕ → ℕ
 parentIf kind n up = elim (eqb kind kinds.none) [ true ↦ up | false ↦ n ]
 
 -- The rows of a container's elements, in order of first byte (SPECIFICATION 5): n is the number of the next row, up is the number of the row
--- around them, and place and whole are the container's own. A value that decides its item's kind gives the item its row.
+-- around them, and extent is the container's own. A value that decides its item's kind gives the item its row.
 unfoldable mutual
-  pub rows : {R : ℕ → Bool} {ps : Parts} {t : Tree} → Matches R ps t → (n up place whole : ℕ) → List Row
-  rows end n up place whole = []
-  rows (pass ok m) n up place whole = rows m n up place whole
-  rows (take {first = p} {whole = w} f among fits read kept within m) n up place whole =
-      let item = rowIf (f .item) place whole up in
+  pub rows : {R : ℕ → Bool} {ps : Parts} {t : Tree} → Matches R ps t → (n up : ℕ) (extent : Extent) → List Row
+  rows end n up extent = []
+  rows (pass ok m) n up extent = rows m n up extent
+  rows (take {id = id} {first = p} {whole = w} {c = c} f among fits read kept within m) n up extent =
+      let item = rowIf (f .item) extent up in
       let above = parentIf (f .item) n up in
-      let own = rowIf (f .kind) p w above in
+      let here = extentOf id p w c in
+      let own = rowIf (f .kind) here above in
       let next = n + length item in
-      let inner = rowsIn within (next + length own) (parentIf (f .kind) next above) p w in
-      item ++ (own ++ (inner ++ rows m (next + length own + length inner) up place whole))
-  rows (choose name way m) n up place whole = rows m n up place whole
+      let inner = rowsIn within (next + length own) (parentIf (f .kind) next above) here in
+      item ++ (own ++ (inner ++ rows m (next + length own + length inner) up extent))
+  rows (choose name way m) n up extent = rows m n up extent
 
-  pub rowsIn : {R : ℕ → Bool} {i : Inside} {t : Tree} → Within R i t → (n up place whole : ℕ) → List Row
-  rowsIn unseen n up place whole = []
-  rowsIn (parts m) n up place whole = rows m n up place whole
+  pub rowsIn : {R : ℕ → Bool} {i : Inside} {t : Tree} → Within R i t → (n up : ℕ) (extent : Extent) → List Row
+  rowsIn unseen n up extent = []
+  rowsIn (parts m) n up extent = rows m n up extent
 
 -- the rows of a batch: "the batch is row 0, its own parent"
 unfoldable pub batchRows : {R : ℕ → Bool} {t : Tree} → Matches R (content Top) t → List Row
-batchRows m = rows m 0 0 0 0
+batchRows m = rows m 0 0 noExtent
 
 -- the numbers of rows, one after the other
 unfoldable pub numbers : List Row → List ℕ

@@ -18,7 +18,7 @@ use Rattle.crmf.specs.meaning.Details.{fitsNoPart}
 use Rattle.crmf.specs.meaning.Notation.{Top}
 use Rattle.crmf.specs.meaning.Grammar.{content}
 use Rattle.crmf.specs.meaning.Language.{Matches, occurrences}
-use Rattle.crmf.specs.meaning.Rows.{batchRows, FirstLongId}
+use Rattle.crmf.specs.meaning.Rows.{noExtent, batchRows, FirstLongId}
 use Rattle.crmf.specs.meaning.Stops.{Stops}
 use Rattle.crmf.specs.steps.grammar.Lines.{start}
 use Rattle.crmf.specs.steps.explain.Walk.{walk, every, emptyTally, countOf}
@@ -49,7 +49,7 @@ module _ (s : List ℕ) (short : length s ≤ longest) (t : Tree) (read : tree 0
   -- the count of a walk that passes is the number of rows
   counted : {R : ℕ → Bool} (m : Matches R (content Top) t) (r : Tally) → countOf s ≡ Passed r → r .count ≡ length (batchRows m)
   unfolding emptyTally batchRows
-  counted m r passed = omega (arith, walk-counts every Top m emptyTally r 0 0 0 0 0 (sym counting ∙ passed))
+  counted m r passed = omega (arith, walk-counts every Top m emptyTally r 0 0 0 noExtent (sym counting ∙ passed))
 
   -- Counting passes with n rows exactly when the grammar, with every form, describes the tree and gives it n rows.
   pub count-passes : (n : ℕ) → ((r : Tally) × (countOf s ≡ Passed r) × (r .count ≡ n)) ↔ ((m : Matches (λ e. true) (content Top) t) × (length (batchRows m) ≡ n))
@@ -75,7 +75,7 @@ module _ (s : List ℕ) (short : length s ≤ longest) (t : Tree) (read : tree 0
   unfolding emptyTally batchRows
   count-tallies left formed m r passed =
       let walked = sym counting ∙ passed in
-      let noted = walk-long every Top m emptyTally r 0 0 0 0 0 walked in
+      let noted = walk-long every Top m emptyTally r 0 0 0 noExtent walked in
       record {
         rows = counted m r passed;
         forms = λ ed d p. rw walked at (forms-exactly ed Top m left 0 0 formed d p);

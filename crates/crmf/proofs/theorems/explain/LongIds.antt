@@ -17,7 +17,7 @@ use Rattle.crmf.specs.meaning.Grammar.{content}
 use Rattle.crmf.specs.meaning.Language.{Matches}
 use Rattle.crmf.specs.steps.grammar.Lines.{Line, start}
 use Rattle.crmf.specs.steps.explain.Walk.{line, withLongId, withForm, withElement, walk}
-use Rattle.crmf.specs.meaning.Rows.{Row, rowIf, parentIf, rows, longId, allShort}
+use Rattle.crmf.specs.meaning.Rows.{Row, Extent, extentOf, noExtent, rowIf, parentIf, rows, longId, allShort}
 use Rattle.crmf.specs.steps.explain.LongIds.{longer, firstLong}
 use Rattle.crmf.specs.steps.rows.Fill.{rowsFrom}
 use Rattle.crmf.proofs.theorems.lines.WordFields.{computed, at-line}
@@ -44,20 +44,20 @@ other-kind : (h : ℕ × ℕ) (kind p w : ℕ) → eqb kind kinds.certReqId ≡ 
 other-kind h kind p w e = rw (longer, longId, e)
 
 -- the row of a kind, if it has one
-row-long : (h : ℕ × ℕ) (kind p w up : ℕ) → firstLong h (rowIf kind p w up) ≡ longer h kind p w
+row-long : (h : ℕ × ℕ) (kind : ℕ) (here : Extent) (up : ℕ) → firstLong h (rowIf kind here up) ≡ longer h kind (here .first) (here .whole)
 unfolding firstLong
-row-long h kind p w up = go (eqb kind 0) refl
+row-long h kind here up = go (eqb kind 0) refl
   where
-    go : (b : Bool) → eqb kind 0 ≡ b → firstLong h (rowIf kind p w up) ≡ longer h kind p w
+    go : (b : Bool) → eqb kind 0 ≡ b → firstLong h (rowIf kind here up) ≡ longer h kind (here .first) (here .whole)
     go true e =
         let z : kind ≡ 0 = eqb-true kind 0 e in
         let o : eqb kind kinds.certReqId ≡ false = ap (λ (n : ℕ). eqb n kinds.certReqId) z in
-        ap (firstLong h) (row-none kind p w up e) ∙ sym (other-kind h kind p w o)
-    go false e = ap (firstLong h) (row-own kind p w up e)
+        ap (firstLong h) (row-none kind here up e) ∙ sym (other-kind h kind (here .first) (here .whole) o)
+    go false e = ap (firstLong h) (row-own kind here up e)
 
 -- the row of an item is no long certReqId
-item-long : (h : ℕ × ℕ) (item p w up : ℕ) → not (eqb item kinds.certReqId) ≡ true → firstLong h (rowIf item p w up) ≡ h
-item-long h item p w up e = row-long h item p w up ∙ other-kind h item p w (denied (eqb item kinds.certReqId) e)
+item-long : (h : ℕ × ℕ) (item : ℕ) (here : Extent) (up : ℕ) → not (eqb item kinds.certReqId) ≡ true → firstLong h (rowIf item here up) ≡ h
+item-long h item here up e = row-long h item here up ∙ other-kind h item (here .first) (here .whole) (denied (eqb item kinds.certReqId) e)
   where
     denied : (b : Bool) → not b ≡ true → b ≡ false
     denied true f = sym f
@@ -93,63 +93,64 @@ met-long x p w s =
     lengthy-long (x .kind) p w (withForm (x .mark) p s) ∙ ap (λ (h : ℕ × ℕ). longer h (x .kind) p w) (noted-long (x .mark) p s)
 
 -- an element's rows: what is known goes from a to b with its own row and the rows inside it, and from b to d with those after it
-rows-one-long : (kind item p w : ℕ) (inner : ℕ → ℕ → List Row) (later : ℕ → List Row) (n up place whole : ℕ) (a b d : ℕ × ℕ)
-    → not (eqb item kinds.certReqId) ≡ true → ((j u : ℕ) → firstLong (longer a kind p w) (inner j u) ≡ b) → ((j : ℕ) → firstLong b (later j) ≡ d)
-    → firstLong a (rowsOne kind item p w inner later n up place whole) ≡ d
+rows-one-long : (kind item : ℕ) (here : Extent) (inner : ℕ → ℕ → List Row) (later : ℕ → List Row) (n up : ℕ) (extent : Extent) (a b d : ℕ × ℕ)
+    → not (eqb item kinds.certReqId) ≡ true → ((j u : ℕ) → firstLong (longer a kind (here .first) (here .whole)) (inner j u) ≡ b) → ((j : ℕ) → firstLong b (later j) ≡ d)
+    → firstLong a (rowsOne kind item here inner later n up extent) ≡ d
 unfolding rowsOne
-rows-one-long kind item p w inner later n up place whole a b d other within further =
-    let around = rowIf item place whole up in
+rows-one-long kind item here inner later n up extent a b d other within further =
+    let around = rowIf item extent up in
     let above = parentIf item n up in
-    let own = rowIf kind p w above in
+    let own = rowIf kind here above in
     let next = n + length around in
     let inside = inner (next + length own) (parentIf kind next above) in
     let rest = later (next + length own + length inside) in
     long-append a around (own ++ (inside ++ rest))
-    ∙ ap (λ (h : ℕ × ℕ). firstLong h (own ++ (inside ++ rest))) (item-long a item place whole up other)
+    ∙ ap (λ (h : ℕ × ℕ). firstLong h (own ++ (inside ++ rest))) (item-long a item extent up other)
     ∙ long-append a own (inside ++ rest)
-    ∙ ap (λ (h : ℕ × ℕ). firstLong h (inside ++ rest)) (row-long a kind p w above)
-    ∙ long-append (longer a kind p w) inside rest
+    ∙ ap (λ (h : ℕ × ℕ). firstLong h (inside ++ rest)) (row-long a kind here above)
+    ∙ long-append (longer a kind (here .first) (here .whole)) inside rest
     ∙ ap (λ (h : ℕ × ℕ). firstLong h rest) (within (next + length own) (parentIf kind next above))
     ∙ further (next + length own + length inside)
 
 -- an inside that the walk passes
-inner-long : (R : ℕ → Bool) (m r : Tally) (i first : ℕ) (inside : Tree) (n up place whole : ℕ)
-    → (walk R m i first inside ≡ Passed r → firstLong (known m) (rowsFrom i inside n up place whole) ≡ known r)
-    → innerWalk R m i first inside ≡ Passed r → firstLong (known m) (rowsWithin i inside n up place whole) ≡ known r
+inner-long : (R : ℕ → Bool) (m r : Tally) (i first : ℕ) (inside : Tree) (n up : ℕ) (extent : Extent)
+    → (walk R m i first inside ≡ Passed r → firstLong (known m) (rowsFrom i inside n up extent) ≡ known r)
+    → innerWalk R m i first inside ≡ Passed r → firstLong (known m) (rowsWithin i inside n up extent) ≡ known r
 unfolding firstLong
-inner-long R m r i first inside n up place whole each w = go (eqb i 0) refl
+inner-long R m r i first inside n up extent each w = go (eqb i 0) refl
   where
-    go : (b : Bool) → eqb i 0 ≡ b → firstLong (known m) (rowsWithin i inside n up place whole) ≡ known r
+    go : (b : Bool) → eqb i 0 ≡ b → firstLong (known m) (rowsWithin i inside n up extent) ≡ known r
     go true e =
         let same : m ≡ r = cc (inner-free R m i first inside e) in
-        ap (firstLong (known m)) (inner-no-rows i inside n up place whole e) ∙ ap known same
+        ap (firstLong (known m)) (inner-no-rows i inside n up extent e) ∙ ap known same
     go false e =
-        ap (firstLong (known m)) (inner-rows i inside n up place whole e) ∙ each (sym (inner-walked R m i first inside e) ∙ w)
+        ap (firstLong (known m)) (inner-rows i inside n up extent e) ∙ each (sym (inner-walked R m i first inside e) ∙ w)
 
 -- The long certReqId that the counting walk has met is the first row that is one.
-pub rows-long : (R : ℕ → Bool) (t : Tree) (s r : Tally) (k around n up place whole : ℕ) → walk R s k around t ≡ Passed r
-    → firstLong (s .long .whole, s .long .place) (rowsFrom k t n up place whole) ≡ (r .long .whole, r .long .place)
+pub rows-long : (R : ℕ → Bool) (t : Tree) (s r : Tally) (k around n up : ℕ) (extent : Extent) → walk R s k around t ≡ Passed r
+    → firstLong (s .long .whole, s .long .place) (rowsFrom k t n up extent) ≡ (r .long .whole, r .long .place)
 unfolding rowsFrom firstLong
-rows-long R none s r k around n up place whole passed = ap known (passed-none R s k around r passed .1)
-rows-long R (element id p w c inside rest) s r k around n up place whole passed =
+rows-long R none s r k around n up extent passed = ap known (passed-none R s k around r passed .1)
+rows-long R (element id p w c inside rest) s r k around n up extent passed =
     let e = passed-element R s k around id p w c inside rest r passed in
     let x = line (e .at) in
     let m = withElement x p w s in
-    let inner : ℕ → ℕ → List Row = λ j u. rowsWithin (x .inside) inside j u p w in
-    let later : ℕ → List Row = λ j. rowsFrom (e .next) rest j up place whole in
-    let within : (j u : ℕ) → firstLong (known m) (rowsWithin (x .inside) inside j u p w) ≡ known (e .seen) =
-    λ j u. inner-long R m (e .seen) (x .inside) p inside j u p w (rows-long R inside m (e .seen) (x .inside) p j u p w) (e .inner) in
-    let further : (j : ℕ) → firstLong (known (e .seen)) (rowsFrom (e .next) rest j up place whole) ≡ known r =
-    λ j. rows-long R rest (e .seen) r (e .next) around j up place whole (e .further) in
-    ap (firstLong (known s)) (rows-from-element k id p w c inside rest n up place whole (e .at) (e .next) (e .found) (e .onward))
-    ∙ rows-one-long (x .kind) (x .item) p w inner later n up place whole (known s) (known (e .seen)) (known r) (item-not-id (e .at))
+    let here = extentOf id p w c in
+    let inner : ℕ → ℕ → List Row = λ j u. rowsWithin (x .inside) inside j u here in
+    let later : ℕ → List Row = λ j. rowsFrom (e .next) rest j up extent in
+    let within : (j u : ℕ) → firstLong (known m) (rowsWithin (x .inside) inside j u here) ≡ known (e .seen) =
+    λ j u. inner-long R m (e .seen) (x .inside) p inside j u here (rows-long R inside m (e .seen) (x .inside) p j u here) (e .inner) in
+    let further : (j : ℕ) → firstLong (known (e .seen)) (rowsFrom (e .next) rest j up extent) ≡ known r =
+    λ j. rows-long R rest (e .seen) r (e .next) around j up extent (e .further) in
+    ap (firstLong (known s)) (rows-from-element k id p w c inside rest n up extent (e .at) (e .next) (e .found) (e .onward))
+    ∙ rows-one-long (x .kind) (x .item) here inner later n up extent (known s) (known (e .seen)) (known r) (item-not-id (e .at))
     (λ j u. ap (λ (h : ℕ × ℕ). firstLong h (inner j u)) (sym (met-long x p w s)) ∙ within j u) further
 
 -- The long certReqId that a walk over a container's elements has met is the first of any derivation's rows that is one.
-pub walk-long : {R : ℕ → Bool} (Q : ℕ → Bool) (name : Name) {t : Tree} (m : Matches R (content name) t) (s r : Tally) (around n up place whole : ℕ)
-    → walk Q s (start name) around t ≡ Passed r → firstLong (s .long .whole, s .long .place) (rows m n up place whole) ≡ (r .long .whole, r .long .place)
-walk-long Q name {t = t} m s r around n up place whole passed =
-    ap (firstLong (known s)) (sym (rows-lines name m n up place whole)) ∙ rows-long Q t s r (start name) around n up place whole passed
+pub walk-long : {R : ℕ → Bool} (Q : ℕ → Bool) (name : Name) {t : Tree} (m : Matches R (content name) t) (s r : Tally) (around n up : ℕ) (extent : Extent)
+    → walk Q s (start name) around t ≡ Passed r → firstLong (s .long .whole, s .long .place) (rows m n up extent) ≡ (r .long .whole, r .long .place)
+walk-long Q name {t = t} m s r around n up extent passed =
+    ap (firstLong (known s)) (sym (rows-lines name m n up extent)) ∙ rows-long Q t s r (start name) around n up extent passed
 
 -- with one more row, no long certReqId is known if none was and the row is not one
 longer-none : (h : ℕ × ℕ) (kind p w : ℕ) (c : Bool) → (eqb (longer h kind p w .0) 0 && c) ≡ (eqb (h .0) 0 && (not (longId kind w) && c))
@@ -189,13 +190,13 @@ none-before s r rs is zero =
 
 -- If a walk passes and has met no long certReqId, none was met before it.
 pub walk-short : (R : ℕ → Bool) (t : Tree) (s r : Tally) (k around : ℕ) → walk R s k around t ≡ Passed r → r .long .whole ≡ 0 → s .long .whole ≡ 0
-walk-short R t s r k around passed = none-before s r (rowsFrom k t 0 0 0 0) (rows-long R t s r k around 0 0 0 0 passed)
+walk-short R t s r k around passed = none-before s r (rowsFrom k t 0 0 noExtent) (rows-long R t s r k around 0 0 noExtent passed)
 
 -- The same holds before an inside.
 pub inner-short : (R : ℕ → Bool) (m r : Tally) (i first : ℕ) (inside : Tree) → innerWalk R m i first inside ≡ Passed r → r .long .whole ≡ 0 → m .long .whole ≡ 0
 inner-short R m r i first inside passed =
-    none-before m r (rowsWithin i inside 0 0 0 0)
-    (inner-long R m r i first inside 0 0 0 0 (rows-long R inside m r i first 0 0 0 0) passed)
+    none-before m r (rowsWithin i inside 0 0 noExtent)
+    (inner-long R m r i first inside 0 0 noExtent (rows-long R inside m r i first 0 0 noExtent) passed)
 
 -- If no long certReqId is known after an element in a line's form, the element is not one.
 pub met-short : (x : Line) (p w : ℕ) (s : Tally) → withElement x p w s .long .whole ≡ 0 → not (longId (x .kind) w) ≡ true

@@ -13,7 +13,7 @@ use Rattle.crmf.specs.declared.explain.Walked.the-variants.{Passed}
 use Rattle.crmf.specs.meaning.Notation.{Top}
 use Rattle.crmf.specs.steps.grammar.Lines.{start}
 use Rattle.crmf.specs.steps.explain.Walk.{walk, every, emptyTally, countOf}
-use Rattle.crmf.specs.meaning.Rows.{Row}
+use Rattle.crmf.specs.meaning.Rows.{noExtent, Row}
 use Rattle.crmf.specs.steps.explain.LongIds.{firstLong}
 use Rattle.crmf.specs.steps.rows.Fill.{rowsFrom, rowsOfInput}
 use Rattle.crmf.proofs.theorems.rows.RowsOfLines.{rows-count}
@@ -26,7 +26,7 @@ module _ (s : List ℕ) (short : length s ≤ longest) where
   count-whole = rw (countOf, le-leb _ _ short)
 
   -- The rows are those of the lines from the first on.
-  pub rows-whole : rowsOfInput s ≡ rowsFrom (start Top) (tree 0 s) 0 0 0 0
+  pub rows-whole : rowsOfInput s ≡ rowsFrom (start Top) (tree 0 s) 0 0 noExtent
   unfolding rowsOfInput
   rows-whole = rw (rowsOfInput, le-leb _ _ short)
 
@@ -35,9 +35,9 @@ module _ (s : List ℕ) (short : length s ≤ longest) where
     pub whole-count : length (rowsOfInput s) ≡ r .count
     unfolding emptyTally
     whole-count =
-        omega (arith, ap (λ (l : List Row). length l) rows-whole, rows-count every (tree 0 s) emptyTally r (start Top) 0 0 0 0 0 (sym count-whole ∙ passed))
+        omega (arith, ap (λ (l : List Row). length l) rows-whole, rows-count every (tree 0 s) emptyTally r (start Top) 0 0 0 noExtent (sym count-whole ∙ passed))
 
     -- The first long certReqId of them is the one that was met.
     pub whole-long : firstLong (0, 0) (rowsOfInput s) ≡ (r .long .whole, r .long .place)
     unfolding emptyTally
-    whole-long = ap (firstLong (0, 0)) rows-whole ∙ rows-long every (tree 0 s) emptyTally r (start Top) 0 0 0 0 0 (sym count-whole ∙ passed)
+    whole-long = ap (firstLong (0, 0)) rows-whole ∙ rows-long every (tree 0 s) emptyTally r (start Top) 0 0 0 noExtent (sym count-whole ∙ passed)

@@ -15,7 +15,7 @@ use Rattle.crmf.specs.meaning.Notation
 use Rattle.crmf.specs.meaning.Notation.{Name, Top, Batch, CertReq, holds, Form, once, repeated, part, Parts, done, _then_, holding, row}
 use Rattle.crmf.specs.meaning.Grammar.{content}
 use Rattle.crmf.specs.meaning.Language.{OneOf, Matches, end, pass, take, Within, parts}
-use Rattle.crmf.specs.meaning.Rows.{Row, rowIf, parentIf, rows, rowsIn, batchRows, longId, allShort}
+use Rattle.crmf.specs.meaning.Rows.{Row, Extent, extentOf, noExtent, rowIf, parentIf, rows, rowsIn, batchRows, longId, allShort}
 use Rattle.crmf.specs.meaning.Fields.{Field, fields, nth}
 use Rattle.crmf.specs.meaning.Messages.{Message, messageOf, batch, messages}
 use Rattle.crmf.proofs.theorems.messages.MessageLaws.{message-own}
@@ -35,17 +35,20 @@ short-append (r ∷ a) b short =
     (rw (own, front), after)
 
 -- a row of a certReqId that is not long
-short-own : (kind p w up : ℕ) → allShort (rowIf kind p w up) ≡ true → kind ≡ kinds.certReqId → w ≤ 10
+short-own : (kind : ℕ) (here : Extent) (up : ℕ) → allShort (rowIf kind here up) ≡ true → kind ≡ kinds.certReqId → here .whole ≤ 10
 unfolding allShort
-short-own kind p w up short id = ltb-false 10 w (not-true (ltb 10 w) (both (not (ltb 10 w)) true (rw id at short) .0))
+short-own kind here up short id = ltb-false 10 (here .whole) (not-true (ltb 10 (here .whole)) (both (not (ltb 10 (here .whole))) true (rw id at short) .0))
 
 -- The rows of a derivation, from some numbers on, have no long certReqId.
 record NoLong {R : ℕ → Bool} {ps : Parts} {t : Tree} (m : Matches R ps t) : Type 0 where
   n : ℕ
   up : ℕ
-  place : ℕ
-  whole : ℕ
-  short : allShort (rows m n up place whole) ≡ true
+  extent : Extent
+  short : allShort (rows m n up extent) ≡ true
+
+-- the extent of a field
+abbrev fieldExtent : Field → Extent
+fieldExtent f = extentOf (f .identifier) (f .place) (f .whole) (f .content)
 
 -- A field of a form: it is no long certReqId, and there is none inside it.
 record ShortField (R : ℕ → Bool) (form : Form) (f : Field) : Type 0 where
@@ -53,7 +56,7 @@ record ShortField (R : ℕ → Bool) (form : Form) (f : Field) : Type 0 where
   within : Within R (form .inside) (f .inside)
   n : ℕ
   up : ℕ
-  short : allShort (rowsIn within n up (f .place) (f .whole)) ≡ true
+  short : allShort (rowsIn within n up (fieldExtent f)) ≡ true
 
 -- A field of one of some forms.
 record ShortOne (R : ℕ → Bool) (forms : List Form) (f : Field) : Type 0 where
@@ -79,32 +82,32 @@ record FirstShort (R : ℕ → Bool) (forms : List Form) (ps : Parts) (t : Tree)
 
 -- an element that is taken from a part
 taken-short : {R : ℕ → Bool} {ps : Parts} {rest : Tree} (f : Form) (g : Field) (within : Within R (f .inside) (g .inside))
-    (m : Matches R ps rest) (n up place whole : ℕ)
-    → (let item = rowIf (f .item) place whole up in
+    (m : Matches R ps rest) (n up : ℕ) (extent : Extent)
+    → (let item = rowIf (f .item) extent up in
     let above = parentIf (f .item) n up in
-    let own = rowIf (f .kind) (g .place) (g .whole) above in
+    let own = rowIf (f .kind) (fieldExtent g) above in
     let next = n + length item in
-    let inner = rowsIn within (next + length own) (parentIf (f .kind) next above) (g .place) (g .whole) in
-    allShort (item ++ (own ++ (inner ++ rows m (next + length own + length inner) up place whole))) ≡ true)
+    let inner = rowsIn within (next + length own) (parentIf (f .kind) next above) (fieldExtent g) in
+    allShort (item ++ (own ++ (inner ++ rows m (next + length own + length inner) up extent))) ≡ true)
     → ShortField R f g × NoLong m
-taken-short f g within m n up place whole short =
-    let item = rowIf (f .item) place whole up in
+taken-short f g within m n up extent short =
+    let item = rowIf (f .item) extent up in
     let above = parentIf (f .item) n up in
-    let own = rowIf (f .kind) (g .place) (g .whole) above in
+    let own = rowIf (f .kind) (fieldExtent g) above in
     let next = n + length item in
-    let inner = rowsIn within (next + length own) (parentIf (f .kind) next above) (g .place) (g .whole) in
-    let after = rows m (next + length own + length inner) up place whole in
+    let inner = rowsIn within (next + length own) (parentIf (f .kind) next above) (fieldExtent g) in
+    let after = rows m (next + length own + length inner) up extent in
     let a = short-append item (own ++ (inner ++ after)) short in
     let b = short-append own (inner ++ after) (a .1) in
     let c = short-append inner after (b .1) in (
       record {
-        own = short-own (f .kind) (g .place) (g .whole) above (b .0);
+        own = short-own (f .kind) (fieldExtent g) above (b .0);
         within = within;
         n = next + length own;
         up = parentIf (f .kind) next above;
         short = c .0;
       },
-      record { n = next + length own + length inner; up = up; place = place; whole = whole; short = c .1 },
+      record { n = next + length own + length inner; up = up; extent = extent; short = c .1 },
     )
 
 -- a part that stands once
@@ -114,7 +117,7 @@ unfolding fields rows
 once-short (pass ok m) short = absurd ok
 once-short (take {id = id} {first = p} {whole = w} {c = c} {inside = i} {rest = r} f one fits read kept within m) short =
     let g : Field = record { identifier = id; place = p; whole = w; content = c; inside = i } in
-    let (own, after) = taken-short f g within m (short .n) (short .up) (short .place) (short .whole) (short .short) in
+    let (own, after) = taken-short f g within m (short .n) (short .up) (short .extent) (short .short) in
     record { item = g; rest = r; split = refl; field = record { form = f; one = one; field = own }; further = m; after = after }
 
 -- a part that stands any number of times and then nothing
@@ -125,10 +128,10 @@ repeated-short (pass ok end) short f at = absurd (List·Memᴰ·not-nil at)
 repeated-short (take {id = id} {first = p} {whole = w} {c = c} {inside = i} g one fits read kept within m) short f (List·Memᴰ·head e) =
     let h : Field = record { identifier = id; place = p; whole = w; content = c; inside = i } in
     rw e
-    (record { form = g; one = one; field = taken-short g h within m (short .n) (short .up) (short .place) (short .whole) (short .short) .0 })
+    (record { form = g; one = one; field = taken-short g h within m (short .n) (short .up) (short .extent) (short .short) .0 })
 repeated-short (take {id = id} {first = p} {whole = w} {c = c} {inside = i} g one fits read kept within m) short f (List·Memᴰ·tail at) =
     let h : Field = record { identifier = id; place = p; whole = w; content = c; inside = i } in
-    repeated-short m (taken-short g h within m (short .n) (short .up) (short .place) (short .whole) (short .short) .1) f at
+    repeated-short m (taken-short g h within m (short .n) (short .up) (short .extent) (short .short) .1) f at
 
 -- A container without a long certReqId.
 record ShortInside (R : ℕ → Bool) (name : Name) (t : Tree) : Type 0 where
@@ -141,10 +144,10 @@ short-inside : {R : ℕ → Bool} (kind id : ℕ) (name : Name) (f : Field) → 
 unfolding rows
 short-inside {R} kind id name f s = by-within (s .within) (s .short)
   where
-    by-within : (w : Within R (holds name) (f .inside)) → allShort (rowsIn w (s .n) (s .up) (f .place) (f .whole)) ≡ true
+    by-within : (w : Within R (holds name) (f .inside)) → allShort (rowsIn w (s .n) (s .up) (fieldExtent f)) ≡ true
         → ShortInside R name (f .inside)
     by-within (parts m) short =
-        record { inside = m; short = record { n = s .n; up = s .up; place = f .place; whole = f .whole; short = short } }
+        record { inside = m; short = record { n = s .n; up = s .up; extent = fieldExtent f; short = short } }
 
 -- each message of a batch
 each-short : {R : ℕ → Bool} (t : Tree) → ShortInside R Batch t → (f : Field) → List·Memᴰ f (fields t) → ShortInside R Notation.Message (f .inside)
@@ -179,7 +182,7 @@ pub ids-short : {R : ℕ → Bool} (t : Tree) (top : Matches R (content Top) t) 
     → (m : Message) → List·Memᴰ m (messages t) → m .certReqId .whole ≤ 10
 unfolding content batch batchRows
 ids-short {R} t top short m at =
-    let b = once-short top (record { n = 0; up = 0; place = 0; whole = 0; short = short }) in
+    let b = once-short top (record { n = 0; up = 0; extent = noExtent; short = short }) in
     let all : ShortInside R Batch (batch t .inside) = rw (b .split) (short-inside 1 0x30 Batch (b .item) (short-only (b .field))) in
     let own = message-own t m at in
     subst (λ (x : Message). x .certReqId .whole ≤ 10) (own .1) (id-short (m .own) (each-short (batch t .inside) all (m .own) (own .0)))

@@ -12,7 +12,7 @@ use Rattle.der.proofs.Laws.{encode-element, take-drop}
 use Rattle.crmf.specs.meaning.Notation.{Top, Inside, Parts}
 use Rattle.crmf.specs.meaning.Grammar.{content}
 use Rattle.crmf.specs.meaning.Language.{Matches, end, pass, take, choose, Within, unseen, parts}
-use Rattle.crmf.specs.meaning.Rows.{Row, rowIf, parentIf, rows, rowsIn, batchRows}
+use Rattle.crmf.specs.meaning.Rows.{Row, Extent, extentOf, noExtent, rowIf, parentIf, rows, rowsIn, batchRows}
 use Rattle.crmf.specs.meaning.Fields.{StandsAt}
 use Rattle.crmf.specs.meaning.Pieces.{Piece, pieceOf, piecesOf}
 use Rattle.crmf.proofs.theorems.messages.FieldLaws.{stands-left, stands-right}
@@ -51,27 +51,29 @@ module _ (s : List ℕ) where
   pieces-append (r ∷ a) b = ap (λ (l : List Piece). pieceOf s r ∷ l) (pieces-append a b)
 
   -- the row of an element whose octets are known shows its piece
-  piece-shown : (kind p w : ℕ) (octets : List ℕ) → slice p (p + w) s ≡ octets → (up : ℕ) → piecesOf s (rowIf kind p w up) ≡ pieceIf kind up octets
+  piece-shown : (kind : ℕ) (here : Extent) (octets : List ℕ) → slice (here .first) (here .first + here .whole) s ≡ octets → (up : ℕ)
+      → piecesOf s (rowIf kind here up) ≡ pieceIf kind up octets
   unfolding piecesOf
-  piece-shown kind p w octets e up = go (eqb kind 0) refl ∙ ap (pieceIf kind up) e
+  piece-shown kind here octets e up = go (eqb kind 0) refl ∙ ap (pieceIf kind up) e
     where
-      go : (b : Bool) → eqb kind 0 ≡ b → piecesOf s (rowIf kind p w up) ≡ pieceIf kind up (slice p (p + w) s)
-      go true z = ap (piecesOf s) (row-none kind p w up z) ∙ rw (z, pieceIf)
-      go false z = ap (piecesOf s) (row-own kind p w up z) ∙ rw (z, pieceIf)
+      go : (b : Bool) → eqb kind 0 ≡ b → piecesOf s (rowIf kind here up) ≡ pieceIf kind up (slice (here .first) (here .first + here .whole) s)
+      go true z = ap (piecesOf s) (row-none kind here up z) ∙ rw (z, pieceIf)
+      go false z = ap (piecesOf s) (row-own kind here up z) ∙ rw (z, pieceIf)
 
   -- an element's rows show its piece and the pieces inside it and after it
-  one-shown : (kind item p w : ℕ) (octets around : List ℕ) (f : ℕ → ℕ → List Row) (g : ℕ → ℕ → List Piece) (h : ℕ → List Row)
-      (i : ℕ → List Piece) (n up place whole : ℕ) → slice p (p + w) s ≡ octets → slice place (place + whole) s ≡ around
+  one-shown : (kind item : ℕ) (here : Extent) (octets around : List ℕ) (f : ℕ → ℕ → List Row) (g : ℕ → ℕ → List Piece) (h : ℕ → List Row)
+      (i : ℕ → List Piece) (n up : ℕ) (extent : Extent) → slice (here .first) (here .first + here .whole) s ≡ octets
+      → slice (extent .first) (extent .first + extent .whole) s ≡ around
       → ((j u : ℕ) → piecesOf s (f j u) ≡ g j u) → ((j : ℕ) → piecesOf s (h j) ≡ i j)
-      → piecesOf s (rowsOne kind item p w f h n up place whole) ≡ piecesOne kind item octets g i n up around
+      → piecesOf s (rowsOne kind item here f h n up extent) ≡ piecesOne kind item octets g i n up around
   unfolding rowsOne piecesOne
-  one-shown kind item p w octets around f g h i n up place whole own outer inner later =
-      let item-shown = piece-shown item place whole around outer in
-      let own-shown = piece-shown kind p w octets own in
-      let item-one : (u : ℕ) → length (rowIf item place whole u) ≡ length (pieceIf item u around) =
-      λ u. sym (pieces-length (rowIf item place whole u)) ∙ ap length (item-shown u) in
-      let own-one : (u : ℕ) → length (rowIf kind p w u) ≡ length (pieceIf kind u octets) =
-      λ u. sym (pieces-length (rowIf kind p w u)) ∙ ap length (own-shown u) in
+  one-shown kind item here octets around f g h i n up extent own outer inner later =
+      let item-shown = piece-shown item extent around outer in
+      let own-shown = piece-shown kind here octets own in
+      let item-one : (u : ℕ) → length (rowIf item extent u) ≡ length (pieceIf item u around) =
+      λ u. sym (pieces-length (rowIf item extent u)) ∙ ap length (item-shown u) in
+      let own-one : (u : ℕ) → length (rowIf kind here u) ≡ length (pieceIf kind u octets) =
+      λ u. sym (pieces-length (rowIf kind here u)) ∙ ap length (own-shown u) in
       let inner-count : (j u : ℕ) → length (f j u) ≡ length (g j u) = λ j u. sym (pieces-length (f j u)) ∙ ap length (inner j u) in
       simp (pieces-append, item-shown, own-shown, item-one, own-one, inner-count, inner, later)
 
@@ -96,31 +98,32 @@ module _ (s : List ℕ) where
 
     -- The rows of elements that stand in some octets, in an element that stands there, show the derivation's pieces.
     pub rows-pieces : {R : ℕ → Bool} {ps : Parts} {t : Tree} (m : Matches R ps t) (left q : ℕ) → WellFormed left q t
-        → StandsAt s q (encode t) → (n up place whole : ℕ) (around : List ℕ) → slice place (place + whole) s ≡ around
-        → piecesOf s (rows m n up place whole) ≡ pieces m n up around
-    rows-pieces end left q wf there n up place whole around outer = refl
-    rows-pieces (pass ok m) left q wf there n up place whole around outer = rows-pieces m left q wf there n up place whole around outer
+        → StandsAt s q (encode t) → (n up : ℕ) (extent : Extent) (around : List ℕ) → slice (extent .first) (extent .first + extent .whole) s ≡ around
+        → piecesOf s (rows m n up extent) ≡ pieces m n up around
+    rows-pieces end left q wf there n up extent around outer = refl
+    rows-pieces (pass ok m) left q wf there n up extent around outer = rows-pieces m left q wf there n up extent around outer
     rows-pieces (take {id = id} {first = p} {whole = w} {c = c} {inside = inside} {rest = rest} f among fits read kept within m)
-        left q wf there n up place whole around outer =
+        left q wf there n up extent around outer =
         let octets = header id c ++ c in
+        let here = extentOf id p w c in
         let stand = standing q id p w c inside rest left wf in
         let show = shown left q id p w c inside rest stand there in
-        one-shown (f .kind) (f .item) p w octets around (λ j u. rowsIn within j u p w) (λ j u. piecesIn within j u octets)
-        (λ j. rows m j up place whole) (λ j. pieces m j up around) n up place whole (show .own) outer
-        (λ j u. inside-pieces within (stand .deeper) (p + length (header id c)) (stand .within) (show .within) j u p w octets (show .own))
-        (λ j. rows-pieces m left (p + w) (stand .further) (show .further) j up place whole around outer)
+        one-shown (f .kind) (f .item) here octets around (λ j u. rowsIn within j u here) (λ j u. piecesIn within j u octets)
+        (λ j. rows m j up extent) (λ j. pieces m j up around) n up extent (show .own) outer
+        (λ j u. inside-pieces within (stand .deeper) (p + length (header id c)) (stand .within) (show .within) j u here octets (show .own))
+        (λ j. rows-pieces m left (p + w) (stand .further) (show .further) j up extent around outer)
     rows-pieces (choose {id = id} {first = p} {whole = w} {c = c} {inside = inside} {rest = rest} name way m)
-        left q wf there n up place whole around outer =
+        left q wf there n up extent around outer =
         let stand = standing q id p w c inside rest left wf in
         let show = shown left q id p w c inside rest stand there in
-        rows-pieces m left (p + w) (stand .further) (show .further) n up place whole around outer
+        rows-pieces m left (p + w) (stand .further) (show .further) n up extent around outer
 
     -- so do the rows inside an element
     pub inside-pieces : {R : ℕ → Bool} {i : Inside} {t : Tree} (within : Within R i t) (left q : ℕ) → WellFormed left q t
-        → StandsAt s q (encode t) → (n up place whole : ℕ) (around : List ℕ) → slice place (place + whole) s ≡ around
-        → piecesOf s (rowsIn within n up place whole) ≡ piecesIn within n up around
-    inside-pieces unseen left q wf there n up place whole around outer = refl
-    inside-pieces (parts m) left q wf there n up place whole around outer = rows-pieces m left q wf there n up place whole around outer
+        → StandsAt s q (encode t) → (n up : ℕ) (extent : Extent) (around : List ℕ) → slice (extent .first) (extent .first + extent .whole) s ≡ around
+        → piecesOf s (rowsIn within n up extent) ≡ piecesIn within n up around
+    inside-pieces unseen left q wf there n up extent around outer = refl
+    inside-pieces (parts m) left q wf there n up extent around outer = rows-pieces m left q wf there n up extent around outer
 
 -- The rows of a batch show the derivation's pieces of its octets.
 pub batch-pieces : {R : ℕ → Bool} {t : Tree} (m : Matches R (content Top) t) (left : ℕ) → WellFormed left 0 t → (s : List ℕ) → encode t ≡ s
@@ -128,4 +131,4 @@ pub batch-pieces : {R : ℕ → Bool} {t : Tree} (m : Matches R (content Top) t)
 unfolding batchRows
 batch-pieces {t = t} m left wf s same =
     let there : StandsAt s 0 (encode t) = rw same (take-length s) in
-    rows-pieces s m left 0 wf there 0 0 0 0 [] refl
+    rows-pieces s m left 0 wf there 0 0 noExtent [] refl

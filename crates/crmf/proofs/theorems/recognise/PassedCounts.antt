@@ -15,6 +15,7 @@ use Rattle.crmf.specs.declared.recognise.Recognition.the-variants.{Rows}
 use Rattle.crmf.specs.declared.explain.tally.Tally.{Tally}
 use Rattle.crmf.specs.declared.explain.Walked.the-variants.{Passed}
 use Rattle.crmf.specs.meaning.Notation.{Top}
+use Rattle.crmf.specs.meaning.Rows.{noExtent}
 use Rattle.crmf.specs.steps.explain.LongIds.{firstLong}
 use Rattle.crmf.specs.steps.grammar.Lines.{start}
 use Rattle.crmf.specs.steps.explain.Walk.{line, rowsBy, withElement, walk, emptyTally}
@@ -77,7 +78,7 @@ pub walk-recognised : (e : ℕ) (s : List ℕ) → walkAt s 0 (length s) ≡ End
 unfolding recognised countsAt emptyTally
 walk-recognised e s ends r passed short =
     let sound = single-is-list s ends in
-    let met-long = ap (firstLong (0, 0)) (rows-whole s (is-list-short depth s sound)) ∙ rows-long (own e) (tree 0 s) emptyTally r (start Top) 0 0 0 0 0 passed in
+    let met-long = ap (firstLong (0, 0)) (rows-whole s (is-list-short depth s sound)) ∙ rows-long (own e) (tree 0 s) emptyTally r (start Top) 0 0 0 noExtent passed in
     let none-long : r .long .whole ≡ 0 = sym (ap (λ (h : ℕ × ℕ). h .0) met-long) ∙ short in
     let same : recognised e s ≡ counts e (start Top) 0 (tree 0 s) = rw (recognised, countsAt, sound) in
     let (n, counted) = walk-counted e (tree 0 s) emptyTally r (start Top) 0 0 passed none-long in

@@ -23,7 +23,7 @@ use Rattle.crmf.specs.declared.explain.Walked.the-variants.{Passed}
 use Rattle.crmf.specs.meaning.Notation.{Top}
 use Rattle.crmf.specs.meaning.Grammar.{content}
 use Rattle.crmf.specs.meaning.Language.{readable, Matches}
-use Rattle.crmf.specs.meaning.Rows.{Row, longId, allShort, batchRows}
+use Rattle.crmf.specs.meaning.Rows.{Row, noExtent, longId, allShort, batchRows}
 use Rattle.crmf.specs.steps.explain.LongIds.{longer, firstLong}
 use Rattle.crmf.specs.steps.grammar.Lines.{start}
 use Rattle.crmf.specs.steps.explain.Walk.{line, closed, rowsBy, withElement, walk, emptyTally}
@@ -132,7 +132,7 @@ module _ (e : ℕ) (s : List ℕ) (octets : Octets s) where
       let same = read-back s (listed .tree) (listed .short) (listed .formed) (listed .encoded) in
       let p = counted-passes e (listed .tree) emptyTally (start Top) 0 0 n (rw same at counted) in
       let m : Matches (own e) (content Top) (listed .tree) = accepts (own e) emptyTally Top 0 (listed .tree) .0 (p .seen, p .passed) in
-      let long = walk-long (own e) Top m emptyTally (p .seen) 0 0 0 0 0 (p .passed) in
+      let long = walk-long (own e) Top m emptyTally (p .seen) 0 0 0 noExtent (p .passed) in
       let batch : ShortBatch e s = record {
         fits = listed .short;
         nest = listed .tree;
@@ -142,7 +142,7 @@ module _ (e : ℕ) (s : List ℕ) (octets : Octets s) where
         batch = m;
         short = sym (long-none (batchRows m)) ∙ ap (λ (h : ℕ × ℕ). eqb (h .0) 0) long ∙ eq-eqb (p .seen .long .whole) 0 (p .short);
       } in
-      (batch, omega (arith, walk-counts (own e) Top m emptyTally (p .seen) 0 0 0 0 0 (p .passed), p .rows))
+      (batch, omega (arith, walk-counts (own e) Top m emptyTally (p .seen) 0 0 0 noExtent (p .passed), p .rows))
 
   -- The rows that are found in such a batch are the derivation's.
   pub batch-rows : (b : ShortBatch e s) → rowsOfInput s ≡ batchRows (b .batch)

@@ -17,7 +17,7 @@ use Rattle.crmf.specs.meaning.Notation.{Top}
 use Rattle.crmf.specs.meaning.Grammar.{content}
 use Rattle.crmf.specs.meaning.Language.{Matches}
 use Rattle.crmf.specs.steps.explain.Walk.{every, emptyTally, countOf}
-use Rattle.crmf.specs.meaning.Rows.{Row, width, numbers, batchRows}
+use Rattle.crmf.specs.meaning.Rows.{Row, noExtent, width, numbers, batchRows}
 pub use Rattle.crmf.specs.meaning.Rows.{Holds}
 use Rattle.crmf.specs.steps.rows.Fill.{written, fits, rowsOfInput, filled}
 use Rattle.crmf.specs.meaning.Lists.{over}
@@ -58,7 +58,7 @@ module _ (s : List ℕ) (short : length s ≤ longest) {R : ℕ → Bool} (m : M
   -- The rows that filling finds in a batch are those of any derivation.
   pub rows-of : rowsOfInput s ≡ batchRows m
   unfolding rowsOfInput batchRows
-  rows-of = rw (rowsOfInput, le-leb _ _ short) (rows-lines Top m 0 0 0 0)
+  rows-of = rw (rowsOfInput, le-leb _ _ short) (rows-lines Top m 0 0 noExtent)
 
   module _ (r : Tally) (passed : countOf s ≡ Passed r) where
     -- They are as many as counting answers.
@@ -66,7 +66,7 @@ module _ (s : List ℕ) (short : length s ≤ longest) {R : ℕ → Bool} (m : M
     unfolding countOf emptyTally batchRows
     rows-counted =
         let walked = rw (countOf, le-leb _ _ short) at passed in
-        omega (arith, walk-counts every Top m emptyTally r 0 0 0 0 0 walked)
+        omega (arith, walk-counts every Top m emptyTally r 0 0 0 noExtent walked)
 
     -- With room for them the table then holds these rows, and its other numbers are as they were.
     pub filled-rows : (old : List ℕ) → fits (r .count) old ≡ true → Holds (batchRows m) (r .count) old (filled s (r .count) old)

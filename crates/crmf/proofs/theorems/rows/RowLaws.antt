@@ -14,7 +14,7 @@ use Rattle.crmf.specs.meaning.Kinds as kinds
 use Rattle.crmf.specs.meaning.Notation.{among, Top, Batch, Inside, Form, once, part, Parts, done, _then_, holding, row}
 use Rattle.crmf.specs.meaning.Grammar.{content}
 use Rattle.crmf.specs.meaning.Language.{partsAfter, OneOf, first, Matches, end, pass, take, choose, Within, unseen, parts}
-use Rattle.crmf.specs.meaning.Rows.{Row, container, rows, rowsIn, batchRows}
+use Rattle.crmf.specs.meaning.Rows.{Row, Extent, extentOf, noExtent, rowWith, container, rows, rowsIn, batchRows}
 use Rattle.crmf.proofs.theorems.grammar.Choices.{never-both}
 use Rattle.crmf.proofs.theorems.values.ValueRules.{way-selected}
 use Rattle.crmf.proofs.theorems.rows.RowsOfLines.{rowsOne}
@@ -89,51 +89,52 @@ mutual
 
   -- The rows of a derivation are in place below a row that leaves room for them, after any others, if the grammar's parts are right there.
   laid : {R : ℕ → Bool} {ps : Parts} {t : Tree} (m : Matches R ps t) (left q : ℕ) → WellFormed left q t → (pre : List Row)
-      (n up place whole : ℕ) (b : Bool) → length pre ≡ n → right b ps ≡ true → Room pre up b q (q + length (encode t))
-      → (early ps ≡ true → Early pre up b place whole q (q + length (encode t)))
-      → Laid pre (rows m n up place whole) (q + length (encode t))
-  laid end left q wf pre n up place whole b sized ok room given = record { fits = tt; before = tt }
-  laid (pass {o = o} {fs = fs} {ps = ps} past m) left q wf pre n up place whole b sized ok room given =
-      laid m left q wf pre n up place whole b sized (right-part b o fs ps ok .past) room (λ y. given (or-true (givesItem fs) (early ps) y))
+      (n up : ℕ) (extent : Extent) (b : Bool) → length pre ≡ n → right b ps ≡ true → Room pre up b q (q + length (encode t))
+      → (early ps ≡ true → Early pre up b extent q (q + length (encode t)))
+      → Laid pre (rows m n up extent) (q + length (encode t))
+  laid end left q wf pre n up extent b sized ok room given = record { fits = tt; before = tt }
+  laid (pass {o = o} {fs = fs} {ps = ps} past m) left q wf pre n up extent b sized ok room given =
+      laid m left q wf pre n up extent b sized (right-part b o fs ps ok .past) room (λ y. given (or-true (givesItem fs) (early ps) y))
   laid (take {o = o} {fs = fs} {ps = ps} {id = id} {first = p} {whole = w} {c = c} {inside = inside} {rest = rest} f among fits read kept within m)
-      left q wf pre n up place whole b sized ok room given =
+      left q wf pre n up extent b sized ok room given =
       let s = standing q id p w c inside rest left wf in
       let e = q + length (encode (element id p w c inside rest)) in
       let h = p + length (header id c) in
       let a = h + length (encode inside) in
+      let here = extentOf id p w c in
       let parts-right = right-part b o fs ps ok in
       let form-right = parts-right .form among in
       let room-here = room-less pre up b q e p e room (omega (arith, s .at)) (omega arith) in
-      one-laid (f .kind) (f .item) p w (λ j u. rowsIn within j u p w) (λ j. rows m j up place whole) pre n up place whole b e h a sized room-here
+      one-laid (f .kind) (f .item) here (λ j u. rowsIn within j u here) (λ j. rows m j up extent) pre n up extent b e h a sized room-here
       (omega (arith, s .ends)) (s .starts) (omega arith) (s .holds) (form-right .item) (form-right .own)
       (λ z.
-      early-less pre up b place whole q e p e (given (or-first (givesItem fs) (early ps) (item-given among z))) (omega (arith, s .at)) (omega arith))
-      (λ new j u long r y. laid-in within (s .deeper) h (s .within) new j u p w (bearsIf (f .kind) (bearsIf (f .item) b)) long (form-right .inside) r
+      early-less pre up b extent q e p e (given (or-first (givesItem fs) (early ps) (item-given among z))) (omega (arith, s .at)) (omega arith))
+      (λ new j u long r y. laid-in within (s .deeper) h (s .within) new j u here (bearsIf (f .kind) (bearsIf (f .item) b)) long (form-right .inside) r
       (λ z. y (form-right .late z)))
       (λ new j long r.
-      subst (λ (x : ℕ). Laid new (rows m j up place whole) x) (s .ends)
-      (laid m left (p + w) (s .further) new j up place whole b long (parts-right .after-form)
+      subst (λ (x : ℕ). Laid new (rows m j up extent) x) (s .ends)
+      (laid m left (p + w) (s .further) new j up extent b long (parts-right .after-form)
       (room-less new up b (p + w) e (p + w) (p + w + length (encode rest)) r (omega arith) (omega (arith, s .ends)))
       (λ y. never-both (early (partsAfter o fs ps)) y (parts-right .late))))
   laid (choose {s = s} {names = ns} {id = id} {first = p} {whole = w} {c = c} {inside = inside} {rest = rest} name way m)
-      left q wf pre n up place whole b sized ok room given =
+      left q wf pre n up extent b sized ok room given =
       let stand = standing q id p w c inside rest left wf in
       let e = q + length (encode (element id p w c inside rest)) in
       let f = p + w + length (encode rest) in
       let (i, is, there) = way-selected s c ns name .0 way in
-      subst (λ (x : ℕ). Laid pre (rows m n up place whole) x) (stand .ends)
-      (laid m left (p + w) (stand .further) pre n up place whole b sized (right-way b id i s ns name ok there)
+      subst (λ (x : ℕ). Laid pre (rows m n up extent) x) (stand .ends)
+      (laid m left (p + w) (stand .further) pre n up extent b sized (right-way b id i s ns name ok there)
       (room-less pre up b q e (p + w) f room (omega (arith, stand .at)) (omega (arith, stand .ends)))
-      (λ y. early-less pre up b place whole q e (p + w) f (given refl) (omega (arith, stand .at)) (omega (arith, stand .ends))))
+      (λ y. early-less pre up b extent q e (p + w) f (given refl) (omega (arith, stand .at)) (omega (arith, stand .ends))))
 
   -- so are the rows inside an element
   laid-in : {R : ℕ → Bool} {i : Inside} {t : Tree} (within : Within R i t) (left q : ℕ) → WellFormed left q t → (pre : List Row)
-      (n up place whole : ℕ) (b : Bool) → length pre ≡ n → rightIn b i ≡ true → Room pre up b q (q + length (encode t))
-      → (earlyIn i ≡ true → Early pre up b place whole q (q + length (encode t)))
-      → Laid pre (rowsIn within n up place whole) (q + length (encode t))
-  laid-in unseen left q wf pre n up place whole b sized ok room given = record { fits = tt; before = tt }
-  laid-in (parts {n = name} m) left q wf pre n up place whole b sized ok room given =
-      laid m left q wf pre n up place whole b sized (right-content b name ok) room given
+      (n up : ℕ) (extent : Extent) (b : Bool) → length pre ≡ n → rightIn b i ≡ true → Room pre up b q (q + length (encode t))
+      → (earlyIn i ≡ true → Early pre up b extent q (q + length (encode t)))
+      → Laid pre (rowsIn within n up extent) (q + length (encode t))
+  laid-in unseen left q wf pre n up extent b sized ok room given = record { fits = tt; before = tt }
+  laid-in (parts {n = name} m) left q wf pre n up extent b sized ok room given =
+      laid m left q wf pre n up extent b sized (right-content b name ok) room given
 
 -- the batch's row
 abbrev pub batchRow : ℕ → Row
@@ -150,9 +151,9 @@ pub only-form : {f g : Form} → OneOf f (g ∷ []) → f ≡ g
 only-form first = refl
 
 -- no parts describe no elements, which have no rows
-nothing-left : {R : ℕ → Bool} {t : Tree} (m : Matches R done t) (n up place whole : ℕ) → (t ≡ none) × (rows m n up place whole ≡ [])
+nothing-left : {R : ℕ → Bool} {t : Tree} (m : Matches R done t) (n up : ℕ) (extent : Extent) → (t ≡ none) × (rows m n up extent ≡ [])
 unfolding rows
-nothing-left end n up place whole = (refl, refl)
+nothing-left end n up extent = (refl, refl)
 
 -- the batch's form
 abbrev pub batchForm : Form
@@ -161,7 +162,7 @@ batchForm = row kinds.batch (holding 0x30 Batch)
 -- the rows of the batch's element begin so
 batch-first : {R : ℕ → Bool} {inside rest : Tree} (id p w : ℕ) (c : List ℕ) (f : Form) → f ≡ batchForm → (within : Within R (f .inside) inside)
     (m : Matches R done rest) (left : ℕ) → WellFormed left 0 (element id p w c inside rest)
-    → Batched (rowsOne (f .kind) (f .item) p w (λ j u. rowsIn within j u p w) (λ j. rows m j 0 0 0) 0 0 0 0)
+    → Batched (rowsOne (f .kind) (f .item) (extentOf id p w c) (λ j u. rowsIn within j u (extentOf id p w c)) (λ j. rows m j 0 noExtent) 0 0 noExtent)
     (length (encode (element id p w c inside rest)))
 unfolding rowsOne container among rightIn early earlyIn content givesItem
 batch-first {inside = inside} {rest = rest} id p w c f same within m left wf =
@@ -169,18 +170,19 @@ batch-first {inside = inside} {rest = rest} id p w c f same within m left wf =
     let size = length (encode (element id p w c inside rest)) in
     let h = p + length (header id c) in
     let a = h + length (encode inside) in
-    let own : Row = record { kind = kinds.batch; first = p; whole = w; parent = 0 } in
-    let inner = rowsIn within 1 0 p w in
+    let extent = extentOf id p w c in
+    let own : Row = rowWith kinds.batch extent 0 in
+    let inner = rowsIn within 1 0 extent in
     let kind : f .kind ≡ kinds.batch = ap (λ (g : Form). g .kind) same in
     let item : f .item ≡ 0 = ap (λ (g : Form). g .item) same in
     let in-form = ap (λ (g : Form). g .inside) same in
-    let after = nothing-left m (1 + length inner) 0 0 0 in
+    let after = nothing-left m (1 + length inner) 0 noExtent in
     let ended : length (encode rest) ≡ 0 = ap (λ (x : Tree). length (encode x)) (after .0) ∙ ap length encode-none in
     let here : own ≡ batchRow size =
     ap₂ (λ (x y : ℕ). record { kind = kinds.batch; first = x; whole = y; parent = 0 }) (s .at) (omega (arith, s .at, s .ends)) in
     let room : Room (own ∷ []) 0 true h a =
     record { there = omega arith; bears = λ e. refl; low = omega (arith, s .starts); high = s .holds; before = (s .starts, tt) } in
-    let in-place = laid-in within (s .deeper) h (s .within) (own ∷ []) 1 0 p w true refl (rw in-form) room
+    let in-place = laid-in within (s .deeper) h (s .within) (own ∷ []) 1 0 extent true refl (rw in-form) room
     (λ y. never-both (earlyIn (f .inside)) y (rw in-form)) in
     record {
       more = inner;
@@ -190,7 +192,7 @@ batch-first {inside = inside} {rest = rest} id p w c f same within m left wf =
 
 -- a batch's rows begin so
 batched : {R : ℕ → Bool} {t : Tree} (m : Matches R (part once (batchForm ∷ []) then done) t) (left : ℕ) → WellFormed left 0 t
-    → Batched (rows m 0 0 0 0) (length (encode t))
+    → Batched (rows m 0 0 noExtent) (length (encode t))
 unfolding rows rowsOne
 batched (pass past m) left wf = absurd past
 batched (take {id = id} {first = p} {whole = w} {c = c} f among fits read kept within m) left wf =

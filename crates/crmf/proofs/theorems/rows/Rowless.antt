@@ -16,8 +16,8 @@ use Rattle.crmf.specs.meaning.Grammar.{content}
 use Rattle.crmf.specs.steps.grammar.Lines.{start, size}
 use Rattle.crmf.specs.steps.grammar.Packed.{judgeCode}
 use Rattle.crmf.specs.steps.explain.Walk.{line, goesOn, findLine}
-use Rattle.crmf.specs.meaning.Rows.{Row}
-use Rattle.crmf.specs.steps.rows.Fill.{goes, rowsFrom, innerRows, rowless}
+use Rattle.crmf.specs.meaning.Rows.{Row, Extent, extentOf}
+use Rattle.crmf.specs.steps.rows.Fill.{goes, rowsFrom, aroundExtent, innerRows, rowless}
 use Rattle.crmf.proofs.theorems.lists.Tests.{all, all-among, either}
 use Rattle.crmf.proofs.theorems.lines.WordFields.{computed}
 use Rattle.crmf.proofs.theorems.lines.Search.{found-kept}
@@ -81,29 +81,30 @@ calm-line k q =
     }
 
 -- from such a line no row comes
-quiet-rows : (t : Tree) (k n up place whole : ℕ) → among quiet k ≡ true → rowsFrom k t n up place whole ≡ []
+quiet-rows : (t : Tree) (k n up : ℕ) (extent : Extent) → among quiet k ≡ true → rowsFrom k t n up extent ≡ []
 unfolding rowsFrom
-quiet-rows none k n up place whole q = refl
-quiet-rows (element id p w c inside rest) k n up place whole q =
-    go (findLine k id) refl (λ j i u. quiet-rows inside j i u p w) (λ j i. quiet-rows rest j i up place whole)
+quiet-rows none k n up extent q = refl
+quiet-rows (element id p w c inside rest) k n up extent q =
+    go (findLine k id) refl (λ j i u. quiet-rows inside j i u (extentOf id p w c)) (λ j i. quiet-rows rest j i up extent)
   where
-    within : (i : ℕ) → among quiet i ≡ true → ((j m u : ℕ) → among quiet j ≡ true → rowsFrom j inside m u p w ≡ [])
-        → (b : Bool) → eqb i 0 ≡ b → (m u : ℕ) → rowsWithin i inside m u p w ≡ []
-    within i s inner true e m u = inner-no-rows i inside m u p w e
-    within i s inner false e m u = inner-rows i inside m u p w e ∙ inner i m u s
+    within : (i : ℕ) → among quiet i ≡ true → ((j m u : ℕ) → among quiet j ≡ true → rowsFrom j inside m u (extentOf id p w c) ≡ [])
+        → (b : Bool) → eqb i 0 ≡ b → (m u : ℕ) → rowsWithin i inside m u (extentOf id p w c) ≡ []
+    within i s inner true e m u = inner-no-rows i inside m u (extentOf id p w c) e
+    within i s inner false e m u = inner-rows i inside m u (extentOf id p w c) e ∙ inner i m u s
 
-    go : (r : FoundLine) → findLine k id ≡ r → ((j m u : ℕ) → among quiet j ≡ true → rowsFrom j inside m u p w ≡ [])
-        → ((j m : ℕ) → among quiet j ≡ true → rowsFrom j rest m up place whole ≡ []) → rowsFrom k (element id p w c inside rest) n up place whole ≡ []
-    go Nowhere e inner later = rows-nowhere k id p w c inside rest n up place whole e
+    go : (r : FoundLine) → findLine k id ≡ r → ((j m u : ℕ) → among quiet j ≡ true → rowsFrom j inside m u (extentOf id p w c) ≡ [])
+        → ((j m : ℕ) → among quiet j ≡ true → rowsFrom j rest m up extent ≡ []) → rowsFrom k (element id p w c inside rest) n up extent ≡ []
+    go Nowhere e inner later = rows-nowhere k id p w c inside rest n up extent e
     go (At m) e inner later =
         let x = calm-line m (found-kept (λ j. among quiet j ≡ true) (λ j s g. calm-line j s .after g) id m k q e) in
         let o = goes (line m .judge) (line m .next) c in
-        let f : ℕ → ℕ → List Row = λ j u. rowsWithin (line m .inside) inside j u p w in
-        let h : ℕ → List Row = λ j. rowsFrom o rest j up place whole in
-        rows-found k id p w c inside rest n up place whole m e
-        ∙ ap (λ (j : ℕ). rowsOne j (line m .item) p w f h n up place whole) (x .kind)
-        ∙ ap (λ (j : ℕ). rowsOne 0 j p w f h n up place whole) (x .item)
-        ∙ rows-one-none p w f h n up place whole (within (line m .inside) (x .inside) inner (eqb (line m .inside) 0) refl)
+        let here = extentOf id p w c in
+        let f : ℕ → ℕ → List Row = λ j u. rowsWithin (line m .inside) inside j u here in
+        let h : ℕ → List Row = λ j. rowsFrom o rest j up extent in
+        rows-found k id p w c inside rest n up extent m e
+        ∙ ap (λ (j : ℕ). rowsOne j (line m .item) here f h n up extent) (x .kind)
+        ∙ ap (λ (j : ℕ). rowsOne 0 j here f h n up extent) (x .item)
+        ∙ rows-one-none here f h n up extent (within (line m .inside) (x .inside) inner (eqb (line m .inside) 0) refl)
         ∙ later o n (x .onward c)
 
 -- an inside without rows is one of these
@@ -117,7 +118,7 @@ inner-none k s p e row a h = go (eqb (line k .inside) 0) refl
   where
     go : (b : Bool) → eqb (line k .inside) 0 ≡ b → innerRows k s p e row a ≡ []
     go true f = rw (innerRows, f)
-    go false f = rw (innerRows, f) (quiet-rows _ (line k .inside) row (a .up) (a .place) (a .whole) (rowless-quiet (line k .inside) h))
+    go false f = rw (innerRows, f) (quiet-rows _ (line k .inside) row (a .up) (aroundExtent a) (rowless-quiet (line k .inside) h))
 
 pub inside-some : (k : ℕ) → rowless k ≡ false → k ≡ 0 → ⊥
 unfolding rowless among

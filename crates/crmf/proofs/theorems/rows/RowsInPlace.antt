@@ -10,7 +10,7 @@ use lib.Dec.{eqb}
 use lib.ListN.{length, getD, take, length-append, List·getD-append}
 use lib.Seq.{getD-at}
 use Rattle.crmf.specs.meaning.Kinds as kinds
-use Rattle.crmf.specs.meaning.Rows.{Row, container, rowIf, parentIf}
+use Rattle.crmf.specs.meaning.Rows.{Row, Extent, container, rowWith, rowIf, parentIf}
 use Rattle.crmf.proofs.theorems.rows.RowsOfLines.{rowsOne, row-none, row-own, parent-none, parent-own}
 use Rattle.crmf.proofs.theorems.grammar.Containers.{bearsIf, bears-none, bears-own, or-second}
 
@@ -106,28 +106,28 @@ pub room-less : (pre : List Row) (up : ℕ) (b : Bool) (q e p f : ℕ) → Room 
 room-less pre up b q e p f r l m =
     subst (λ (l : List Row). Room l up b p f) (append-nil pre) (room-after pre [] up b q e p f r tt l m)
 
--- The room for a row that an element gives the element around it, whose place and length are the row's.
-pub record Early (pre : List Row) (up : ℕ) (b : Bool) (place whole q e : ℕ) : Type 0 where
-  pub room : Room pre up b place (place + whole)
-  pub after : place < q
-  pub ends : e ≤ place + whole
+-- The room for a row that an element gives the element around it, whose extent is the row's.
+pub record Early (pre : List Row) (up : ℕ) (b : Bool) (extent : Extent) (q e : ℕ) : Type 0 where
+  pub room : Room pre up b (extent .first) (extent .first + extent .whole)
+  pub after : extent .first < q
+  pub ends : e ≤ extent .first + extent .whole
 
 -- less of it
-pub early-less : (pre : List Row) (up : ℕ) (b : Bool) (place whole q e p f : ℕ) → Early pre up b place whole q e → q ≤ p → f ≤ e
-    → Early pre up b place whole p f
-early-less pre up b place whole q e p f y l m =
+pub early-less : (pre : List Row) (up : ℕ) (b : Bool) (extent : Extent) (q e p f : ℕ) → Early pre up b extent q e → q ≤ p → f ≤ e
+    → Early pre up b extent p f
+early-less pre up b extent q e p f y l m =
     record { room = y .room; after = omega (arith, y .after); ends = omega (arith, y .ends) }
 
-module _ (pre : List Row) (n : ℕ) (sized : length pre ≡ n) (kind p w up : ℕ) (b : Bool) (e : ℕ) (room : Room pre up b p e)
-    (fits : p + w ≤ e) (right : (eqb kind 0 || b) ≡ true) where
+module _ (pre : List Row) (n : ℕ) (sized : length pre ≡ n) (kind : ℕ) (here : Extent) (up : ℕ) (b : Bool) (e : ℕ) (room : Room pre up b (here .first) e)
+    (fits : here .first + here .whole ≤ e) (right : (eqb kind 0 || b) ≡ true) where
   -- an element's own row is in place
-  row-laid : (q : ℕ) → p < q → Laid pre (rowIf kind p w up) q
+  row-laid : (q : ℕ) → here .first < q → Laid pre (rowIf kind here up) q
   row-laid q l = go (eqb kind 0) refl
     where
-      go : (c : Bool) → eqb kind 0 ≡ c → Laid pre (rowIf kind p w up) q
-      go true z = rw (row-none kind p w up z) (record { fits = tt; before = tt })
+      go : (c : Bool) → eqb kind 0 ≡ c → Laid pre (rowIf kind here up) q
+      go true z = rw (row-none kind here up z) (record { fits = tt; before = tt })
       go false z =
-          let fit : Fit pre (record { kind = kind; first = p; whole = w; parent = up }) =
+          let fit : Fit pre (rowWith kind here up) =
           record {
             parented = room .there;
             held = room .bears (or-second (eqb kind 0) b right z);
@@ -135,18 +135,18 @@ module _ (pre : List Row) (n : ℕ) (sized : length pre ≡ n) (kind p w up : �
             high = omega (arith, room .high);
             ordered = room .before;
           } in
-          rw (row-own kind p w up z) (record { fits = (fit, tt); before = (l, tt) })
+          rw (row-own kind here up z) (record { fits = (fit, tt); before = (l, tt) })
 
   -- and leaves room inside the element
-  row-room : (q f : ℕ) → p < q → f ≤ p + w → Room (pre ++ rowIf kind p w up) (parentIf kind n up) (bearsIf kind b) q f
+  row-room : (q f : ℕ) → here .first < q → f ≤ here .first + here .whole → Room (pre ++ rowIf kind here up) (parentIf kind n up) (bearsIf kind b) q f
   row-room q f l m = go (eqb kind 0) refl
     where
-      go : (c : Bool) → eqb kind 0 ≡ c → Room (pre ++ rowIf kind p w up) (parentIf kind n up) (bearsIf kind b) q f
+      go : (c : Bool) → eqb kind 0 ≡ c → Room (pre ++ rowIf kind here up) (parentIf kind n up) (bearsIf kind b) q f
       go true z =
-          rw (row-none kind p w up z, parent-none kind n up z, bears-none kind b z)
-          (room-after pre [] up b p e q f room tt (omega arith) (omega arith))
+          rw (row-none kind here up z, parent-none kind n up z, bears-none kind b z)
+          (room-after pre [] up b (here .first) e q f room tt (omega arith) (omega arith))
       go false z =
-          let r : Row = record { kind = kind; first = p; whole = w; parent = up } in
+          let r : Row = rowWith kind here up in
           let same : getD (pre ++ (r ∷ [])) n noRow ≡ r = getD-at pre r [] noRow n sized in
           let new : Room (pre ++ (r ∷ [])) n (container kind) q f =
           record {
@@ -154,68 +154,72 @@ module _ (pre : List Row) (n : ℕ) (sized : length pre ≡ n) (kind p w up : �
             bears = rw same (λ c. c);
             low = rw same (omega arith);
             high = rw same m;
-            before = before-append q pre (r ∷ []) (before-later p q pre (omega arith) (room .before)) (l, tt);
+            before = before-append q pre (r ∷ []) (before-later (here .first) q pre (omega arith) (room .before)) (l, tt);
           } in
-          rw (row-own kind p w up z, parent-own kind n up z, bears-own kind b z) new
+          rw (row-own kind here up z, parent-own kind n up z, bears-own kind b z) new
 
   -- if it has none, there is room inside it for a row that the elements there give it
-  row-early : (q f : ℕ) → p < q → f ≤ p + w → eqb kind 0 ≡ true
-      → Early (pre ++ rowIf kind p w up) (parentIf kind n up) (bearsIf kind b) p w q f
+  row-early : (q f : ℕ) → here .first < q → f ≤ here .first + here .whole → eqb kind 0 ≡ true
+      → Early (pre ++ rowIf kind here up) (parentIf kind n up) (bearsIf kind b) here q f
   row-early q f l m z =
-      rw (row-none kind p w up z, parent-none kind n up z, bears-none kind b z)
-      (record { room = room-after pre [] up b p e p (p + w) room tt (omega arith) fits; after = l; ends = m })
+      rw (row-none kind here up z, parent-none kind n up z, bears-none kind b z)
+      (record { room = room-after pre [] up b (here .first) e (here .first) (here .first + here .whole) room tt (omega arith) fits; after = l; ends = m })
 
-module _ (pre : List Row) (n : ℕ) (sized : length pre ≡ n) (item place whole up : ℕ) (b : Bool) (p e : ℕ) (room : Room pre up b p e)
-    (given : eqb item 0 ≡ false → Early pre up b place whole p e) (right : (eqb item 0 || b) ≡ true) where
+module _ (pre : List Row) (n : ℕ) (sized : length pre ≡ n) (item : ℕ) (extent : Extent) (up : ℕ) (b : Bool) (p e : ℕ) (room : Room pre up b p e)
+    (given : eqb item 0 ≡ false → Early pre up b extent p e) (right : (eqb item 0 || b) ≡ true) where
   -- the row that an element gives the element around it is in place
-  item-laid : Laid pre (rowIf item place whole up) p
+  item-laid : Laid pre (rowIf item extent up) p
   item-laid = go (eqb item 0) refl
     where
-      go : (c : Bool) → eqb item 0 ≡ c → Laid pre (rowIf item place whole up) p
-      go true z = rw (row-none item place whole up z) (record { fits = tt; before = tt })
+      go : (c : Bool) → eqb item 0 ≡ c → Laid pre (rowIf item extent up) p
+      go true z = rw (row-none item extent up z) (record { fits = tt; before = tt })
       go false z =
           let y = given z in
-          row-laid pre n sized item place whole up b (place + whole) (y .room) (omega arith) right p (y .after)
+          row-laid pre n sized item extent up b (extent .first + extent .whole) (y .room) (omega arith) right p (y .after)
 
   -- and leaves room for the element
-  item-room : Room (pre ++ rowIf item place whole up) (parentIf item n up) (bearsIf item b) p e
+  item-room : Room (pre ++ rowIf item extent up) (parentIf item n up) (bearsIf item b) p e
   item-room = go (eqb item 0) refl
     where
-      go : (c : Bool) → eqb item 0 ≡ c → Room (pre ++ rowIf item place whole up) (parentIf item n up) (bearsIf item b) p e
+      go : (c : Bool) → eqb item 0 ≡ c → Room (pre ++ rowIf item extent up) (parentIf item n up) (bearsIf item b) p e
       go true z =
-          rw (row-none item place whole up z, parent-none item n up z, bears-none item b z)
+          rw (row-none item extent up z, parent-none item n up z, bears-none item b z)
           (room-after pre [] up b p e p e room tt (omega arith) (omega arith))
       go false z =
           let y = given z in
-          row-room pre n sized item place whole up b (place + whole) (y .room) (omega arith) right p e (y .after) (y .ends)
+          row-room pre n sized item extent up b (extent .first + extent .whole) (y .room) (omega arith) right p e (y .after) (y .ends)
 
 -- An element's rows, those inside it and those after it are in place, if there is room for them: h is where its inside starts and a where
 -- that ends.
-pub one-laid : (kind item p w : ℕ) (inner : ℕ → ℕ → List Row) (later : ℕ → List Row) (pre : List Row) (n up place whole : ℕ) (b : Bool)
-    (e h a : ℕ) → length pre ≡ n → Room pre up b p e → p + w ≤ e → p < h → h ≤ a → a ≤ p + w → (eqb item 0 || b) ≡ true
-    → (eqb kind 0 || bearsIf item b) ≡ true → (eqb item 0 ≡ false → Early pre up b place whole p e)
+pub one-laid : (kind item : ℕ) (here : Extent) (inner : ℕ → ℕ → List Row) (later : ℕ → List Row) (pre : List Row) (n up : ℕ) (extent : Extent) (b : Bool)
+    (e h a : ℕ) → (let p = here .first in
+    let w = here .whole in
+    length pre ≡ n → Room pre up b p e → p + w ≤ e → p < h → h ≤ a → a ≤ p + w → (eqb item 0 || b) ≡ true
+    → (eqb kind 0 || bearsIf item b) ≡ true → (eqb item 0 ≡ false → Early pre up b extent p e)
     → ((new : List Row) (j u : ℕ) → length new ≡ j → Room new u (bearsIf kind (bearsIf item b)) h a
-    → (eqb kind 0 ≡ true → Early new u (bearsIf kind (bearsIf item b)) p w h a) → Laid new (inner j u) a)
+    → (eqb kind 0 ≡ true → Early new u (bearsIf kind (bearsIf item b)) here h a) → Laid new (inner j u) a)
     → ((new : List Row) (j : ℕ) → length new ≡ j → Room new up b (p + w) e → Laid new (later j) e)
-    → Laid pre (rowsOne kind item p w inner later n up place whole) e
+    → Laid pre (rowsOne kind item here inner later n up extent) e)
 unfolding rowsOne
-one-laid kind item p w inner later pre n up place whole b e h a sized room ends starts goes holds item-right own-right given each further =
-    let around = rowIf item place whole up in
+one-laid kind item here inner later pre n up extent b e h a sized room ends starts goes holds item-right own-right given each further =
+    let p = here .first in
+    let w = here .whole in
+    let around = rowIf item extent up in
     let above = parentIf item n up in
     let below = bearsIf item b in
-    let own = rowIf kind p w above in
+    let own = rowIf kind here above in
     let next = n + length around in
     let first = pre ++ around in
     let second = first ++ own in
     let first-sized : length first ≡ next = omega (arith, length-append pre around) in
     let second-sized : length second ≡ next + length own = omega (arith, length-append first own) in
-    let laid-item = item-laid pre n sized item place whole up b p e room given item-right in
-    let room-item = item-room pre n sized item place whole up b p e room given item-right in
-    let laid-own = row-laid first next first-sized kind p w above below e room-item ends own-right h starts in
-    let room-own = row-room first next first-sized kind p w above below e room-item ends own-right h a starts holds in
+    let laid-item = item-laid pre n sized item extent up b p e room given item-right in
+    let room-item = item-room pre n sized item extent up b p e room given item-right in
+    let laid-own = row-laid first next first-sized kind here above below e room-item ends own-right h starts in
+    let room-own = row-room first next first-sized kind here above below e room-item ends own-right h a starts holds in
     let u = parentIf kind next above in
     let within = inner (next + length own) u in
-    let early-own = row-early first next first-sized kind p w above below e room-item ends own-right h a starts holds in
+    let early-own = row-early first next first-sized kind here above below e room-item ends own-right h a starts holds in
     let laid-inner = each second (next + length own) u second-sized room-own early-own in
     let third = second ++ within in
     let third-sized : length third ≡ next + length own + length within = omega (arith, length-append second within) in

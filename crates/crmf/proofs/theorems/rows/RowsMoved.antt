@@ -14,7 +14,7 @@ use Rattle.crmf.specs.meaning.Grammar.{content}
 use Rattle.crmf.specs.meaning.Language.{Matches, end, pass, take, choose, Within, unseen, parts}
 use Rattle.crmf.specs.steps.grammar.Lines.{start}
 use Rattle.crmf.specs.steps.explain.Walk.{line, findLine}
-use Rattle.crmf.specs.meaning.Rows.{Row, rowIf, rows}
+use Rattle.crmf.specs.meaning.Rows.{Row, Extent, extentOf, rowIf, rows}
 use Rattle.crmf.specs.steps.rows.Fill.{goes, rowsFrom}
 use Rattle.crmf.proofs.theorems.rows.RowsOfLines.{rowsOne, rowsWithin, inner-no-rows, inner-rows, rows-nowhere, rows-found, row-none, row-own, rows-lines}
 
@@ -22,61 +22,66 @@ use Rattle.crmf.proofs.theorems.rows.RowsOfLines.{rowsOne, rowsWithin, 
 abbrev pub shift : ℕ → Row → Row
 shift d r = record { kind = r .kind; first = d + r .first; whole = r .whole; parent = r .parent }
 
+-- an extent moved so
+abbrev pub shifted : ℕ → Extent → Extent
+shifted d x = record { first = d + x .first; whole = x .whole }
+
 -- an element's own row moves with it
-row-moved : (d kind p w up : ℕ) → rowIf kind (d + p) w up ≡ map (shift d) (rowIf kind p w up)
-row-moved d kind p w up = go (eqb kind 0) refl
+row-moved : (d kind : ℕ) (here : Extent) (up : ℕ) → rowIf kind (shifted d here) up ≡ map (shift d) (rowIf kind here up)
+row-moved d kind here up = go (eqb kind 0) refl
   where
-    go : (b : Bool) → eqb kind 0 ≡ b → rowIf kind (d + p) w up ≡ map (shift d) (rowIf kind p w up)
-    go true e = row-none kind (d + p) w up e ∙ sym (ap (map (shift d)) (row-none kind p w up e))
-    go false e = row-own kind (d + p) w up e ∙ sym (ap (map (shift d)) (row-own kind p w up e))
+    go : (b : Bool) → eqb kind 0 ≡ b → rowIf kind (shifted d here) up ≡ map (shift d) (rowIf kind here up)
+    go true e = row-none kind (shifted d here) up e ∙ sym (ap (map (shift d)) (row-none kind here up e))
+    go false e = row-own kind (shifted d here) up e ∙ sym (ap (map (shift d)) (row-own kind here up e))
 
 -- an element's rows move with those inside it and after it
-rows-one-moved : (d kind item p w : ℕ) (f g : ℕ → ℕ → List Row) (h i : ℕ → List Row) (n up place whole : ℕ)
+rows-one-moved : (d kind item : ℕ) (here : Extent) (f g : ℕ → ℕ → List Row) (h i : ℕ → List Row) (n up : ℕ) (extent : Extent)
     → ((j u : ℕ) → g j u ≡ map (shift d) (f j u)) → ((j : ℕ) → i j ≡ map (shift d) (h j))
-    → rowsOne kind item (d + p) w g i n up (d + place) whole ≡ map (shift d) (rowsOne kind item p w f h n up place whole)
+    → rowsOne kind item (shifted d here) g i n up (shifted d extent) ≡ map (shift d) (rowsOne kind item here f h n up extent)
 unfolding rowsOne
-rows-one-moved d kind item p w f g h i n up place whole inner later =
+rows-one-moved d kind item here f g h i n up extent inner later =
     simp (row-moved d, length-map, inner, later, map-append)
 
 -- the rows inside an element move with it
-inner-moved : (d i : ℕ) (inside : Tree) (n up place whole : ℕ)
-    → rowsFrom i (moved d inside) n up (d + place) whole ≡ map (shift d) (rowsFrom i inside n up place whole)
-    → rowsWithin i (moved d inside) n up (d + place) whole ≡ map (shift d) (rowsWithin i inside n up place whole)
-inner-moved d i inside n up place whole each = go (eqb i 0) refl
+inner-moved : (d i : ℕ) (inside : Tree) (n up : ℕ) (extent : Extent)
+    → rowsFrom i (moved d inside) n up (shifted d extent) ≡ map (shift d) (rowsFrom i inside n up extent)
+    → rowsWithin i (moved d inside) n up (shifted d extent) ≡ map (shift d) (rowsWithin i inside n up extent)
+inner-moved d i inside n up extent each = go (eqb i 0) refl
   where
-    go : (b : Bool) → eqb i 0 ≡ b → rowsWithin i (moved d inside) n up (d + place) whole ≡ map (shift d) (rowsWithin i inside n up place whole)
+    go : (b : Bool) → eqb i 0 ≡ b → rowsWithin i (moved d inside) n up (shifted d extent) ≡ map (shift d) (rowsWithin i inside n up extent)
     go true e =
-        inner-no-rows i (moved d inside) n up (d + place) whole e ∙ sym (ap (map (shift d)) (inner-no-rows i inside n up place whole e))
+        inner-no-rows i (moved d inside) n up (shifted d extent) e ∙ sym (ap (map (shift d)) (inner-no-rows i inside n up extent e))
     go false e =
-        inner-rows i (moved d inside) n up (d + place) whole e ∙ each ∙ sym (ap (map (shift d)) (inner-rows i inside n up place whole e))
+        inner-rows i (moved d inside) n up (shifted d extent) e ∙ each ∙ sym (ap (map (shift d)) (inner-rows i inside n up extent e))
 
 -- The rows from a line on of elements moved by some bytes are their rows, moved.
-pub rows-from-moved : (d : ℕ) (t : Tree) (k n up place whole : ℕ)
-    → rowsFrom k (moved d t) n up (d + place) whole ≡ map (shift d) (rowsFrom k t n up place whole)
+pub rows-from-moved : (d : ℕ) (t : Tree) (k n up : ℕ) (extent : Extent)
+    → rowsFrom k (moved d t) n up (shifted d extent) ≡ map (shift d) (rowsFrom k t n up extent)
 unfolding rowsFrom
-rows-from-moved d none k n up place whole = ap (λ (t : Tree). rowsFrom k t n up (d + place) whole) (moved-none d)
-rows-from-moved d (element id p w c inside rest) k n up place whole =
-    ap (λ (t : Tree). rowsFrom k t n up (d + place) whole) (moved-element d id p w c inside rest)
-    ∙ go (λ i j u. rows-from-moved d inside i j u p w) (λ i j. rows-from-moved d rest i j up place whole) (findLine k id) refl
+rows-from-moved d none k n up extent = ap (λ (t : Tree). rowsFrom k t n up (shifted d extent)) (moved-none d)
+rows-from-moved d (element id p w c inside rest) k n up extent =
+    ap (λ (t : Tree). rowsFrom k t n up (shifted d extent)) (moved-element d id p w c inside rest)
+    ∙ go (λ i j u. rows-from-moved d inside i j u (extentOf id p w c)) (λ i j. rows-from-moved d rest i j up extent) (findLine k id) refl
   where
-    go : ((i j u : ℕ) → rowsFrom i (moved d inside) j u (d + p) w ≡ map (shift d) (rowsFrom i inside j u p w))
-        → ((i j : ℕ) → rowsFrom i (moved d rest) j up (d + place) whole ≡ map (shift d) (rowsFrom i rest j up place whole))
+    go : ((i j u : ℕ) → rowsFrom i (moved d inside) j u (extentOf id (d + p) w c) ≡ map (shift d) (rowsFrom i inside j u (extentOf id p w c)))
+        → ((i j : ℕ) → rowsFrom i (moved d rest) j up (shifted d extent) ≡ map (shift d) (rowsFrom i rest j up extent))
         → (f : FoundLine) → findLine k id ≡ f
-        → rowsFrom k (element id (d + p) w c (moved d inside) (moved d rest)) n up (d + place) whole
-        ≡ map (shift d) (rowsFrom k (element id p w c inside rest) n up place whole)
+        → rowsFrom k (element id (d + p) w c (moved d inside) (moved d rest)) n up (shifted d extent)
+        ≡ map (shift d) (rowsFrom k (element id p w c inside rest) n up extent)
     go each further Nowhere e =
-        rows-nowhere k id (d + p) w c (moved d inside) (moved d rest) n up (d + place) whole e
-        ∙ sym (ap (map (shift d)) (rows-nowhere k id p w c inside rest n up place whole e))
+        rows-nowhere k id (d + p) w c (moved d inside) (moved d rest) n up (shifted d extent) e
+        ∙ sym (ap (map (shift d)) (rows-nowhere k id p w c inside rest n up extent e))
     go each further (At m) e =
         let x = line m in
         let o = goes (x .judge) (x .next) c in
-        rows-found k id (d + p) w c (moved d inside) (moved d rest) n up (d + place) whole m e
-        ∙ rows-one-moved d (x .kind) (x .item) p w (λ j u. rowsWithin (x .inside) inside j u p w)
-        (λ j u. rowsWithin (x .inside) (moved d inside) j u (d + p) w) (λ j. rowsFrom o rest j up place whole)
-        (λ j. rowsFrom o (moved d rest) j up (d + place) whole) n up place whole
-        (λ j u. inner-moved d (x .inside) inside j u p w (each (x .inside) j u))
+        let here = extentOf id p w c in
+        rows-found k id (d + p) w c (moved d inside) (moved d rest) n up (shifted d extent) m e
+        ∙ rows-one-moved d (x .kind) (x .item) here (λ j u. rowsWithin (x .inside) inside j u here)
+        (λ j u. rowsWithin (x .inside) (moved d inside) j u (shifted d here)) (λ j. rowsFrom o rest j up extent)
+        (λ j. rowsFrom o (moved d rest) j up (shifted d extent)) n up extent
+        (λ j u. inner-moved d (x .inside) inside j u here (each (x .inside) j u))
         (further o)
-        ∙ sym (ap (map (shift d)) (rows-found k id p w c inside rest n up place whole m e))
+        ∙ sym (ap (map (shift d)) (rows-found k id p w c inside rest n up extent m e))
 
 mutual
   -- Some parts describe elements that are moved by some bytes, if they describe the elements.
@@ -96,8 +101,8 @@ mutual
 
 -- Rows move with the bytes: a derivation of the moved elements has the rows of a derivation of the elements, moved.
 pub rows-moved : {R Q : ℕ → Bool} (name : Name) (d : ℕ) (t : Tree) (m : Matches R (content name) t) (e : Matches Q (content name) (moved d t))
-    (n up place whole : ℕ) → rows e n up (d + place) whole ≡ map (shift d) (rows m n up place whole)
-rows-moved name d t m e n up place whole =
-    sym (rows-lines name e n up (d + place) whole)
-    ∙ rows-from-moved d t (start name) n up place whole
-    ∙ ap (map (shift d)) (rows-lines name m n up place whole)
+    (n up : ℕ) (extent : Extent) → rows e n up (shifted d extent) ≡ map (shift d) (rows m n up extent)
+rows-moved name d t m e n up extent =
+    sym (rows-lines name e n up (shifted d extent))
+    ∙ rows-from-moved d t (start name) n up extent
+    ∙ ap (map (shift d)) (rows-lines name m n up extent)

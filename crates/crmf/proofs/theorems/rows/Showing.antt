@@ -22,49 +22,55 @@ use Rattle.crmf.specs.meaning.Notation.{order}
 use Rattle.crmf.specs.steps.grammar.Lines.{start, startsFrom}
 use Rattle.crmf.specs.steps.explain.Walk.{line, findLine}
 use Rattle.crmf.specs.steps.grammar.Fitting.{FitsAt}
-use Rattle.crmf.specs.meaning.Rows.{Row, rowIf, parentIf, width}
-use Rattle.crmf.specs.steps.rows.Fill.{goes, rowsFrom, rowsAt, ownRows, rowAbove, innerRows, written, fits, rowsOfInput, filled, Wrote, Going, Shown, Inner, aroundInside}
+use Rattle.crmf.specs.meaning.Rows.{Row, Extent, extentOf, noExtent, rowIf, parentIf, width}
+use Rattle.crmf.specs.steps.rows.Fill.{goes, rowsFrom, aroundExtent, fitExtent, rowsAt, ownRows, rowAbove, innerRows, written, fits, rowsOfInput, filled, Wrote, Going, Shown, Inner, aroundInside}
 use Rattle.crmf.proofs.theorems.lines.Fitting.{fitted, fit-read, fit-order}
 use Rattle.crmf.proofs.theorems.explain.Walking.{tree-read, found-constructed, at-end}
 use Rattle.crmf.proofs.theorems.rows.RowsOfLines.{rowsOne, rowsWithin, inner-no-rows, rows-nowhere, rows-found}
 use Rattle.crmf.proofs.theorems.rows.Writing.{rows-given, wrote-none, wrote-two}
 
--- the element around the inside of an element
-abbrev here : ℕ → ℕ → ℕ → ℕ → Around → Around
-here n p w row a = record { up = rowAbove (line n) row (a .up); place = p; whole = w }
+-- the extent of an element that fits a line, and the element around its inside, by its first byte
+abbrev fitted-at : ℕ → Fit → Extent
+fitted-at p f = record { first = p; whole = f .end - p }
+
+abbrev here : ℕ → ℕ → Fit → ℕ → Around → Around
+here n p f row a = record { up = rowAbove (line n) row (a .up); place = p; whole = f .end - p }
 
 -- The rows of one element of a tree: its own, those inside it, and those after it, from a number on and below a row.
 module _ (k id p w : ℕ) (c : List ℕ) (inside rest : Tree) (row : ℕ) (a : Around) (n : ℕ) where
+  abbrev extent : Extent
+  extent = extentOf id p w c
+
   tail : ℕ → ℕ → List Row
   tail i u =
-      rowsWithin (line n .inside) inside i u p w
-      ++ rowsFrom (goes (line n .judge) (line n .next) c) rest (i + length (rowsWithin (line n .inside) inside i u p w)) (a .up) (a .place) (a .whole)
+      rowsWithin (line n .inside) inside i u extent
+      ++ rowsFrom (goes (line n .judge) (line n .next) c) rest (i + length (rowsWithin (line n .inside) inside i u extent)) (a .up) (aroundExtent a)
 
-  rows-split : findLine k id ≡ At n → rowsFrom k (element id p w c inside rest) row (a .up) (a .place) (a .whole)
-      ≡ ownRows (line n) p w row a ++ tail (row + length (ownRows (line n) p w row a)) (rowAbove (line n) row (a .up))
+  rows-split : findLine k id ≡ At n → rowsFrom k (element id p w c inside rest) row (a .up) (aroundExtent a)
+      ≡ ownRows (line n) extent row a ++ tail (row + length (ownRows (line n) extent row a)) (rowAbove (line n) row (a .up))
   unfolding rowsOne tail
   rows-split e =
-      let item = rowIf (line n .item) (a .place) (a .whole) (a .up) in
+      let item = rowIf (line n .item) (aroundExtent a) (a .up) in
       let above = parentIf (line n .item) row (a .up) in
-      let own = rowIf (line n .kind) p w above in
+      let own = rowIf (line n .kind) extent above in
       let i : row + length item + length own ≡ row + length (item ++ own) = omega (arith, length-append item own) in
       let u : parentIf (line n .kind) (row + length item) above ≡ rowAbove (line n) row (a .up) =
-      ap (λ (m : ℕ). parentIf (line n .kind) (row + m) above) (rows-given (line n .item) (a .place) (a .whole) (a .up)) in
-      rows-found k id p w c inside rest row (a .up) (a .place) (a .whole) n e
+      ap (λ (m : ℕ). parentIf (line n .kind) (row + m) above) (rows-given (line n .item) (aroundExtent a) (a .up)) in
+      rows-found k id p w c inside rest row (a .up) (aroundExtent a) n e
       ∙ sym (append-assoc item own (tail (row + length item + length own) (parentIf (line n .kind) (row + length item) above)))
       ∙ ap (λ (l : List Row). (item ++ own) ++ l) (ap₂ tail i u)
 
 -- an inside that has rows is the tree's
-inside-found : (k id n i u p w : ℕ) (t : Tree) → findLine k id ≡ At n
-    → rowsWithin (line n .inside) (elim (constructed id) [ true ↦ t | false ↦ none ]) i u p w ≡ rowsWithin (line n .inside) t i u p w
-inside-found k id n i u p w t e = by-inside (eqb (line n .inside) 0) refl
+inside-found : (k id n i u : ℕ) (extent : Extent) (t : Tree) → findLine k id ≡ At n
+    → rowsWithin (line n .inside) (elim (constructed id) [ true ↦ t | false ↦ none ]) i u extent ≡ rowsWithin (line n .inside) t i u extent
+inside-found k id n i u extent t e = by-inside (eqb (line n .inside) 0) refl
   where
     by-inside : (b : Bool) → eqb (line n .inside) 0 ≡ b
-        → rowsWithin (line n .inside) (elim (constructed id) [ true ↦ t | false ↦ none ]) i u p w ≡ rowsWithin (line n .inside) t i u p w
-    by-inside true f = inner-no-rows (line n .inside) _ i u p w f ∙ sym (inner-no-rows (line n .inside) t i u p w f)
+        → rowsWithin (line n .inside) (elim (constructed id) [ true ↦ t | false ↦ none ]) i u extent ≡ rowsWithin (line n .inside) t i u extent
+    by-inside true f = inner-no-rows (line n .inside) _ i u extent f ∙ sym (inner-no-rows (line n .inside) t i u extent f)
     by-inside false f =
         let same : (elim (constructed id) [ true ↦ t | false ↦ none ]) ≡ t = rw (found-constructed k id n e f) in
-        ap (λ (l : Tree). rowsWithin (line n .inside) l i u p w) same
+        ap (λ (l : Tree). rowsWithin (line n .inside) l i u extent) same
 
 -- after the last element there are no rows
 pub shown-end : (s : List ℕ) (q : Spot) (e : ℕ) (a : Around) → q .at ≡ e → rowsAt s q e a ≡ []
@@ -79,7 +85,7 @@ module _ (s : List ℕ) (q : Spot) (z : Bounds) (some : q .at < z .end) (fits : 
   shown-misfit old few f =
       let none : rowsAt s q (z .end) a ≡ [] =
       rw (tree-read s (q .at) (z .end) some fits high (readAt s (q .at) (z .end)) refl)
-      (rows-nowhere (q .state) _ (q .at) _ _ _ _ (q .row) (a .up) (a .place) (a .whole) f) in
+      (rows-nowhere (q .state) _ (q .at) _ _ _ _ (q .row) (a .up) (aroundExtent a) f) in
       record {
         going = record {
           these = [];
@@ -101,11 +107,11 @@ module _ (s : List ℕ) (q : Spot) (z : Bounds) (some : q .at < z .end) (fits : 
     octets = slice (f .content) (f .end) s
 
     abbrev own-of : List Row
-    own-of = ownRows (line n) (q .at) (f .end - q .at) (q .row) a
+    own-of = ownRows (line n) (fitted-at (q .at) f) (q .row) a
 
     -- the rows inside it, by the number of the first
     abbrev inner-of : ℕ → List Row
-    inner-of i = innerRows n s (f .content) (f .end) i (here n (q .at) (f .end - q .at) (q .row) a)
+    inner-of i = innerRows n s (f .content) (f .end) i (here n (q .at) f (q .row) a)
 
     -- the rows after it, by the line and the number of the first
     abbrev rest-of : ℕ → ℕ → List Row
@@ -123,15 +129,15 @@ module _ (s : List ℕ) (q : Spot) (z : Bounds) (some : q .at < z .end) (fits : 
         let i = q .row + length own-of in
         let u = rowAbove (line n) (q .row) (a .up) in
         let onward = goes (line n .judge) (line n .next) octets in
-        let same : rowsWithin (line n .inside) kept i u p (f .end - p) ≡ inner-of i = inside-found (q .state) _ n i u p (f .end - p) t (h .found) in
+        let same : rowsWithin (line n .inside) kept i u (fitted-at p f) ≡ inner-of i = inside-found (q .state) _ n i u (fitted-at p f) t (h .found) in
         rw (tree-read s p (z .end) some fits high (fitted s p (z .end) f) (fit-read s p (z .end) (q .state) f h))
         (rows-split (q .state) _ p (f .end - p) octets kept rest (q .row) a n (h .found)
-        ∙ ap (λ (l : List Row). own-of ++ (l ++ rowsFrom onward rest (i + length l) (a .up) (a .place) (a .whole))) same
+        ∙ ap (λ (l : List Row). own-of ++ (l ++ rowsFrom onward rest (i + length l) (a .up) (aroundExtent a))) same
         ∙ sym (append-assoc own-of (inner-of i) (rest-of onward (i + length (inner-of i)))))
 
     -- The rows of the element are written: its own, then those inside it.
     pub shown-step : (old mid new : List ℕ) (m b st : ℕ)
-        → Wrote (ownRows (line (h .number)) (f .first) (f .end - f .first) (q .row) a) (q .row) (z .limit) old m mid
+        → Wrote (ownRows (line (h .number)) (fitExtent f) (q .row) a) (q .row) (z .limit) old m mid
         → Inner (h .number) s f (record { up = a .up; row = q .row; next = m }) (z .limit) mid b new
         → st ≡ goes (line (h .number) .judge) (line (h .number) .next) (slice (f .content) (f .end) s)
         → width * z .limit ≤ length old → b ≤ 2 * f .end
@@ -139,9 +145,9 @@ module _ (s : List ℕ) (q : Spot) (z : Bounds) (some : q .at < z .end) (fits : 
     shown-step old mid new m b st own inner onward room few =
         let order = fit-order s (q .at) (z .end) (q .state) f h some fits high in
         let outer : Wrote own-of (q .row) (z .limit) old m mid =
-        subst (λ (p : ℕ). Wrote (ownRows (line n) p (f .end - p) (q .row) a) (q .row) (z .limit) old m mid) (h .first) own in
+        subst (λ (p : ℕ). Wrote (ownRows (line n) (fitted-at p f) (q .row) a) (q .row) (z .limit) old m mid) (h .first) own in
         let within-it : Wrote (inner-of m) m (z .limit) mid b new =
-        subst (λ (p : ℕ). Wrote (innerRows n s (f .content) (f .end) m (here n p (f .end - p) (q .row) a)) m (z .limit) mid b new) (h .first) inner in
+        subst (λ (p : ℕ). Wrote (innerRows n s (f .content) (f .end) m (here n p f (q .row) a)) m (z .limit) mid b new) (h .first) inner in
         let i = q .row + length own-of in
         let same : inner-of m ≡ inner-of i = ap inner-of (outer .next-row) in
         let size = ap length same in
@@ -206,5 +212,5 @@ module _ (s : List ℕ) (count : ℕ) (old : List ℕ) where
     unfolding rowsOfInput start startsFrom order
     fill-rows short new e =
         let all : rowsOfInput s ≡ rowsAt s (record { state = 1; at = 0; row = 0 }) (length s) (record { up = 0; place = 0; whole = 0 }) =
-        rw (rowsOfInput, le-leb _ _ short) (ap (λ (l : List ℕ). rowsFrom 1 (tree 0 l) 0 0 0 0) (sym (take-length s))) in
+        rw (rowsOfInput, le-leb _ _ short) (ap (λ (l : List ℕ). rowsFrom 1 (tree 0 l) 0 0 noExtent) (sym (take-length s))) in
         (fill-all .0, e ∙ ap (written old 0 count) (sym all) ∙ fill-all .1)

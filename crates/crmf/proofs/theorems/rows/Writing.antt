@@ -12,9 +12,9 @@ use lib.Seq.{take-all, take-nil, take-at, drop-at, drop-drop, length-take-le, se
 use lib.Dec.{eqb}
 use borrow.Author.Tests.{eq-eqb, ne-eqb}
 use Rattle.crmf.specs.declared.rows.Entry.{Entry}
-use Rattle.crmf.specs.meaning.Rows.{Row, rowIf, width, numbers}
+use Rattle.crmf.specs.meaning.Rows.{Row, Extent, rowWith, rowIf, width, numbers}
 use Rattle.crmf.specs.steps.explain.Walk.{rowsOfKind as rowsGiven}
-use Rattle.crmf.specs.steps.rows.Fill.{written, rowOf, Wrote}
+use Rattle.crmf.specs.steps.rows.Fill.{written, entryExtent, rowOf, Wrote}
 use Rattle.crmf.specs.meaning.Lists.{over}
 
 -- what is written stands between the numbers before its place and those after its end
@@ -125,7 +125,7 @@ module _ (old : List ℕ) (n limit : ℕ) (new : Entry) where
 
   module _ (some : new .kind ≡ 0 → ⊥) where
     abbrev row : List Row
-    row = record { kind = new .kind; first = new .first; whole = new .whole; parent = new .parent } ∷ []
+    row = rowWith (new .kind) (entryExtent new) (new .parent) ∷ []
 
     one-row : rowOf new ≡ row
     one-row = rw (rowIf, ne-eqb (new .kind) 0 some)
@@ -151,17 +151,17 @@ module _ (old : List ℕ) (n limit : ℕ) (new : Entry) where
         }
 
 -- a kind gives at most one row, as many as are counted for it
-pub one-at-most : (kind first whole parent : ℕ) → length (rowIf kind first whole parent) ≤ 1
-one-at-most kind first whole parent = go (eqb kind 0) refl
+pub one-at-most : (kind : ℕ) (extent : Extent) (parent : ℕ) → length (rowIf kind extent parent) ≤ 1
+one-at-most kind extent parent = go (eqb kind 0) refl
   where
-    go : (b : Bool) → eqb kind 0 ≡ b → length (rowIf kind first whole parent) ≤ 1
+    go : (b : Bool) → eqb kind 0 ≡ b → length (rowIf kind extent parent) ≤ 1
     go true e = rw (rowIf, e) (omega arith)
     go false e = rw (rowIf, e) (omega arith)
 
-pub rows-given : (kind first whole parent : ℕ) → length (rowIf kind first whole parent) ≡ rowsGiven kind
-rows-given kind first whole parent = go (eqb kind 0) refl
+pub rows-given : (kind : ℕ) (extent : Extent) (parent : ℕ) → length (rowIf kind extent parent) ≡ rowsGiven kind
+rows-given kind extent parent = go (eqb kind 0) refl
   where
-    go : (b : Bool) → eqb kind 0 ≡ b → length (rowIf kind first whole parent) ≡ rowsGiven kind
+    go : (b : Bool) → eqb kind 0 ≡ b → length (rowIf kind extent parent) ≡ rowsGiven kind
     go true e = rw (rowIf, rowsGiven, e)
     go false e = rw (rowIf, rowsGiven, e)
 

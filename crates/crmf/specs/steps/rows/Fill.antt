@@ -23,7 +23,7 @@ use Rattle.crmf.specs.meaning.Notation.{among, Top, Time, AlgId, Spki, O
 use Rattle.crmf.specs.steps.grammar.Lines.{Judge, keep, choose, Line, start}
 use Rattle.crmf.specs.steps.grammar.Packed.{packed}
 use Rattle.crmf.specs.steps.explain.Walk.{line, findLine, ways, rowsOfKind as rowsGiven}
-use Rattle.crmf.specs.meaning.Rows.{Row, rowIf, parentIf, width, numbers}
+use Rattle.crmf.specs.meaning.Rows.{Row, Extent, extentOf, noExtent, rowIf, parentIf, width, numbers}
 
 -- the line to go on with after an element whose value is known to keep its rule; as in the code, a value that selects no way would take the
 -- line after those of the ways
@@ -32,22 +32,23 @@ goes (keep r) next c = next
 goes (choose s) next c = line (next + Option·getD (selected s c) (ways s)) .next
 
 -- the rows from a line on, as `rows` has them from the parts
-unfoldable pub rowsFrom : ℕ → Tree → (n up place whole : ℕ) → List Row
-rowsFrom k none n up place whole = []
-rowsFrom k (element id p w c inside rest) n up place whole =
+unfoldable pub rowsFrom : ℕ → Tree → (n up : ℕ) (extent : Extent) → List Row
+rowsFrom k none n up extent = []
+rowsFrom k (element id p w c inside rest) n up extent =
     elim (findLine k id) [
       | Nowhere ↦ []
       | At m ↦
           let x = line m in
-          let item = rowIf (x .item) place whole up in
+          let item = rowIf (x .item) extent up in
           let above = parentIf (x .item) n up in
-          let own = rowIf (x .kind) p w above in
+          let here = extentOf id p w c in
+          let own = rowIf (x .kind) here above in
           let next = n + length item in
           let inner : List Row = elim (eqb (x .inside) 0) [
             | true ↦ []
-            | false ↦ rowsFrom (x .inside) inside (next + length own) (parentIf (x .kind) next above) p w
+            | false ↦ rowsFrom (x .inside) inside (next + length own) (parentIf (x .kind) next above) here
           ] in
-          item ++ (own ++ (inner ++ rowsFrom (goes (x .judge) (x .next) c) rest (next + length own + length inner) up place whole))
+          item ++ (own ++ (inner ++ rowsFrom (goes (x .judge) (x .next) c) rest (next + length own + length inner) up extent))
     ]
 
 -- whether the lines of an inside give no row: it is free, or the inside of a container without rows
@@ -64,7 +65,7 @@ fits count old = leb (width * count) (length old)
 
 -- the rows of a whole input as one batch; an input that is too long has none
 unfoldable pub rowsOfInput : List ℕ → List Row
-rowsOfInput s = elim (leb (length s) longest) [ true ↦ rowsFrom (start Top) (tree 0 s) 0 0 0 0 | false ↦ [] ]
+rowsOfInput s = elim (leb (length s) longest) [ true ↦ rowsFrom (start Top) (tree 0 s) 0 0 noExtent | false ↦ [] ]
 
 -- a table with the rows of an input written into it, as far as their numbers are below a count; without room for the count it stays as it is
 unfoldable pub filled : List ℕ → ℕ → List ℕ → List ℕ
@@ -80,14 +81,24 @@ pub record Room (bytes : List ℕ) (at end row limit : ℕ) (lines out : List �
   pub right : lines ≡ packed
   pub room : width * limit ≤ length out
 
+-- the extent of an entry, of the element around some rows, and of an element that fits a line
+abbrev pub entryExtent : Entry → Extent
+entryExtent new = record { first = new .first; whole = new .whole }
+
+abbrev pub aroundExtent : Around → Extent
+aroundExtent a = record { first = a .place; whole = a .whole }
+
+abbrev pub fitExtent : Fit → Extent
+fitExtent f = record { first = f .first; whole = f .end - f .first }
+
 -- the rows of the elements from a spot to an end
 abbrev pub rowsAt : List ℕ → Spot → ℕ → Around → List Row
 rowsAt bytes spot end around =
-    rowsFrom (spot .state) (tree (spot .at) (slice (spot .at) end bytes)) (spot .row) (around .up) (around .place) (around .whole)
+    rowsFrom (spot .state) (tree (spot .at) (slice (spot .at) end bytes)) (spot .row) (around .up) (aroundExtent around)
 
 -- the row that an entry gives, if it has a kind
 abbrev pub rowOf : Entry → List Row
-rowOf new = rowIf (new .kind) (new .first) (new .whole) (new .parent)
+rowOf new = rowIf (new .kind) (entryExtent new) (new .parent)
 
 -- Rows are written, and the number of the next row is the one after theirs.
 pub record Wrote (rs : List Row) (row limit : ℕ) (old : List ℕ) (next : ℕ) (new : List ℕ) : Type 0 where
@@ -100,9 +111,9 @@ pub record Listed (bytes : List ℕ) (spot : Spot) (bounds : Bounds) (around : A
   pub few : next ≤ 2 * bounds .end
 
 -- the rows that an element in a line's form gives by itself, and the number of the row above its inside
-abbrev pub ownRows : Line → ℕ → ℕ → ℕ → Around → List Row
-ownRows x p w row around =
-    rowIf (x .item) (around .place) (around .whole) (around .up) ++ rowIf (x .kind) p w (parentIf (x .item) row (around .up))
+abbrev pub ownRows : Line → Extent → ℕ → Around → List Row
+ownRows x here row around =
+    rowIf (x .item) (aroundExtent around) (around .up) ++ rowIf (x .kind) here (parentIf (x .item) row (around .up))
 
 abbrev pub rowAbove : Line → ℕ → ℕ → ℕ
 rowAbove x row up = parentIf (x .kind) (row + rowsGiven (x .item)) (parentIf (x .item) row up)
