@@ -1,6 +1,6 @@
 // Whether a draft describes a batch: its candidate is assembled in a scratch, read, and compared with the draft.
 use crate::assemble::assemble;
-use crate::compare::same_pieces;
+use crate::compare::same_rows;
 use crate::draft::rows;
 use crate::sums::add_up;
 use crmf::rows::WIDTH;
@@ -112,5 +112,5 @@ fn is_shown(
         return false;
     }
     let end = WIDTH * answer.count;
-    same_pieces(draft, bytes, &table[..end], batch)
+    same_rows(draft, bytes, &table[..end], batch)
 }

@@ -1,4 +1,4 @@
-// Whether two drafts, each over bytes of its own, show the same pieces.
+// Whether two drafts, each over bytes of its own, show the same.
 use crate::draft::Row;
 use crate::draft::container;
 use crate::draft::leaf;
@@ -6,13 +6,12 @@ use crate::draft::row_at;
 use crate::draft::rows;
 ghost use mathlib.Core.Path.{_≡_};
 ghost use Rattle.crmf.specs.meaning.Lists.{same};
-ghost use Rattle.crmf.specs.meaning.Pieces.{pieceOf};
-ghost use Rattle.writer.specs.steps.Writing.{drafted, samePieces};
-ghost use Rattle.writer.specs.steps.Inner.{rowOf, samePiece};
+ghost use Rattle.writer.specs.steps.Writing.{rowsIn, sameRow, sameRows};
+ghost use Rattle.writer.specs.steps.Inner.{rowOf};
 
-// Whether a draft's pieces are the same as another's, row by row.
-pub(crate) fn same_pieces(draft: &[usize], bytes: &[u8], other: &[usize], octets: &[u8]) -> bool
-    ensures { λ r. ⌜ r ≡ samePieces (drafted (now (draft .entry)) (now (bytes .entry))) (drafted (now (other .entry)) (now (octets .entry))) ⌝ }
+// Whether a draft's rows show the same as another's, row by row.
+pub(crate) fn same_rows(draft: &[usize], bytes: &[u8], other: &[usize], octets: &[u8]) -> bool
+    ensures { λ r. ⌜ r ≡ sameRows (now (bytes .entry)) (rowsIn (now (draft .entry))) (now (octets .entry)) (rowsIn (now (other .entry))) ⌝ }
 {
     let count = rows(draft);
     if rows(other) != count {
@@ -20,7 +19,7 @@ pub(crate) fn same_pieces(draft: &[usize], bytes: &[u8], other: &[usize], octets
     }
     let mut i = 0;
     while i < count {
-        if !same_piece(row_at(draft, i), bytes, row_at(other, i), octets) {
+        if !same_row(row_at(draft, i), bytes, row_at(other, i), octets) {
             return false;
         }
         i += 1;
@@ -29,8 +28,8 @@ pub(crate) fn same_pieces(draft: &[usize], bytes: &[u8], other: &[usize], octets
 }
 
 // Whether two rows show the same kind and parent and, of leaves, the same octets.
-fn same_piece(row: Row, bytes: &[u8], other: Row, octets: &[u8]) -> bool
-    ensures { λ r. ⌜ r ≡ samePiece (pieceOf (now (bytes .entry)) (rowOf row)) (pieceOf (now (octets .entry)) (rowOf other)) ⌝ }
+fn same_row(row: Row, bytes: &[u8], other: Row, octets: &[u8]) -> bool
+    ensures { λ r. ⌜ r ≡ sameRow (now (bytes .entry)) (rowOf row) (now (octets .entry)) (rowOf other) ⌝ }
 {
     if row.kind != other.kind {
         return false;

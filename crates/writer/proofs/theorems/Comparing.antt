@@ -1,4 +1,4 @@
--- Comparing pieces one by one. Assumes nothing.
+-- Comparing rows one by one. Assumes nothing.
 use Prim.Native.Nat.{ℕ, suc, _+_, _<_}
 use native.Mathlib.Numerals.{add-one}
 use native.Mathlib.Omega.{arith}
@@ -11,10 +11,9 @@ use lib.Seq.{slice, drop-length, take-length}
 use borrow.Author.Tests.{eq-eqb, ne-eqb}
 use Rattle.crmf.specs.meaning.Lists.{same}
 use Rattle.crmf.specs.meaning.Rows.{Row, container}
-use Rattle.crmf.specs.meaning.Pieces.{Piece, pieceOf, piecesOf}
-use Rattle.crmf.proofs.Laws.{pieces-none, pieces-row, same-none, same-more, pieces-length}
-use Rattle.writer.specs.steps.Writing.{samePieces}
-use Rattle.writer.specs.steps.Inner.{samePiece}
+use Rattle.crmf.specs.meaning.Pieces.{Piece, pieceOf}
+use Rattle.crmf.proofs.Laws.{same-none, same-more}
+use Rattle.writer.specs.steps.Writing.{samePiece, sameRow, sameRows}
 use Rattle.writer.proofs.theorems.WholeLengths.{leaf-octets}
 
 -- octets of the same length, compared up to a place
@@ -66,36 +65,33 @@ module _ (bytes octets : List ℕ) (r s : Row) where
       both-leaves is a b first second =
           ap₂ same (first ∙ sym (leaf-octets bytes r is)) (second ∙ sym (leaf-octets octets s (ap container (sym kinds) ∙ is))) ∙ sym same-parent
 
--- two lists of pieces of different lengths are not the same
-pub other-count : (xs ys : List Piece) → (length xs ≡ length ys → ⊥) → samePieces xs ys ≡ false
-unfolding samePieces
-other-count [] [] other = absurd (other refl)
-other-count [] (y ∷ ys) other = refl
-other-count (x ∷ xs) [] other = refl
-other-count (x ∷ xs) (y ∷ ys) other = rw (other-count xs ys (λ is. other (ap suc is))) (and-false (samePiece x y))
+-- two lists of rows of different lengths don't show the same
+pub other-count : (bytes octets : List ℕ) (rs qs : List Row) → (length rs ≡ length qs → ⊥) → sameRows bytes rs octets qs ≡ false
+unfolding sameRows
+other-count bytes octets [] [] other = absurd (other refl)
+other-count bytes octets [] (q ∷ qs) other = refl
+other-count bytes octets (r ∷ rs) [] other = refl
+other-count bytes octets (r ∷ rs) (q ∷ qs) other = rw (other-count bytes octets rs qs (λ is. other (ap suc is))) (and-false (sameRow bytes r octets q))
 
 module _ (bytes octets : List ℕ) (rs ss : List Row) where
-  -- the pieces from a row on
+  -- the rows from a number on
   abbrev pub from : ℕ → Bool
-  from i = samePieces (piecesOf bytes (drop i rs)) (piecesOf octets (drop i ss))
+  from i = sameRows bytes (drop i rs) octets (drop i ss)
 
   pub other-rows : (length ss ≡ length rs → ⊥) → false ≡ from 0
   other-rows other =
-      sym (other-count (piecesOf bytes rs) (piecesOf octets ss) (λ is. other (sym (sym (pieces-length bytes rs) ∙ is ∙ pieces-length octets ss))))
+      sym (other-count bytes octets rs ss (λ is. other (sym is)))
 
   -- after the last row nothing is compared
   pub from-end : (i : ℕ) → i ≡ length rs → i ≡ length ss → from i ≡ true
-  unfolding samePieces
-  from-end i one other = ap₂ samePieces (none bytes rs one) (none octets ss other)
+  unfolding sameRows
+  from-end i one other = ap₂ (λ (l m : List Row). sameRows bytes l octets m) (none rs one) (none ss other)
     where
-      none : (l : List ℕ) (qs : List Row) → i ≡ length qs → piecesOf l (drop i qs) ≡ []
-      none l qs end = ap (λ (n : ℕ). piecesOf l (drop n qs)) end ∙ ap (piecesOf l) (drop-length qs) ∙ pieces-none l
+      none : (qs : List Row) → i ≡ length qs → drop i qs ≡ []
+      none qs end = ap (λ (n : ℕ). drop n qs) end ∙ drop-length qs
 
   -- a row is compared before those after it
   pub from-row : (i : ℕ) (r s : Row) → drop i rs ≡ r ∷ drop (suc i) rs → drop i ss ≡ s ∷ drop (suc i) ss
-      → from i ≡ (samePiece (pieceOf bytes r) (pieceOf octets s) && from (i + 1))
-  unfolding samePieces
-  from-row i r s one other = rw add-one (ap₂ samePieces (cut bytes rs r one) (cut octets ss s other))
-    where
-      cut : (l : List ℕ) (qs : List Row) (q : Row) → drop i qs ≡ q ∷ drop (suc i) qs → piecesOf l (drop i qs) ≡ pieceOf l q ∷ piecesOf l (drop (suc i) qs)
-      cut l qs q is = ap (piecesOf l) is ∙ pieces-row l q (drop (suc i) qs)
+      → from i ≡ (sameRow bytes r octets s && from (i + 1))
+  unfolding sameRows
+  from-row i r s one other = rw add-one (ap₂ (λ (l m : List Row). sameRows bytes l octets m) one other)

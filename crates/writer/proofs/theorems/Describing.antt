@@ -12,14 +12,13 @@ use Rattle.der.specs.meaning.Octets.{Octets}
 use Rattle.der.specs.meaning.Bounds.{longest}
 use Rattle.crmf.specs.meaning.Rows.{Row, width, numbers}
 use Rattle.crmf.specs.steps.rows.Fill.{fits, rowsOfInput}
-use Rattle.crmf.specs.meaning.Pieces.{piecesOf}
 use Rattle.crmf.specs.steps.rows.Assembly.{noneLonger}
-use Rattle.crmf.proofs.Laws.{over-holds, pieces-length, fits-room}
+use Rattle.crmf.proofs.Laws.{over-holds, fits-room}
 use Rattle.editions.specs.declared.reader.Answer.{Answer}
 use Rattle.editions.specs.steps.Reading.{answer, readAnswer, tableAfter}
 use Rattle.editions.proofs.Laws.{answer-counts, shown, with-room, shown-table}
 use Rattle.writer.specs.meaning.Draft.{inside}
-use Rattle.writer.specs.steps.Writing.{rowsIn, shaped, drafted, candidate, samePieces, shows, described}
+use Rattle.writer.specs.steps.Writing.{rowsIn, shaped, drafted, candidate, sameRows, shows, described}
 use Rattle.writer.specs.steps.Inner.{sound}
 use Rattle.writer.proofs.theorems.Comparing.{other-count}
 use Rattle.writer.proofs.theorems.DraftRows.{rows-back}
@@ -67,22 +66,21 @@ module _ (e : ℕ) (draft bytes : List ℕ) where
 
   module _ (s : List ℕ) (is : s ≡ candidate draft bytes) (octets : Octets s) (old : List ℕ) where
     -- what the candidate's answer says of it
-    by-answer : (b : Bool) → eqb (answer e s .number) 0 ≡ b → shows e draft bytes ≡ (b && samePieces (drafted draft bytes) (piecesOf s (rowsOfInput s)))
+    by-answer : (b : Bool) → eqb (answer e s .number) 0 ≡ b → shows e draft bytes ≡ (b && sameRows bytes (rowsIn draft) s (rowsOfInput s))
     by-answer b test =
-        ap (λ (l : List ℕ). eqb (answer e l .number) 0 && samePieces (drafted draft bytes) (piecesOf l (rowsOfInput l))) (sym is)
-        ∙ ap (λ (x : Bool). x && samePieces (drafted draft bytes) (piecesOf s (rowsOfInput s))) test
+        ap (λ (l : List ℕ). eqb (answer e l .number) 0 && sameRows bytes (rowsIn draft) l (rowsOfInput l)) (sym is)
+        ∙ ap (λ (x : Bool). x && sameRows bytes (rowsIn draft) s (rowsOfInput s)) test
 
-    -- If reading it is refused, with room for as many rows as the draft has, it doesn't show the draft's pieces.
+    -- If reading it is refused, with room for as many rows as the draft has, it doesn't show what the draft shows.
     pub read-refuses : width * length (rowsIn draft) ≤ length old → (readAnswer e s old .number ≡ acceptance → ⊥) → shows e draft bytes ≡ false
     read-refuses room some = by-number (eqb (answer e s .number) 0) refl
       where
-        by-room : answer e s .number ≡ acceptance → (b : Bool) → fits (answer e s .count) old ≡ b → samePieces (drafted draft bytes) (piecesOf s (rowsOfInput s)) ≡ false
+        by-room : answer e s .number ≡ acceptance → (b : Bool) → fits (answer e s .count) old ≡ b → sameRows bytes (rowsIn draft) s (rowsOfInput s) ≡ false
         by-room zero true enough = absurd (some (ap (λ (a : Answer). a .number) (with-room e s old zero enough) ∙ zero))
         by-room zero false few =
             let count = answer-counts e s octets zero in
             let short = leb-false (width * answer e s .count) (length old) (sym (fits-room (answer e s .count) old) ∙ few) in
-            other-count (drafted draft bytes) (piecesOf s (rowsOfInput s))
-            (λ alike. omega (arith, alike, count, short, pieces-length bytes (rowsIn draft), pieces-length s (rowsOfInput s)))
+            other-count bytes s (rowsIn draft) (rowsOfInput s) (λ alike. omega (arith, alike, count, short))
 
         by-number : (b : Bool) → eqb (answer e s .number) 0 ≡ b → shows e draft bytes ≡ false
         by-number true test = by-answer true test ∙ by-room (eqb-true _ 0 test) (fits (answer e s .count) old) refl
@@ -98,7 +96,7 @@ module _ (e : ℕ) (draft bytes : List ℕ) where
 
       -- and what the table then holds decides.
       pub read-shows : shows e draft bytes
-          ≡ samePieces (drafted draft bytes) (drafted (take (width * readAnswer e s old .count) (tableAfter e s old)) s)
+          ≡ sameRows bytes (rowsIn draft) s (rowsIn (take (width * readAnswer e s old .count) (tableAfter e s old)))
       read-shows =
           let found = shown e s old zero in
           let count = ap (λ (a : Answer). a .count) (found .same) ∙ answer-counts e s octets (found .zero) in
@@ -106,4 +104,4 @@ module _ (e : ℕ) (draft bytes : List ℕ) where
           let table : take (width * readAnswer e s old .count) (tableAfter e s old) ≡ numbers (rowsOfInput s) =
           ap₂ (λ (n : ℕ) (l : List ℕ). take (width * n) l) count (shown-table e s old zero) ∙ held .first in
           by-answer true (eq-eqb _ 0 (found .zero))
-          ∙ ap (λ (rs : List Row). samePieces (drafted draft bytes) (piecesOf s rs)) (sym (ap rowsIn table ∙ rows-back (rowsOfInput s)))
+          ∙ ap (λ (rs : List Row). sameRows bytes (rowsIn draft) s rs) (sym (ap rowsIn table ∙ rows-back (rowsOfInput s)))

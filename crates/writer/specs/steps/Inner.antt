@@ -7,9 +7,8 @@ use mathlib.Core.List.{List, _++_}
 use lib.Dec.{eqb, leb}
 use lib.ListN.{length, getD, take, drop}
 use Rattle.der.specs.meaning.Bounds.{longest}
-use Rattle.crmf.specs.meaning.Lists.{same}
 use Rattle.crmf.specs.meaning.Rows.{Row, container, width}
-use Rattle.crmf.specs.meaning.Pieces.{Piece, pieceOf, piecesOf}
+use Rattle.crmf.specs.meaning.Pieces.{pieceOf, piecesOf}
 use Rattle.crmf.specs.steps.rows.Assembly.{wholeOf, childrenOf, noneLonger}
 use Rattle.writer.specs.declared.draft.Row.{Row as Given}
 use Rattle.writer.specs.declared.build.Outcome.{Outcome}
@@ -74,10 +73,6 @@ pub record Lent (draft bytes sums scratch : List ℕ) : Type 0 where
 pub record Begins (octets : List ℕ) (n : ℕ) (scratch : List ℕ) : Type 0 where
   pub counted : Stands n (length octets)
   pub first : n ≤ longest → take n scratch ≡ octets
-
--- the same piece
-abbrev pub samePiece : Piece → Piece → Bool
-samePiece x y = eqb (x .kind) (y .kind) && (eqb (x .parent) (y .parent) && same (x .octets) (y .octets))
 
 -- rows for which a small table is enough
 abbrev pub few : ℕ

@@ -10,7 +10,7 @@ use Rattle.der.specs.meaning.Bounds.{longest}
 use Rattle.crmf.specs.meaning.Lists.{same, over}
 use Rattle.crmf.specs.meaning.Rows.{Row, width}
 use Rattle.crmf.specs.steps.rows.Fill.{rowsOfInput}
-use Rattle.crmf.specs.meaning.Pieces.{Piece, piecesOf}
+use Rattle.crmf.specs.meaning.Pieces.{Piece, pieceOf, piecesOf}
 use Rattle.crmf.specs.steps.rows.Assembly.{assembled, noneLonger}
 use Rattle.editions.specs.declared.reader.Answer.{Answer}
 use Rattle.editions.specs.meaning.Edition.{rfc2511, rfc4211}
@@ -40,24 +40,31 @@ drafted draft bytes = piecesOf bytes (rowsIn draft)
 abbrev pub candidate : List ℕ → List ℕ → List ℕ
 candidate draft bytes = assembled 0 (drafted draft bytes)
 
--- the same pieces
-unfoldable pub samePieces : List Piece → List Piece → Bool
-samePieces [] [] = true
-samePieces [] (y ∷ ys) = false
-samePieces (x ∷ xs) [] = false
-samePieces (x ∷ xs) (y ∷ ys) =
-    (eqb (x .kind) (y .kind) && (eqb (x .parent) (y .parent) && same (x .octets) (y .octets))) && samePieces xs ys
+-- the same piece
+abbrev pub samePiece : Piece → Piece → Bool
+samePiece x y = eqb (x .kind) (y .kind) && (eqb (x .parent) (y .parent) && same (x .octets) (y .octets))
+
+-- two rows, each over octets of its own, show the same
+abbrev pub sameRow : List ℕ → Row → List ℕ → Row → Bool
+sameRow bytes r octets q = samePiece (pieceOf bytes r) (pieceOf octets q)
+
+-- as many rows show the same, each as the other at its number
+unfoldable pub sameRows : List ℕ → List Row → List ℕ → List Row → Bool
+sameRows bytes [] octets [] = true
+sameRows bytes [] octets (q ∷ qs) = false
+sameRows bytes (r ∷ rs) octets [] = false
+sameRows bytes (r ∷ rs) octets (q ∷ qs) = sameRow bytes r octets q && sameRows bytes rs octets qs
 
 -- whether the candidate can be put together: the leaves lie in the slice, and nothing is too long
 abbrev pub assembles : List ℕ → List ℕ → Bool
 assembles draft bytes =
     inside bytes (rowsIn draft) && (noneLonger longest 0 (drafted draft bytes) && leb (length (candidate draft bytes)) longest)
 
--- whether reading accepts the candidate and shows the draft's pieces
+-- whether reading accepts the candidate and shows what the draft's rows show
 abbrev pub shows : ℕ → List ℕ → List ℕ → Bool
 shows e draft bytes =
     let s = candidate draft bytes in
-    eqb (answer e s .number) acceptance && samePieces (drafted draft bytes) (piecesOf s (rowsOfInput s))
+    eqb (answer e s .number) acceptance && sameRows bytes (rowsIn draft) s (rowsOfInput s)
 
 -- Whether a draft describes a batch (SPECIFICATION 6).
 unfoldable pub described : ℕ → List ℕ → List ℕ → Bool

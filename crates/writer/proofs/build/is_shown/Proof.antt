@@ -1,4 +1,4 @@
--- `writer::build::is_shown` meets its contract: a refused candidate doesn't show the draft's pieces, and of an accepted one the rows that
+-- `writer::build::is_shown` meets its contract: a refused candidate doesn't show what the draft shows, and of an accepted one the rows that
 -- reading leaves in the table decide. Assumes nothing.
 use Prim.Native.Nat.{ℕ, _*_, _≤_}
 use borrow.Author.Needs.{needs}
@@ -14,7 +14,7 @@ use Rattle.editions.specs.declared.reader.Answer.{Answer}
 use Rattle.editions.specs.steps.Reading.{readAnswer, tableAfter}
 use Rattle.editions.proofs.Laws.{related-reading}
 use Rattle.der.proofs.Laws.{octets-each}
-use Rattle.writer.specs.steps.Writing.{drafted, samePieces, shows}
+use Rattle.writer.specs.steps.Writing.{rowsIn, sameRows, shows}
 use Rattle.writer.proofs.theorems.Describing.{read-refuses, read-room, read-shows}
 use Rattle.writer.proofs.build.is_shown.Statement.{statement}
 use Rattle.writer.proofs.build.is_shown.Tie as tie
@@ -73,30 +73,30 @@ module _ (c : tie.Else1) where
   -- and decide
   by-table : let a = entry reading .args in
       shows (a .edition) (a .draft .now) (a .bytes .now)
-      ≡ samePieces (drafted (a .draft .now) (a .bytes .now)) (drafted (take (width * reading .read .result .count) table) (a .batch .now))
+      ≡ sameRows (a .bytes .now) (rowsIn (a .draft .now)) (a .batch .now) (rowsIn (take (width * reading .read .result .count) table))
   by-table =
       let a = entry reading .args in
       read-shows (a .edition) (a .draft .now) (a .bytes .now) (a .batch .now) (entry reading .pre .0) (octets reading) (a .table .now) zero
-      ∙ ap₂ (λ (n : ℕ) (l : List ℕ). samePieces (drafted (a .draft .now) (a .bytes .now)) (drafted (take (width * n) l) (a .batch .now)))
+      ∙ ap₂ (λ (n : ℕ) (l : List ℕ). sameRows (a .bytes .now) (rowsIn (a .draft .now)) (a .batch .now) (rowsIn (take (width * n) l)))
       (ap (λ (x : Answer). x .count) (sym (answered reading .0))) (sym (answered reading .1))
 
 mul-end : tie.Need-mul-end
 mul-end c = omega (arith, room (c .before), reading (c .before) .read .kept .1 .1 .0, entry (reading (c .before)) .good)
 
-slice-reshare-prefix-same-pieces : tie.Need-slice-reshare-prefix-same-pieces
-slice-reshare-prefix-same-pieces c = room (c .before)
+slice-reshare-prefix-same-rows : tie.Need-slice-reshare-prefix-same-rows
+slice-reshare-prefix-same-rows c = room (c .before)
 
-slice-aggregate-same-pieces : tie.Need-slice-aggregate-same-pieces
-slice-aggregate-same-pieces c = let left = c .before .before in sym (length-take-le _ (table left) (room left))
+slice-aggregate-same-rows : tie.Need-slice-aggregate-same-rows
+slice-aggregate-same-rows c = let left = c .before .before in sym (length-take-le _ (table left) (room left))
 
-same-pieces-requires : tie.Need-same-pieces-requires
-same-pieces-requires c κs = search needs
+same-rows-requires : tie.Need-same-rows-requires
+same-rows-requires c κs = search needs
 
 same-length-2 : tie.Need-same-length-2
 same-length-2 c = search needs
 
 returns-2 : tie.Need-returns-2
-returns-2 c = c .same-pieces .ensures ∙ sym (by-table (c .before .before .before))
+returns-2 c = c .same-rows .ensures ∙ sym (by-table (c .before .before .before))
 
 pub is-shown-spec : {M : Type 1} → statement M
 is-shown-spec =
@@ -106,8 +106,8 @@ is-shown-spec =
     same-length
     returns
     mul-end
-    slice-reshare-prefix-same-pieces
-    slice-aggregate-same-pieces
-    same-pieces-requires
+    slice-reshare-prefix-same-rows
+    slice-aggregate-same-rows
+    same-rows-requires
     same-length-2
     returns-2)

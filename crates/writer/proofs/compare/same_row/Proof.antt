@@ -1,10 +1,10 @@
--- `writer::compare::same_piece` meets its contract. Assumes nothing.
+-- `writer::compare::same_row` meets its contract. Assumes nothing.
 use borrow.Author.Needs.{needs}
 use mathlib.Core.Path.{sym, _∙_}
 use Rattle.writer.specs.steps.Inner.{rowOf}
 use Rattle.writer.proofs.theorems.Comparing.{other-kind, other-parent, both-containers, both-leaves}
-use Rattle.writer.proofs.compare.same_piece.Statement.{statement}
-use Rattle.writer.proofs.compare.same_piece.Tie as tie
+use Rattle.writer.proofs.compare.same_row.Statement.{statement}
+use Rattle.writer.proofs.compare.same_row.Tie as tie
 
 returns : tie.Need-returns
 returns c = let a = c .before .before .before .before .before .args in other-kind (a .bytes .now) (a .octets .now) (rowOf (a .row)) (rowOf (a .other)) (c .if1 .taken)
@@ -32,8 +32,8 @@ returns-4 c =
     let a = c .before .before .before .before .before .before .before .before .before .before .before .before .before .args in
     c .same-octets .ensures ∙ both-leaves (a .bytes .now) (a .octets .now) (rowOf (a .row)) (rowOf (a .other)) (c .before .before .before .before .before .before .before .before .if1 .left) (c .before .before .before .before .before .if2 .left) (sym (c .before .before .before .before .container .ensures) ∙ c .before .before .before .if3 .left) _ _ (c .before .before .leaf .ensures) (c .before .leaf2 .ensures)
 
-pub same-piece-spec : {M : Type 1} → statement M
-same-piece-spec =
+pub same-row-spec : {M : Type 1} → statement M
+same-row-spec =
     tie.close
     (tie.spec
     returns

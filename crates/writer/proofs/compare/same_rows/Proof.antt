@@ -1,4 +1,4 @@
--- `writer::compare::same_pieces` meets its contract. The loop's invariant: what is left to compare decides. Assumes nothing.
+-- `writer::compare::same_rows` meets its contract. The loop's invariant: what is left to compare decides. Assumes nothing.
 use borrow.Author.Needs.{needs}
 use Prim.Native.Nat.{_+_, _-_, _≤_}
 use mathlib.Core.Path.{_≡_, refl, sym, ap, _∙_}
@@ -8,8 +8,8 @@ use Rattle.writer.specs.steps.Writing.{rowsIn}
 use Rattle.writer.specs.steps.Inner.{rowOf}
 use Rattle.writer.proofs.theorems.Comparing.{from, other-rows, from-end, from-row}
 use native.Mathlib.Omega.{arith}
-use Rattle.writer.proofs.compare.same_pieces.Statement.{statement}
-use Rattle.writer.proofs.compare.same_pieces.Tie as tie
+use Rattle.writer.proofs.compare.same_rows.Statement.{statement}
+use Rattle.writer.proofs.compare.same_rows.Tie as tie
 
 abbrev Inv-loop : tie.InvT-loop
 Inv-loop draft bytes other octets count i₀ i = (i ≤ count) × (from bytes octets (rowsIn draft) (rowsIn other) 0 ≡ from bytes octets (rowsIn draft) (rowsIn other) i)
@@ -37,8 +37,8 @@ row-at-requires c κs = omega (arith, c .before .before .before .before .rows .e
 row-at-requires-2 : tie.Need-row-at-requires-2 Inv-loop μ-loop
 row-at-requires-2 c κs = omega (arith, c .before .before .before .before .before .rows .ensures, c .before .before .before .before .rows2 .ensures, c .before .before .before .if1 .left)
 
-same-piece-requires : tie.Need-same-piece-requires Inv-loop μ-loop
-same-piece-requires c κs = search needs
+same-row-requires : tie.Need-same-row-requires Inv-loop μ-loop
+same-row-requires c κs = search needs
 
 returns-2 : tie.Need-returns-2 Inv-loop μ-loop
 returns-2 c =
@@ -47,7 +47,7 @@ returns-2 c =
     let ss = rowsIn (a .other .now) in
     let l = c .before .before .before .before .before .loop in
     let step = from-row (a .bytes .now) (a .octets .now) rs ss (l .i) (rowOf (c .before .before .before .row-at .result)) (rowOf (c .before .before .row-at2 .result)) (c .before .before .before .row-at .ensures) (c .before .before .row-at2 .ensures) in
-    sym (l .inv .1 ∙ step ∙ ap (λ (b : Bool). b && from (a .bytes .now) (a .octets .now) rs ss (l .i + 1)) (sym (c .before .same-piece .ensures) ∙ not-true _ (c .if2 .taken)))
+    sym (l .inv .1 ∙ step ∙ ap (λ (b : Bool). b && from (a .bytes .now) (a .octets .now) rs ss (l .i + 1)) (sym (c .before .same-row .ensures) ∙ not-true _ (c .if2 .taken)))
 
 add-i : tie.Need-add-i Inv-loop μ-loop
 add-i c = search needs
@@ -62,7 +62,7 @@ loop-again c =
     let ss = rowsIn (a .other .now) in
     let l = c .before .before .before .before .before .loop in
     let step = from-row (a .bytes .now) (a .octets .now) rs ss (l .i) (rowOf (c .before .before .before .row-at .result)) (rowOf (c .before .before .row-at2 .result)) (c .before .before .before .row-at .ensures) (c .before .before .row-at2 .ensures) in
-    (omega arith, l .inv .1 ∙ step ∙ ap (λ (b : Bool). b && from (a .bytes .now) (a .octets .now) rs ss (l .i + 1)) (sym (c .before .same-piece .ensures) ∙ not-false _ (c .if2 .left)))
+    (omega arith, l .inv .1 ∙ step ∙ ap (λ (b : Bool). b && from (a .bytes .now) (a .octets .now) rs ss (l .i + 1)) (sym (c .before .same-row .ensures) ∙ not-false _ (c .if2 .left)))
 
 returns-3 : tie.Need-returns-3 Inv-loop μ-loop
 returns-3 c =
@@ -72,8 +72,8 @@ returns-3 c =
     let l = c .before .loop in
     sym (l .inv .1 ∙ from-end (a .bytes .now) (a .octets .now) rs ss (l .i) (omega (arith, c .before .before .before .before .rows .ensures, l .inv .0)) (omega (arith, c .before .before .before .before .rows .ensures, c .before .before .before .rows2 .ensures, c .before .before .if1 .left, l .inv .0)))
 
-pub same-pieces-spec : {M : Type 1} → statement M
-same-pieces-spec =
+pub same-rows-spec : {M : Type 1} → statement M
+same-rows-spec =
     tie.close
     (tie.spec
     Inv-loop
@@ -84,7 +84,7 @@ same-pieces-spec =
     loop-holds
     row-at-requires
     row-at-requires-2
-    same-piece-requires
+    same-row-requires
     returns-2
     add-i
     loop-less
