@@ -18,13 +18,14 @@ pub use Rattle.writer.proofs.Laws.{output-stays}
 -- Demand 2. "Given room, a batch is accepted exactly when it is the DER encoding of CertReqMessages in the chosen edition (RFC 2511 or RFC
 -- 4211), as document 01 bounds and defines it": by reading, and without a table.
 pub use Rattle.editions.proofs.Laws.{read-exactly, accepted-exactly}
--- "and the rows shown are that message's fields": the table holds the rows of the message, and the bytes encode no other message.
-pub use Rattle.editions.proofs.Laws.{rows-shown, one-nest}
+-- "and the rows shown are that message's fields": the table holds the rows of the message, the fifth number of each is right, and the bytes
+-- encode no other message.
+pub use Rattle.editions.proofs.Laws.{rows-shown, contents-right, one-nest}
 -- "Writing the rows of an accepted batch into enough room gives its bytes again."
 pub use Rattle.writer.proofs.Laws.{writes-again}
--- "A draft is refused as describing nothing exactly when no acceptable batch has its rows and leaf bytes"; document 01: "also if the row
--- numbers aren't a multiple of four, none, or a leaf leaves the slice".
-pub use Rattle.writer.proofs.Laws.{describes-nothing, misshapen-refused}
+-- "A draft is refused as describing nothing exactly when no acceptable batch has its rows and leaf bytes"; documents 01 and 02: also if its
+-- numbers aren't "a multiple of five", are "none, or a leaf leaves the slice", or if the fifth number of a leaf isn't right.
+pub use Rattle.writer.proofs.Laws.{describes-nothing, misshapen-refused, wrong-content-refused}
 -- "otherwise, given room, that batch is written": there is only one such batch, the answer has its length, and the output begins with it; and
 -- if 0 is answered, what was written has the draft's rows.
 pub use Rattle.writer.proofs.Laws.{one-batch, written-answer, written-output, written-has-rows}

@@ -6,7 +6,7 @@ use lib.ListN.{getD}
 
 -- how many numbers the table holds
 abbrev pub numbers : ℕ
-numbers = 120000
+numbers = 150000
 
 -- the number that a place holds beforehand
 abbrev pub beforehand : ℕ → ℕ

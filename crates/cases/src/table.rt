@@ -5,7 +5,7 @@ ghost use lib.ListN.{length};
 ghost use Rattle.cases.specs.Table.{numbers, Untouched};
 
 // How many numbers the table holds: room for 30,000 rows.
-pub const NUMBERS: usize = 120000;
+pub const NUMBERS: usize = 150000;
 
 // What the table holds beforehand: numbers that ascend from this one, such as no row has.
 const UNTOUCHED: usize = 1000000000;

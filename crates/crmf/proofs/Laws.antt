@@ -30,11 +30,14 @@
 --     rows-lines          the rows that are found by the lines are those of any derivation
 --     rows-same           so two derivations of one tree have the same rows, whichever forms each may read
 --     rows-count          the counting walk's count is the number of rows; `walk-counts` says so of any derivation's rows
---     row-zero            row 0 is the batch: kind 1, from byte 0 on, of its whole length, its own parent; there is one (`rows-some`)
+--     row-zero            row 0 is the batch: kind 1, from byte 0 on, of its whole length, its own parent, its content after its header
+--                         (`firstHeader`); there is one (`rows-some`)
 --     rows-ascend         rows ascend strictly by first byte
 --     row-parent          each other row's parent is an earlier row
 --     parent-container    each row's parent is a container
 --     row-within          each row's bytes lie within its parent's (`Inner`)
+--     row-content         each row's fifth number is right (`RightContent`); where two rows point at the same octets and one is right, the other is
+--                         exactly if both contents are equally far from the rows' first bytes (`content-same`, `content-right`)
 --     rows-moved          elements that are moved by some bytes (`matches-moved`) have the same rows, moved (`shift`)
 --     rows-pieces         the rows of elements that stand in some octets show the derivation's pieces (`pieces`) of them, one each (`pieces-length`)
 --     batch-pieces        and so do the rows of a batch of its own octets
@@ -118,7 +121,8 @@ pub use Rattle.crmf.specs.meaning.Kinds.{rowKinds}
 pub use Rattle.crmf.proofs.theorems.lines.TableChecks.{Lives, WayLines, inside-starts, start-lives, onward-lives, ways-lines, kind-known, item-known, kind-given}
 pub use Rattle.crmf.proofs.theorems.rows.RowsInPlace.{noRow}
 pub use Rattle.crmf.proofs.theorems.rows.RowsOfLines.{rows-lines, rows-same, rows-count, walk-counts}
-pub use Rattle.crmf.proofs.theorems.rows.RowLaws.{Inner, row-zero, rows-some, rows-ascend, row-parent, parent-container, row-within}
+pub use Rattle.crmf.proofs.theorems.rows.RowLaws.{Inner, firstHeader, row-zero, rows-some, rows-ascend, row-parent, parent-container, row-within}
+pub use Rattle.crmf.proofs.theorems.rows.RowContents.{row-content, content-same, content-right}
 pub use Rattle.crmf.proofs.theorems.rows.RowsMoved.{shift, matches-moved, rows-moved}
 pub use Rattle.crmf.proofs.theorems.pieces.PiecesOf.{pieceIf, pieces, piecesIn}
 pub use Rattle.crmf.proofs.theorems.pieces.ShownPieces.{pieces-length, rows-pieces, batch-pieces}

@@ -21,13 +21,14 @@ ghost use Rattle.crmf.specs.steps.rows.Fill as spec;
 ghost use Rattle.crmf.specs.steps.rows.Fill.{goes, rowOf, fits, filled, fitExtent, ownRows, rowAbove, Room, Wrote, Shown, Listed, Inner};
 
 // How many numbers a row has.
-pub const WIDTH: usize = 4;
+pub const WIDTH: usize = 5;
 
-// The element around some rows: the row above them, its first byte and its whole length.
+// The element around some rows: the row above them, its first byte, its whole length and its content's first byte.
 struct Around {
     up: usize,
     place: usize,
     whole: usize,
+    content: usize,
 }
 
 // Where to go on: the line, the place and the number of the next row.
@@ -50,12 +51,14 @@ struct Numbers {
     next: usize,
 }
 
-// What a row holds: its kind (0: there is no row), its element's first byte and whole length, and its parent's row.
+// What a row holds: its kind (0: there is no row), its element's first byte and whole length, its parent's row, and the first byte of its
+// element's content.
 struct Entry {
     kind: usize,
     first: usize,
     whole: usize,
     parent: usize,
+    content: usize,
 }
 
 // Writes the rows of the bytes into `out`, as far as their numbers are below `count`, and answers true. If `out` has no room for `count` rows,
@@ -83,6 +86,7 @@ pub(crate) fn fill(bytes: &[u8], count: usize, table: &[usize; LINES], out: &mut
         up: 0,
         place: 0,
         whole: 0,
+        content: 0,
     };
     list(bytes, start, bounds, around, table, out);
     true
@@ -153,6 +157,7 @@ fn own_rows(fit: Fit, row: usize, around: Around, limit: usize, out: &mut [usize
         first: around.place,
         whole: around.whole,
         parent: around.up,
+        content: around.content,
     };
     let next = put(outer, row, limit, out);
     let own = Entry {
@@ -160,6 +165,7 @@ fn own_rows(fit: Fit, row: usize, around: Around, limit: usize, out: &mut [usize
         first: fit.first,
         whole: fit.end - fit.first,
         parent: parent_if(item, row, around.up),
+        content: fit.content,
     };
     put(own, next, limit, out)
 }
@@ -216,6 +222,7 @@ fn inside(
         up: row_above(fit.word, numbers.row, numbers.up),
         place: fit.first,
         whole,
+        content: start.at,
     };
     list(bytes, start, bounds, around, table, out)
 }
@@ -251,6 +258,7 @@ fn put(new: Entry, row: usize, limit: usize, out: &mut [usize]) -> usize
     out[at + 1] = new.first;
     out[at + 2] = new.whole;
     out[at + 3] = new.parent;
+    out[at + 4] = new.content;
     row + 1
 }
 

@@ -1,7 +1,7 @@
 // Reads the rows of each batch in edition 1, or in edition 2 if edition 1 refuses it, and prints them. A line has octets alone, as `cases::case`
 // says: the first two are how many numbers of the table are lent, and the batch follows. The answer is one of
 //
-//     the rows, one row a line: kind, first byte, whole length, parent's row
+//     the rows, one row a line: kind, first byte, whole length, parent's row, content's first byte
 //     too short, the table unchanged
 //     -                                 in neither edition's grammar
 //

@@ -77,14 +77,14 @@
 --     slice-none          a part that starts at its end or after it is empty
 --     append-parts        lists whose first parts have one length are equal only part by part
 --     take-from, take-slice    the part from a place on, and from a place to another, as a lent slice gives them
-pub use Rattle.der.proofs.theorems.lists.Parts.{octets-each, octets-at, octets-none, octets-more, octets-append, octets-rest, octets-take, octets-drop, take-drop, slice-slice, drop-slice, slice-middle, slice-none, take-from, take-slice, append-parts}
+pub use Rattle.der.proofs.theorems.lists.Parts.{octets-each, octets-at, octets-none, octets-more, octets-append, octets-rest, octets-take, octets-drop, take-drop, slice-size, slice-slice, drop-slice, slice-middle, slice-none, take-from, take-slice, append-parts}
 pub use Rattle.der.proofs.theorems.element.Length.{value-none, value-more, value-last, value-below, shortest-small, shortest-one, shortest-two, value-large}
 pub use Rattle.der.proofs.theorems.content.ContentRules.{integer-some}
 pub use Rattle.der.proofs.theorems.element.Identifiers.{constructed-octet, constructed-bit, sequence-constructed, integer-primitive, known, known-allowed, sequence-allowed}
 pub use Rattle.der.proofs.theorems.element.Headers.{passed, head-fits, head-encoded, head-octets}
 pub use Rattle.der.proofs.theorems.reading.Readings.{InOrder, read-in-order, read-at, read-at-end, nothing-identifier, read-at-in-order, read-at-within, further, read-moved, tree-end, tree-enough}
 pub use Rattle.der.proofs.theorems.reading.Readings.{elementAt, tree-step, tree-parts, tree-at, tree-encoded, tree-encode, tree-moved, encode-moved, members-moved, well-formed-moved}
-pub use Rattle.der.proofs.theorems.reading.Trees.{header-some, header-two, header-octets, length-some, encode-none, encode-element, encode-length, moved-none, moved-element}
+pub use Rattle.der.proofs.theorems.reading.Trees.{header-some, header-two, header-octets, header-same, length-some, encode-none, encode-element, encode-length, moved-none, moved-element}
 pub use Rattle.der.proofs.theorems.reading.Trees.{well-formed-none, well-formed-deep, well-formed-element, single-none, single-element}
 pub use Rattle.der.proofs.theorems.explain.Exact.{Encoded, exact, Checked, walk-tree}
 pub use Rattle.der.proofs.theorems.explain.FirstFault.{number-zero, fault-number, number-place, walk-fault}

@@ -8,6 +8,7 @@
 --     accepted-exactly    demand 2: without a table, exactly the bytes in the edition's grammar with every certReqId of at most 8 octets are accepted
 --     read-exactly        reading accepts exactly the same bytes, given room for the rows
 --     rows-shown          after an accepted reading the table holds the rows of the batch, and its other numbers are as they were
+--     contents-right      and each row's fifth number is right by the bytes (`RightContent`)
 --     one-nest            bytes in a grammar are the encoding of only one tree
 --     same-rows           demand 3: what one edition accepts, the opposite one accepts with the same rows, if no difference occurs in it
 --     differing           if a difference occurs in it, the opposite edition answers 9
@@ -27,7 +28,7 @@
 --     refusals-explained  worked refusals are answered by number, place and detail; `refusals-told` others by number and place
 pub use Rattle.editions.proofs.theorems.AnswersExactly.{answer-related, related-answer, equal-related, answers-exactly, answers-once, accepted-related, reasonOf, reason-related}
 pub use Rattle.editions.proofs.theorems.ReadsExactly.{reading-related, related-reading, equal-reading, reads-exactly, reads-once}
-pub use Rattle.editions.proofs.theorems.Demands.{table-stays, accepted-exactly, read-exactly, rows-shown, same-rows, differing, nine-exactly, nine-least}
+pub use Rattle.editions.proofs.theorems.Demands.{table-stays, accepted-exactly, read-exactly, rows-shown, contents-right, same-rows, differing, nine-exactly, nine-least}
 pub use Rattle.editions.proofs.theorems.Accepting.{accepted-in, in-accepted, computed-read, computed-rows, one-nest, nest-read, nest-rows}
 pub use Rattle.editions.proofs.theorems.Tables.{answer-counts, Shown, shown, with-room, shown-table}
 pub use Rattle.editions.proofs.theorems.RefusalNumbers.{answer-number}

@@ -5,7 +5,8 @@
 // as the crate `lines` says, and has no list: the table, which is prepared for each reading, stands for one. If no edition is named, the batch
 // is read in edition 1 and then in edition 2. NUMBERS numbers of the table are lent, and without `/NUMBERS` all of them. The answer is one of
 //
-//     0 COUNT         accepted; below it a line for each row, if there are at most 60: kind, first byte, whole length, parent's row
+//     0 COUNT         accepted; below it a line for each row, if there are at most 60: kind, first byte, whole length, parent's row, content's
+//                     first byte
 //     NUMBER@PLACE    refused
 //
 // with `and not 0 but N` if the third number, the place of an acceptance or the count of a refusal, isn't 0. `, accept` and the answer of

@@ -4,6 +4,7 @@ use crate::draft::container;
 use crate::draft::leaf;
 use crate::draft::row_at;
 use crate::draft::rows;
+ghost use Prim.Native.Nat.{_-_};
 ghost use mathlib.Core.Path.{_≡_};
 ghost use Rattle.crmf.specs.meaning.Lists.{same};
 ghost use Rattle.writer.specs.steps.Writing.{rowsIn, sameRow, sameRows};
@@ -27,7 +28,7 @@ pub(crate) fn same_rows(draft: &[usize], bytes: &[u8], other: &[usize], octets: 
     true
 }
 
-// Whether two rows show the same kind and parent and, of leaves, the same octets.
+// Whether two rows show the same kind and parent and, of leaves, the same octets and a content equally far from the first byte.
 fn same_row(row: Row, bytes: &[u8], other: Row, octets: &[u8]) -> bool
     ensures { λ r. ⌜ r ≡ sameRow (now (bytes .entry)) (rowOf row) (now (octets .entry)) (rowOf other) ⌝ }
 {
@@ -40,10 +41,23 @@ fn same_row(row: Row, bytes: &[u8], other: Row, octets: &[u8]) -> bool
     if container(row.kind) {
         return true;
     }
+    if header_length(row) != header_length(other) {
+        return false;
+    }
     same_octets(
         leaf(bytes, row.first, row.whole),
         leaf(octets, other.first, other.whole),
     )
+}
+
+// How far a row's content is from its first byte; 0 if it is before that.
+fn header_length(row: Row) -> usize
+    ensures { λ r. ⌜ r ≡ row .content - row .first ⌝ }
+{
+    if row.content < row.first {
+        return 0;
+    }
+    row.content - row.first
 }
 
 // Whether two runs of octets are the same.

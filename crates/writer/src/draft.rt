@@ -16,6 +16,7 @@ pub(crate) struct Row {
     pub(crate) first: usize,
     pub(crate) whole: usize,
     pub(crate) parent: usize,
+    pub(crate) content: usize,
 }
 
 // How many rows a draft has.
@@ -36,6 +37,7 @@ pub(crate) fn row_at(draft: &[usize], i: usize) -> Row
         first: draft[at + 1],
         whole: draft[at + 2],
         parent: draft[at + 3],
+        content: draft[at + 4],
     }
 }
 

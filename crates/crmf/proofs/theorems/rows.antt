@@ -1,5 +1,6 @@
 -- The rows of a batch, and the table filled with them.
 pub mod FilledRows
+pub mod RowContents
 pub mod RowLaws
 pub mod RowVectors
 pub mod Rowless

@@ -1,28 +1,30 @@
--- Rows: the fields of an accepted element tree, by document 01's section "Rows", SPECIFICATION 5. They are defined on the meaning of the
--- grammar alone. Assumes nothing.
-use Prim.Native.Nat.{ℕ, _+_, _*_, _≤_, _<_}
+-- Rows: the fields of an accepted element tree, by document 01's section "Rows" and document 02's A11, SPECIFICATION 5. They are defined on the
+-- meaning of the grammar alone. Assumes nothing.
+use Prim.Native.Nat.{ℕ, _+_, _-_, _*_, _≤_, _<_}
 use mathlib.Core.Path.{_≡_}
 use mathlib.Core.Bool.{Bool, true, false, _&&_, not}
 use mathlib.Core.List.{List, [], _∷_, _++_, List·Memᴰ}
 use lib.Dec.{ltb, eqb}
 use lib.ListN.{length, take as first-numbers, drop}
-use Rattle.der.specs.meaning.Tree.{Tree, none}
+use lib.Seq.{slice}
+use Rattle.der.specs.meaning.Tree.{Tree, none, header}
 use Rattle.crmf.specs.meaning.Lists.{over}
 use Rattle.crmf.specs.meaning.Kinds as kinds
 use Rattle.crmf.specs.meaning.Notation.{among, Inside, Parts, Top}
 use Rattle.crmf.specs.meaning.Grammar.{content}
 use Rattle.crmf.specs.meaning.Language.{Matches, end, pass, take, choose, Within, unseen, parts}
 
--- "A row is kind, first byte, whole length, parent's row"
+-- "A row is kind, first byte, whole length, parent's row", and "a fifth number, the content's first byte"
 pub record Row : Type 0 where
   pub kind : ℕ
   pub first : ℕ
   pub whole : ℕ
   pub parent : ℕ
+  pub content : ℕ
 
 -- how many numbers a row has
 abbrev pub width : ℕ
-width = 4
+width = 5
 
 -- "Containers: batch 1, message 2, certReq 3, template 5, validity 14, extensions 19, controls 30, signature 51, keyEncipherment 52,
 -- keyAgreement 53, regInfo 70, carried certReq item 74"
@@ -30,22 +32,28 @@ unfoldable pub container : ℕ → Bool
 container =
     among (kinds.batch ∷ kinds.message ∷ kinds.certReq ∷ kinds.certTemplate ∷ kinds.validity ∷ kinds.extensions ∷ kinds.controls ∷ kinds.signature ∷ kinds.keyEncipherment ∷ kinds.keyAgreement ∷ kinds.regInfo ∷ kinds.regInfoCertReq ∷ [])
 
--- What a row shows of where its element stands: "first byte, whole length".
+-- What a row shows of where its element stands: "first byte, whole length" and "the content's first byte".
 pub record Extent : Type 0 where
   pub first : ℕ
   pub whole : ℕ
+  pub content : ℕ
 
--- the extent of an element
-abbrev pub extentOf : (identifier first whole : ℕ) (content : List ℕ) → Extent
-extentOf id p w c = record { first = p; whole = w }
+-- the length of an element's header, its identifier and length octets: what its whole length has beside its content
+abbrev pub headerLength : ℕ → List ℕ → ℕ
+headerLength whole content = whole - length content
+
+-- the extent of an element: its content comes after its header
+abbrev pub extentOf : (first whole : ℕ) (content : List ℕ) → Extent
+extentOf p w c = record { first = p; whole = w; content = p + headerLength w c }
 
 -- the extent around the batch, where no element is
 abbrev pub noExtent : Extent
-noExtent = record { first = 0; whole = 0 }
+noExtent = record { first = 0; whole = 0; content = 0 }
 
 -- the row of an element, by its kind, its extent and its parent's row
 abbrev pub rowWith : ℕ → Extent → ℕ → Row
-rowWith kind extent parent = record { kind = kind; first = extent .first; whole = extent .whole; parent = parent }
+rowWith kind extent parent =
+    record { kind = kind; first = extent .first; whole = extent .whole; parent = parent; content = extent .content }
 
 -- the same if it has a kind
 abbrev pub rowIf : ℕ → Extent → ℕ → List Row
@@ -61,10 +69,10 @@ unfoldable mutual
   pub rows : {R : ℕ → Bool} {ps : Parts} {t : Tree} → Matches R ps t → (n up : ℕ) (extent : Extent) → List Row
   rows end n up extent = []
   rows (pass ok m) n up extent = rows m n up extent
-  rows (take {id = id} {first = p} {whole = w} {c = c} f among fits read kept within m) n up extent =
+  rows (take {first = p} {whole = w} {c = c} f among fits read kept within m) n up extent =
       let item = rowIf (f .item) extent up in
       let above = parentIf (f .item) n up in
-      let here = extentOf id p w c in
+      let here = extentOf p w c in
       let own = rowIf (f .kind) here above in
       let next = n + length item in
       let inner = rowsIn within (next + length own) (parentIf (f .kind) next above) here in
@@ -82,7 +90,14 @@ batchRows m = rows m 0 0 noExtent
 -- the numbers of rows, one after the other
 unfoldable pub numbers : List Row → List ℕ
 numbers [] = []
-numbers (r ∷ rs) = r .kind ∷ r .first ∷ r .whole ∷ r .parent ∷ numbers rs
+numbers (r ∷ rs) = r .kind ∷ r .first ∷ r .whole ∷ r .parent ∷ r .content ∷ numbers rs
+
+-- "It is right": an element stands where the row says, and the row's fifth number is the element's first byte and the length of its header.
+pub record RightContent (s : List ℕ) (r : Row) : Type 0 where
+  pub identifier : ℕ
+  pub octets : List ℕ
+  pub stands : slice (r .first) (r .first + r .whole) s ≡ header identifier octets ++ octets
+  pub starts : r .content ≡ r .first + length (header identifier octets)
 
 -- whether a row of a kind and a whole length is a certReqId "of more than 8 content octets" (SPECIFICATION 4): 8 content octets have two before
 -- them
@@ -108,8 +123,8 @@ pub record FirstLongId (rs : List Row) (place : ℕ) : Type 0 where
   pub here : LongIdAt rs place
   pub least : (other : ℕ) → LongIdAt rs other → place ≤ other
 
--- A table with some rows in its first numbers, and its other numbers as they were: "An accepted reading changes the table's first 4 times
--- count numbers and no others".
+-- A table with some rows in its first numbers, and its other numbers as they were: "what an accepted reading changes" is "now five numbers a
+-- row", and "no others".
 pub record Holds (rs : List Row) (count : ℕ) (old new : List ℕ) : Type 0 where
   pub counted : length rs ≡ count
   pub whole : new ≡ over old 0 (numbers rs)

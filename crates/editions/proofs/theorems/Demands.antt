@@ -4,13 +4,14 @@ use Prim.Native.Nat.{ℕ, _*_, _≤_}
 use native.Mathlib.Omega.{arith}
 use mathlib.Core.Logic.{_↔_}
 use mathlib.Core.Path.{_≡_, refl, sym, ap, subst, _∙_}
-use mathlib.Core.List.{List}
+use mathlib.Core.List.{List, List·Memᴰ}
 use lib.ListN.{length, take}
+use Rattle.der.specs.meaning.Bounds.{depth}
 use Rattle.der.specs.meaning.Octets.{Octets}
 use Rattle.der.specs.meaning.Refusal.{accepted, otherEdition}
 use Rattle.crmf.specs.meaning.Edition.{Edition}
-use Rattle.crmf.specs.meaning.Rows.{width, batchRows, Holds}
-use Rattle.crmf.proofs.Laws.{short-none}
+use Rattle.crmf.specs.meaning.Rows.{Row, width, batchRows, RightContent, Holds}
+use Rattle.crmf.proofs.Laws.{row-content, short-none}
 use Rattle.editions.specs.declared.reader.Answer.{Answer}
 use Rattle.editions.specs.meaning.Edition.{opposite}
 use Rattle.editions.specs.meaning.Membership.{InGrammar, Difference, FirstDifference}
@@ -74,6 +75,13 @@ module _ {e : ℕ} (ed : Edition e) (s old : List ℕ) (octets : Octets s) where
       let (same, table) = related-reading e s old octets accepted place count new r in
       subst (λ (a : Answer). Holds (batchRows (g .batch)) (a .count) old new) same
       (subst (Holds (batchRows (g .batch)) (readAnswer e s old .count) old) table (accepting.computed-rows s old octets (number-of accepted place count new r) g))
+
+  -- A11: the rows' fifth numbers are "right for every row".
+  pub contents-right : (place count : ℕ) (new : List ℕ) → Reads e s old accepted place count new
+      → (rs : List Row) × (Holds rs count old new × ((r : Row) → List·Memᴰ r rs → RightContent s r))
+  contents-right place count new r =
+      let (g, fit, room) = accepting.computed-read s old octets ed .0 (number-of accepted place count new r) in
+      (batchRows (g .batch), (rows-shown place count new r g, row-content (g .batch) depth (g .formed) s (g .encoded)))
 
 -- Demand 3: an edition and its opposite, any bytes, and any two tables.
 module _ {e : ℕ} (ed : Edition e) (s old others : List ℕ) (octets : Octets s) where

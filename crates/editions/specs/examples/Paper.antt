@@ -21,7 +21,8 @@ abbrev pub lent : List ℕ
 lent =
     201 ∷ 202 ∷ 203 ∷ 204 ∷ 205 ∷ 206 ∷ 207 ∷ 208 ∷ 209 ∷ 210
     ∷ 211 ∷ 212 ∷ 213 ∷ 214 ∷ 215 ∷ 216 ∷ 217 ∷ 218 ∷ 219 ∷ 220
-    ∷ 221 ∷ 222 ∷ 223 ∷ 224 ∷ 225 ∷ 226 ∷ 227 ∷ 228 ∷ 229 ∷ 230 ∷ []
+    ∷ 221 ∷ 222 ∷ 223 ∷ 224 ∷ 225 ∷ 226 ∷ 227 ∷ 228 ∷ 229 ∷ 230
+    ∷ 231 ∷ 232 ∷ 233 ∷ 234 ∷ 235 ∷ 236 ∷ 237 ∷ []
 
 -- refused with a number and a place: the count is 0, and the table stays
 abbrev pub refusedWith : List ℕ → ℕ → List ℕ → ℕ → ℕ → Entry
@@ -43,18 +44,23 @@ abbrev pub judging : List ℕ → Entry → Entry
 judging vs x =
     record { edition = x .edition; octets = x .octets; table = x .table; number = x .number; place = x .place; count = x .count; after = x .after; verdicts = vs }
 
--- "S = 30 09 30 07 30 05 02 01 00 30 00: accepted, five rows, printed whole, one row a line"
+-- "S = 30 09 30 07 30 05 02 01 00 30 00: accepted, five rows, printed whole, one row a line"; "01's cases and listing gain the column (for S: 2,
+-- 4, 6, 8, 11)", the fifth of each row here and below
 abbrev pub S : List ℕ
 S = 0x30 ∷ 0x09 ∷ 0x30 ∷ 0x07 ∷ 0x30 ∷ 0x05 ∷ 0x02 ∷ 0x01 ∷ 0x00 ∷ 0x30 ∷ 0x00 ∷ []
 
 abbrev pub rowsOfS : List ℕ
 rowsOfS =
-    1 ∷ 0 ∷ 11 ∷ 0
-    ∷ 2 ∷ 2 ∷ 9 ∷ 0
-    ∷ 3 ∷ 4 ∷ 7 ∷ 1
-    ∷ 4 ∷ 6 ∷ 3 ∷ 2
-    ∷ 5 ∷ 9 ∷ 2 ∷ 2
+    1 ∷ 0 ∷ 11 ∷ 0 ∷ 2
+    ∷ 2 ∷ 2 ∷ 9 ∷ 0 ∷ 4
+    ∷ 3 ∷ 4 ∷ 7 ∷ 1 ∷ 6
+    ∷ 4 ∷ 6 ∷ 3 ∷ 2 ∷ 8
+    ∷ 5 ∷ 9 ∷ 2 ∷ 2 ∷ 11
     ∷ []
+
+-- the numbers of the table after five rows
+abbrev pub afterS : List ℕ
+afterS = 226 ∷ 227 ∷ 228 ∷ 229 ∷ 230 ∷ 231 ∷ 232 ∷ 233 ∷ 234 ∷ 235 ∷ 236 ∷ 237 ∷ []
 
 -- "S and 00"
 abbrev pub longerS : List ℕ
@@ -67,13 +73,13 @@ choice =
 
 abbrev pub rowsOfChoice : List ℕ
 rowsOfChoice =
-    1 ∷ 0 ∷ 16 ∷ 0
-    ∷ 2 ∷ 2 ∷ 14 ∷ 0
-    ∷ 3 ∷ 4 ∷ 7 ∷ 1
-    ∷ 4 ∷ 6 ∷ 3 ∷ 2
-    ∷ 5 ∷ 9 ∷ 2 ∷ 2
-    ∷ 52 ∷ 11 ∷ 5 ∷ 1
-    ∷ 61 ∷ 13 ∷ 3 ∷ 5
+    1 ∷ 0 ∷ 16 ∷ 0 ∷ 2
+    ∷ 2 ∷ 2 ∷ 14 ∷ 0 ∷ 4
+    ∷ 3 ∷ 4 ∷ 7 ∷ 1 ∷ 6
+    ∷ 4 ∷ 6 ∷ 3 ∷ 2 ∷ 8
+    ∷ 5 ∷ 9 ∷ 2 ∷ 2 ∷ 11
+    ∷ 52 ∷ 11 ∷ 5 ∷ 1 ∷ 13
+    ∷ 61 ∷ 13 ∷ 3 ∷ 5 ∷ 15
     ∷ []
 
 -- "30 1E 30 1C 30 05 02 01 00 30 00 30 13 30 11 06 09 2B 06 01 05 05 07 05 02 01 0C 04 61 3F 62 25: edition 2, further rows 70 11 21 1 and
@@ -85,13 +91,13 @@ pairs id =
 
 abbrev pub rowsOfPairs : ℕ → List ℕ
 rowsOfPairs kind =
-    1 ∷ 0 ∷ 32 ∷ 0
-    ∷ 2 ∷ 2 ∷ 30 ∷ 0
-    ∷ 3 ∷ 4 ∷ 7 ∷ 1
-    ∷ 4 ∷ 6 ∷ 3 ∷ 2
-    ∷ 5 ∷ 9 ∷ 2 ∷ 2
-    ∷ 70 ∷ 11 ∷ 21 ∷ 1
-    ∷ kind ∷ 13 ∷ 19 ∷ 5
+    1 ∷ 0 ∷ 32 ∷ 0 ∷ 2
+    ∷ 2 ∷ 2 ∷ 30 ∷ 0 ∷ 4
+    ∷ 3 ∷ 4 ∷ 7 ∷ 1 ∷ 6
+    ∷ 4 ∷ 6 ∷ 3 ∷ 2 ∷ 8
+    ∷ 5 ∷ 9 ∷ 2 ∷ 2 ∷ 11
+    ∷ 70 ∷ 11 ∷ 21 ∷ 1 ∷ 13
+    ∷ kind ∷ 13 ∷ 19 ∷ 5 ∷ 15
     ∷ []
 
 -- the batches
@@ -113,23 +119,23 @@ entries =
     ∷ refusedIn 1 (0x1F ∷ 0x00 ∷ []) 3 0
     ∷ refusedIn 2 (0x1F ∷ 0x00 ∷ []) 3 0
     -- "S: accepted, five rows"
-    ∷ acceptedIn 1 S 5 rowsOfS (221 ∷ 222 ∷ 223 ∷ 224 ∷ 225 ∷ 226 ∷ 227 ∷ 228 ∷ 229 ∷ 230 ∷ [])
-    ∷ acceptedIn 2 S 5 rowsOfS (221 ∷ 222 ∷ 223 ∷ 224 ∷ 225 ∷ 226 ∷ 227 ∷ 228 ∷ 229 ∷ 230 ∷ [])
+    ∷ acceptedIn 1 S 5 rowsOfS afterS
+    ∷ acceptedIn 2 S 5 rowsOfS afterS
     -- "S and 00: 7 at 11"
     ∷ refusedIn 1 longerS 7 11
     ∷ refusedIn 2 longerS 7 11
     -- "both editions; further rows 52 11 5 1 and 61 13 3 5; verdict 5"
-    ∷ judging (5 ∷ []) (acceptedIn 1 choice 7 rowsOfChoice (229 ∷ 230 ∷ []))
-    ∷ judging (5 ∷ []) (acceptedIn 2 choice 7 rowsOfChoice (229 ∷ 230 ∷ []))
+    ∷ judging (5 ∷ []) (acceptedIn 1 choice 7 rowsOfChoice (236 ∷ 237 ∷ []))
+    ∷ judging (5 ∷ []) (acceptedIn 2 choice 7 rowsOfChoice (236 ∷ 237 ∷ []))
     -- "edition 2, further rows 70 11 21 1 and 73 13 19 5; edition 1, 9 at 26"
-    ∷ acceptedIn 2 (pairs 0x0C) 7 (rowsOfPairs 73) (229 ∷ 230 ∷ [])
+    ∷ acceptedIn 2 (pairs 0x0C) 7 (rowsOfPairs 73) (236 ∷ 237 ∷ [])
     ∷ refusedIn 1 (pairs 0x0C) 9 26
     -- "With 04 for 0C: the reverse, kind 72"
-    ∷ acceptedIn 1 (pairs 0x04) 7 (rowsOfPairs 72) (229 ∷ 230 ∷ [])
+    ∷ acceptedIn 1 (pairs 0x04) 7 (rowsOfPairs 72) (236 ∷ 237 ∷ [])
     ∷ refusedIn 2 (pairs 0x04) 9 26
-    -- "19 and 20 numbers of table for S": 11, with the place 0, and accepted
-    ∷ refusedWith (take 19 lent) 1 S 11 0
-    ∷ refusedWith (take 19 lent) 2 S 11 0
-    ∷ acceptedWith (take 20 lent) 1 S 5 rowsOfS []
-    ∷ acceptedWith (take 20 lent) 2 S 5 rowsOfS []
+    -- "S's room cases become 24 and 25": 11, with the place 0, and accepted
+    ∷ refusedWith (take 24 lent) 1 S 11 0
+    ∷ refusedWith (take 24 lent) 2 S 11 0
+    ∷ acceptedWith (take 25 lent) 1 S 5 rowsOfS []
+    ∷ acceptedWith (take 25 lent) 2 S 5 rowsOfS []
     ∷ []

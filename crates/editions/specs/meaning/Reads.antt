@@ -14,8 +14,8 @@ use Rattle.editions.specs.meaning.Answers.{Answers}
 pub data Reads (e : ℕ) (s old : List ℕ) : (number place count : ℕ) (new : List ℕ) → Type 0 where
   -- a refusal before 11
   refused : {number place count : ℕ} → Answers e s number place count → (number ≡ accepted → ⊥) → Reads e s old number place count old
-  -- 11 "table or output too short": "Room is enough exactly when the accepted answer fits: for rows, 4 times count numbers"
+  -- 11 "table or output too short": "Room is enough exactly when the accepted answer fits"; "Room .. [is] now five numbers a row"
   tooShort : {count : ℕ} → Answers e s accepted 0 count → length old < width * count → Reads e s old noRoom 0 0 old
-  -- "An accepted reading changes the table's first 4 times count numbers and no others": they become the rows of the batch
+  -- "what an accepted reading changes [is] now five numbers a row" "and no others": they become the rows of the batch
   shown : (g : InGrammar e s) → Answers e s accepted 0 (length (batchRows (g .batch))) → width * length (batchRows (g .batch)) ≤ length old
       → Reads e s old accepted 0 (length (batchRows (g .batch))) (over old 0 (numbers (batchRows (g .batch))))

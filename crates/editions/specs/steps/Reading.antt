@@ -77,6 +77,6 @@ readAnswer e s old =
     let a = answer e s in
     elim (eqb (a .number) acceptance) [ false ↦ a | true ↦ elim (fits (a .count) old) [ true ↦ a | false ↦ refusal noRoom 0 ] ]
 
--- "An accepted reading changes the table's first 4 times count numbers and no others", and a refusal changes none
+-- "what an accepted reading changes" is "now five numbers a row", and a refusal changes none
 unfoldable pub tableAfter : ℕ → List ℕ → List ℕ → List ℕ
 tableAfter e s old = elim (eqb (readAnswer e s old .number) acceptance) [ true ↦ over old 0 (numbers (rowsOfInput s)) | false ↦ old ]

@@ -1,9 +1,9 @@
 -- Comparing rows one by one. Assumes nothing.
-use Prim.Native.Nat.{ℕ, suc, _+_, _<_}
+use Prim.Native.Nat.{ℕ, suc, _+_, _-_, _<_}
 use native.Mathlib.Numerals.{add-one}
 use native.Mathlib.Omega.{arith}
 use mathlib.Core.Path.{_≡_, refl, sym, ap, ap₂, _∙_}
-use mathlib.Core.Bool.{Bool, true, false, _&&_, and-false}
+use mathlib.Core.Bool.{Bool, true, false, _&&_, _||_, and-true, and-false}
 use mathlib.Core.List.{List, [], _∷_}
 use lib.Dec.{eqb}
 use lib.ListN.{length, getD, take, drop}
@@ -13,7 +13,7 @@ use Rattle.crmf.specs.meaning.Lists.{same}
 use Rattle.crmf.specs.meaning.Rows.{Row, container}
 use Rattle.crmf.specs.meaning.Pieces.{Piece, pieceOf}
 use Rattle.crmf.proofs.Laws.{same-none, same-more}
-use Rattle.writer.specs.steps.Writing.{samePiece, sameRow, sameRows}
+use Rattle.writer.specs.steps.Writing.{samePiece, sameContent, sameRow, sameRows}
 use Rattle.writer.proofs.theorems.WholeLengths.{leaf-octets}
 
 -- octets of the same length, compared up to a place
@@ -29,7 +29,7 @@ pub same-whole : (a b : List ℕ) (i : ℕ) (alike : Bool) → i ≡ length a �
 same-whole a b i alike end sized is =
     is ∙ ap₂ same (ap (λ (n : ℕ). take n a) end ∙ take-length a) (ap (λ (n : ℕ). take n b) (end ∙ sized) ∙ take-length b)
 
--- the pieces of two rows
+-- two rows and their pieces
 module _ (bytes octets : List ℕ) (r s : Row) where
   abbrev x : Piece
   x = pieceOf bytes r
@@ -37,33 +37,50 @@ module _ (bytes octets : List ℕ) (r s : Row) where
   abbrev y : Piece
   y = pieceOf octets s
 
-  pub other-kind : (r .kind ≡ s .kind → ⊥) → false ≡ samePiece x y
-  other-kind other = sym (ap (λ (b : Bool). b && (eqb (x .parent) (y .parent) && same (x .octets) (y .octets))) (ne-eqb (r .kind) (s .kind) other))
+  -- rows with other pieces don't show the same
+  other-piece : samePiece x y ≡ false → false ≡ sameRow bytes r octets s
+  other-piece other = sym (ap (λ (b : Bool). b && sameContent r s) other)
+
+  pub other-kind : (r .kind ≡ s .kind → ⊥) → false ≡ sameRow bytes r octets s
+  other-kind other = other-piece (ap (λ (b : Bool). b && (eqb (x .parent) (y .parent) && same (x .octets) (y .octets))) (ne-eqb (r .kind) (s .kind) other))
 
   module _ (kinds : r .kind ≡ s .kind) where
     same-kind : samePiece x y ≡ (eqb (x .parent) (y .parent) && same (x .octets) (y .octets))
     same-kind = ap (λ (b : Bool). b && (eqb (x .parent) (y .parent) && same (x .octets) (y .octets))) (eq-eqb (r .kind) (s .kind) kinds)
 
-    pub other-parent : (r .parent ≡ s .parent → ⊥) → false ≡ samePiece x y
-    other-parent other = sym (same-kind ∙ ap (λ (b : Bool). b && same (x .octets) (y .octets)) (ne-eqb (r .parent) (s .parent) other))
+    pub other-parent : (r .parent ≡ s .parent → ⊥) → false ≡ sameRow bytes r octets s
+    other-parent other = other-piece (same-kind ∙ ap (λ (b : Bool). b && same (x .octets) (y .octets)) (ne-eqb (r .parent) (s .parent) other))
 
     module _ (parents : r .parent ≡ s .parent) where
       same-parent : samePiece x y ≡ same (x .octets) (y .octets)
       same-parent = same-kind ∙ ap (λ (b : Bool). b && same (x .octets) (y .octets)) (eq-eqb (r .parent) (s .parent) parents)
 
-      -- containers show no octets
-      pub both-containers : container (r .kind) ≡ true → true ≡ samePiece x y
+      -- containers show no octets, and their contents are ignored
+      pub both-containers : container (r .kind) ≡ true → true ≡ sameRow bytes r octets s
       both-containers is =
-          sym (same-parent ∙ ap₂ same (no-octets bytes r is) (no-octets octets s (ap container (sym kinds) ∙ is)) ∙ same-none)
+          let alike : samePiece x y ≡ true =
+          same-parent ∙ ap₂ same (no-octets bytes r is) (no-octets octets s (ap container (sym kinds) ∙ is)) ∙ same-none in
+          let ignored : sameContent r s ≡ true = ap (λ (b : Bool). b || eqb (r .content - r .first) (s .content - s .first)) is in
+          sym (ap₂ (λ (a b : Bool). a && b) alike ignored)
         where
           no-octets : (l : List ℕ) (q : Row) → container (q .kind) ≡ true → pieceOf l q .octets ≡ []
           no-octets l q is = rw (pieceOf, is)
 
-      -- and leaves those that they point at
-      pub both-leaves : container (r .kind) ≡ false → (a b : List ℕ) → a ≡ slice (r .first) (r .first + r .whole) bytes
-          → b ≡ slice (s .first) (s .first + s .whole) octets → same a b ≡ samePiece x y
-      both-leaves is a b first second =
-          ap₂ same (first ∙ sym (leaf-octets bytes r is)) (second ∙ sym (leaf-octets octets s (ap container (sym kinds) ∙ is))) ∙ sym same-parent
+      module _ (is : container (r .kind) ≡ false) where
+        -- of leaves they are compared
+        same-by : sameContent r s ≡ eqb (r .content - r .first) (s .content - s .first)
+        same-by = ap (λ (b : Bool). b || eqb (r .content - r .first) (s .content - s .first)) is
+
+        pub other-content : (r .content - r .first ≡ s .content - s .first → ⊥) → false ≡ sameRow bytes r octets s
+        other-content other = sym (ap (λ (b : Bool). samePiece x y && b) (same-by ∙ ne-eqb _ _ other) ∙ and-false (samePiece x y))
+
+        -- and so are the octets that they point at
+        pub both-leaves : r .content - r .first ≡ s .content - s .first → (a b : List ℕ) → a ≡ slice (r .first) (r .first + r .whole) bytes
+            → b ≡ slice (s .first) (s .first + s .whole) octets → same a b ≡ sameRow bytes r octets s
+        both-leaves far a b first second =
+            let alike : same a b ≡ samePiece x y =
+            ap₂ same (first ∙ sym (leaf-octets bytes r is)) (second ∙ sym (leaf-octets octets s (ap container (sym kinds) ∙ is))) ∙ sym same-parent in
+            alike ∙ sym (ap (λ (b : Bool). samePiece x y && b) (same-by ∙ eq-eqb _ _ far) ∙ and-true (samePiece x y))
 
 -- two lists of rows of different lengths don't show the same
 pub other-count : (bytes octets : List ℕ) (rs qs : List Row) → (length rs ≡ length qs → ⊥) → sameRows bytes rs octets qs ≡ false

@@ -6,7 +6,7 @@ use native.Mathlib.Omega.{arith}
 use mathlib.Core.Logic.{_↔_}
 use mathlib.Core.Path.{_≡_, refl, sym, ap, subst, _∙_}
 use mathlib.Core.Bool.{Bool, true, false, _||_, and-eq-true-iff}
-use mathlib.Core.List.{List, [], _∷_}
+use mathlib.Core.List.{List, [], _∷_, List·Memᴰ}
 use lib.Dec.{leb}
 use lib.ListN.{length, getD, take, drop}
 use lib.Seq.{take-at}
@@ -14,11 +14,11 @@ use borrow.Author.Tests.{le-leb}
 use Rattle.der.specs.meaning.Refusal.{accepted as acceptance, noSuchBatch}
 use Rattle.der.specs.meaning.Octets.{Octets}
 use Rattle.der.specs.meaning.Bounds.{depth}
-use Rattle.crmf.specs.meaning.Rows.{Row, width, container, numbers, batchRows, allShort, Holds}
+use Rattle.crmf.specs.meaning.Rows.{Row, width, container, numbers, batchRows, allShort, RightContent, Holds}
 use Rattle.crmf.specs.meaning.Lists.{over}
 use Rattle.crmf.specs.meaning.Pieces.{piecesOf}
 use Rattle.crmf.specs.meaning.Edition.{Edition}
-use Rattle.crmf.proofs.Laws.{noRow, row-ends, numbers-length, over-parts, short-none}
+use Rattle.crmf.proofs.Laws.{noRow, row-ends, row-content, numbers-length, over-parts, short-none}
 use Rattle.editions.specs.meaning.Membership.{InGrammar}
 use Rattle.editions.specs.declared.reader.Answer.{Answer}
 use Rattle.editions.specs.meaning.Answers.{accept}
@@ -71,10 +71,12 @@ written-has-rows {e} {draft} {bytes} {old} (written ed s h room) zero =
     let first : take (length s) (over old 0 s) ≡ s = ap (take (length s)) (over-parts old 0 s) ∙ take-at s (drop (0 + length s) old) (length s) refl in
     subst (HasRows e draft bytes) (sym first) h
 
--- "and reading it shows the draft's fields": given room it accepts, with the draft's kinds and parents and, in each leaf, its bytes
+-- "and reading it shows the draft's fields": given room it accepts, with the draft's kinds and parents and, in each leaf, its bytes; where each
+-- content begins is by the batch's own places
 pub reads-back : {e : ℕ} → Edition e → (draft bytes s table : List ℕ) (h : HasRows e draft bytes s) → length draft ≤ length table
     → (number place count : ℕ) (new : List ℕ) → Reads e s table number place count new
-    → (number ≡ acceptance) × ((rs : List Row) × (Holds rs count table new × (piecesOf s rs ≡ piecesOf bytes (h .rows))))
+    → (number ≡ acceptance) × ((rs : List Row) × (Holds rs count table new × (piecesOf s rs ≡ piecesOf bytes (h .rows))
+    × ((r : Row) → List·Memᴰ r rs → RightContent s r)))
 reads-back {e} ed draft bytes s table h room number place count new r =
     let g = h .batch in
     let rs = batchRows (g .batch) in
@@ -83,7 +85,7 @@ reads-back {e} ed draft bytes s table h room number place count new r =
     let own = shown g (accept ed g (short-none rs (h .fit))) size in
     let (zero, place-zero, counted, table-same) = reads-once e s table (h .octets) number place count acceptance 0 (length rs) new _ r own in
     let accepted-so : Reads e s table acceptance place count new = subst (λ (n : ℕ). Reads e s table n place count new) zero r in
-    (zero, (rs, (rows-shown ed s table (h .octets) place count new accepted-so g, sym (h .alike))))
+    (zero, (rs, (rows-shown ed s table (h .octets) place count new accepted-so g, sym (h .alike), row-content (g .batch) depth (g .formed) s (g .encoded))))
 
 -- leaves that end within the bytes lie in them
 inside-all : (s : List ℕ) (rs : List Row) → ((i : ℕ) → i < length rs → getD rs i noRow .first + getD rs i noRow .whole ≤ length s) → inside s rs ≡ true
@@ -112,6 +114,7 @@ own-rows s octets g fit = record {
   numbered = refl;
   leaves = inside-all s (batchRows (g .batch)) (λ i there. omega (arith, row-ends (g .batch) depth (g .formed) i there, ap length (g .encoded)));
   alike = refl;
+  right = λ r at leaf. row-content (g .batch) depth (g .formed) s (g .encoded) r at;
 }
 
 -- "Writing the rows of an accepted batch into enough room gives its bytes again"

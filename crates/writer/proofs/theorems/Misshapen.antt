@@ -1,4 +1,4 @@
--- "12 also if the row numbers aren't a multiple of four, none, or a leaf leaves the slice": no batch has the rows of such a draft.
+-- 12 also if "a draft's numbers" aren't "a multiple of five", are "none, or a leaf leaves the slice": no batch has the rows of such a draft.
 -- Assumes nothing.
 use Prim.Native.Nat.{ℕ, zero, suc, _+_, _*_, _≤_, _<_}
 use native.Mathlib.Omega.{arith}
@@ -38,7 +38,7 @@ inside-each bytes (r ∷ rs) is (suc i) there leaf =
     inside-each bytes rs (and-eq-true-iff (container (r .kind) || leb (r .first + r .whole) (length bytes)) (inside bytes rs) .0 is .1) i (omega arith) leaf
 
 module _ {e : ℕ} {draft bytes s : List ℕ} (h : HasRows e draft bytes s) where
-  -- the draft has four numbers for each row
+  -- the draft has the numbers of each row
   whole-rows : length draft ≡ width * length (h .rows)
   whole-rows = ap length (sym (h .numbered)) ∙ numbers-length (h .rows)
 

@@ -13,8 +13,8 @@ use Rattle.writer.specs.meaning.Draft.{HasRows}
 pub data Writes (e : ℕ) (draft bytes old : List ℕ) : (number place count : ℕ) (new : List ℕ) → Type 0 where
   -- "edition not 1 or 2"
   unknown-edition : (Edition e → ⊥) → Writes e draft bytes old unknownEdition 0 0 old
-  -- "draft describes no acceptable batch"; "also if the row numbers aren't a multiple of four, none, or a leaf leaves the slice": no batch has
-  -- the rows then
+  -- "draft describes no acceptable batch"; also if "a draft's numbers" aren't "a multiple of five", are "none, or a leaf leaves the slice", or
+  -- if a leaf's content's first byte isn't right: no batch has the rows then
   no-batch : Edition e → ((s : List ℕ) → HasRows e draft bytes s → ⊥) → Writes e draft bytes old noSuchBatch 0 0 old
   -- "output too short": "Room is enough exactly when the accepted answer fits"
   no-room : Edition e → (s : List ℕ) → HasRows e draft bytes s → length old < length s → Writes e draft bytes old noRoom 0 0 old

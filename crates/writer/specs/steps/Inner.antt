@@ -18,7 +18,7 @@ use Rattle.writer.specs.steps.Writing.{mostRows, rowsIn, shaped, drafted
 
 -- a row as the code has it
 abbrev pub rowOf : Given → Row
-rowOf r = record { kind = r .kind; first = r .first; whole = r .whole; parent = r .parent }
+rowOf r = record { kind = r .kind; first = r .first; whole = r .whole; parent = r .parent; content = r .content }
 
 -- A number stands for another: both are equal and at most the longest length of a batch, or both are greater.
 pub record Stands (r n : ℕ) : Type 0 where

@@ -1,6 +1,6 @@
 -- The answer and the output of writing a draft in an edition, computed: the only batch that can have the rows is put together, read and
 -- compared. A theorem (`writes-exactly`) ties it to the meaning. Assumes nothing.
-use Prim.Native.Nat.{ℕ, _*_}
+use Prim.Native.Nat.{ℕ, _-_, _*_}
 use mathlib.Core.Bool.{Bool, true, false, _&&_, _||_}
 use mathlib.Core.List.{List, [], _∷_}
 use lib.Dec.{eqb, leb}
@@ -8,7 +8,7 @@ use lib.ListN.{length}
 use Rattle.der.specs.meaning.Refusal.{accepted as acceptance, noRoom, noSuchBatch, unknownEdition}
 use Rattle.der.specs.meaning.Bounds.{longest}
 use Rattle.crmf.specs.meaning.Lists.{same, over}
-use Rattle.crmf.specs.meaning.Rows.{Row, width}
+use Rattle.crmf.specs.meaning.Rows.{Row, container, width}
 use Rattle.crmf.specs.steps.rows.Fill.{rowsOfInput}
 use Rattle.crmf.specs.meaning.Pieces.{Piece, pieceOf, piecesOf}
 use Rattle.crmf.specs.steps.rows.Assembly.{assembled, noneLonger}
@@ -17,19 +17,20 @@ use Rattle.editions.specs.meaning.Edition.{rfc2511, rfc4211}
 use Rattle.editions.specs.steps.Reading.{refusal, accepted, answer}
 use Rattle.writer.specs.meaning.Draft.{inside}
 
--- the rows of a draft, each four of its numbers; fewer than four after the last row are ignored
+-- the rows of a draft, each `width` of its numbers; fewer after the last row are ignored
 unfoldable pub rowsIn : List ℕ → List Row
 rowsIn [] = []
 rowsIn (k ∷ []) = []
 rowsIn (k ∷ p ∷ []) = []
 rowsIn (k ∷ p ∷ w ∷ []) = []
-rowsIn (k ∷ p ∷ w ∷ u ∷ more) = record { kind = k; first = p; whole = w; parent = u } ∷ rowsIn more
+rowsIn (k ∷ p ∷ w ∷ u ∷ []) = []
+rowsIn (k ∷ p ∷ w ∷ u ∷ c ∷ more) = record { kind = k; first = p; whole = w; parent = u; content = c } ∷ rowsIn more
 
 -- the most rows that a batch can have: each has two octets of its own
 abbrev pub mostRows : ℕ
 mostRows = 32767
 
--- "12 also if the row numbers aren't a multiple of four"; no batch has more rows than `mostRows`
+-- "a draft's numbers [are] a multiple of five"; no batch has more rows than `mostRows`
 abbrev pub shaped : List ℕ → Bool
 shaped draft = eqb (width * length (rowsIn draft)) (length draft) && leb (length (rowsIn draft)) mostRows
 
@@ -44,9 +45,13 @@ candidate draft bytes = assembled 0 (drafted draft bytes)
 abbrev pub samePiece : Piece → Piece → Bool
 samePiece x y = eqb (x .kind) (y .kind) && (eqb (x .parent) (y .parent) && same (x .octets) (y .octets))
 
+-- leaves' contents are equally far from their first bytes
+abbrev pub sameContent : Row → Row → Bool
+sameContent r q = container (r .kind) || eqb (r .content - r .first) (q .content - q .first)
+
 -- two rows, each over octets of its own, show the same
 abbrev pub sameRow : List ℕ → Row → List ℕ → Row → Bool
-sameRow bytes r octets q = samePiece (pieceOf bytes r) (pieceOf octets q)
+sameRow bytes r octets q = samePiece (pieceOf bytes r) (pieceOf octets q) && sameContent r q
 
 -- as many rows show the same, each as the other at its number
 unfoldable pub sameRows : List ℕ → List Row → List ℕ → List Row → Bool

@@ -1,4 +1,4 @@
--- `crmf::rows::put` meets its contract: four stores are one row. Assumes nothing.
+-- `crmf::rows::put` meets its contract: five stores are one row. Assumes nothing.
 use borrow.Author.Needs.{needs}
 use native.Mathlib.Omega.{arith}
 use lib.ListN.{length-set}
@@ -55,6 +55,15 @@ mul-out-4 c = search needs
 slice-write-out-4 : tie.Need-slice-write-out-4
 slice-write-out-4 c = simp length-set (omega arith)
 
+add-out-4 : tie.Need-add-out-4
+add-out-4 c = search needs
+
+mul-out-5 : tie.Need-mul-out-5
+mul-out-5 c = search needs
+
+slice-write-out-5 : tie.Need-slice-write-out-5
+slice-write-out-5 c = simp length-set (omega arith)
+
 add-result-2 : tie.Need-add-result-2
 add-result-2 c = search needs
 
@@ -86,6 +95,9 @@ put-spec =
     add-out-3
     mul-out-4
     slice-write-out-4
+    add-out-4
+    mul-out-5
+    slice-write-out-5
     add-result-2
     same-length
     returns-3)

@@ -1,13 +1,16 @@
--- An element that fits a line is the one that is read at its place, and its places lie in order. Assumes nothing.
-use Prim.Native.Nat.{ℕ, _≤_, _<_}
+-- An element that fits a line is the one that is read at its place, its places lie in order, and its content comes after its header. Assumes nothing.
+use Prim.Native.Nat.{ℕ, _+_, _-_, _≤_, _<_}
+use native.Mathlib.Omega.{arith}
 use mathlib.Core.Path.{_≡_, ap₂}
 use mathlib.Core.List.{List}
 use lib.ListN.{length}
+use lib.Seq.{slice, length-slice}
 use Rattle.der.specs.declared.element.reading.Element.{Element}
 use Rattle.der.specs.meaning.Bounds.{longest}
 use Rattle.der.specs.steps.Reading.{readAt}
 use Rattle.der.proofs.Laws.{InOrder, read-at-in-order}
 use Rattle.crmf.specs.declared.grammar.element.Fit.{Fit}
+use Rattle.crmf.specs.meaning.Rows.{headerLength}
 use Rattle.crmf.specs.steps.grammar.Fitting.{FitsAt}
 
 -- the element by the identifier that is read and the places of the fit
@@ -20,3 +23,8 @@ module _ (s : List ℕ) (p e k : ℕ) (f : Fit) (h : FitsAt (readAt s p e) p k f
 
   pub fit-order : p < e → e ≤ length s → length s ≤ longest → InOrder p e (fitted s p e f)
   fit-order some fits high = rw fit-read (read-at-in-order s p e some fits high)
+
+  pub fit-content : p < e → e ≤ length s → length s ≤ longest → f .content ≡ p + headerLength (f .end - p) (slice (f .content) (f .end) s)
+  fit-content some fits high =
+      let order = fit-order some fits high in
+      omega (arith, order .headed, order .ordered, length-slice (f .content) (f .end) s (omega (arith, order .within)))

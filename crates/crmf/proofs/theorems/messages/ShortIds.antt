@@ -48,7 +48,7 @@ record NoLong {R : ℕ → Bool} {ps : Parts} {t : Tree} (m : Matches R ps t) : 
 
 -- the extent of a field
 abbrev fieldExtent : Field → Extent
-fieldExtent f = extentOf (f .identifier) (f .place) (f .whole) (f .content)
+fieldExtent f = extentOf (f .place) (f .whole) (f .content)
 
 -- A field of a form: it is no long certReqId, and there is none inside it.
 record ShortField (R : ℕ → Bool) (form : Form) (f : Field) : Type 0 where

@@ -21,12 +21,12 @@ pub container-kinds : (k : ℕ)
 unfolding container among
 container-kinds k = refl
 
--- no rows have no numbers, and a row has four before the others'
+-- no rows have no numbers, and a row has its own before the others'
 pub numbers-none : numbers [] ≡ []
 unfolding numbers
 numbers-none = refl
 
-pub numbers-row : (r : Row) (rs : List Row) → numbers (r ∷ rs) ≡ r .kind ∷ r .first ∷ r .whole ∷ r .parent ∷ numbers rs
+pub numbers-row : (r : Row) (rs : List Row) → numbers (r ∷ rs) ≡ r .kind ∷ r .first ∷ r .whole ∷ r .parent ∷ r .content ∷ numbers rs
 unfolding numbers
 numbers-row r rs = refl
 

@@ -32,10 +32,10 @@ piecesOne kind item octets inner later n up around =
     first ++ (own ++ (within ++ later (next + length own + length within)))
 
 -- Where an element's octets stand: its own, those of the elements inside it and those of the elements after it.
-record Shown (s : List ℕ) (id p w : ℕ) (c : List ℕ) (inside rest : Tree) : Type 0 where
-  own : slice p (p + w) s ≡ header id c ++ c
-  within : StandsAt s (p + length (header id c)) (encode inside)
-  further : StandsAt s (p + w) (encode rest)
+pub record Shown (s : List ℕ) (id p w : ℕ) (c : List ℕ) (inside rest : Tree) : Type 0 where
+  pub own : slice p (p + w) s ≡ header id c ++ c
+  pub within : StandsAt s (p + length (header id c)) (encode inside)
+  pub further : StandsAt s (p + w) (encode rest)
 
 module _ (s : List ℕ) where
   -- rows show a piece each
@@ -78,7 +78,7 @@ module _ (s : List ℕ) where
       simp (pieces-append, item-shown, own-shown, item-one, own-one, inner-count, inner, later)
 
   -- a well-formed element that stands at its place shows them
-  shown : (left q id p w : ℕ) (c : List ℕ) (inside rest : Tree) → Standing left q id p w c inside rest
+  pub shown : (left q id p w : ℕ) (c : List ℕ) (inside rest : Tree) → Standing left q id p w c inside rest
       → StandsAt s q (encode (element id p w c inside rest)) → Shown s id p w c inside rest
   shown left q id p w c inside rest a there =
       let octets = header id c ++ c in
@@ -105,7 +105,7 @@ module _ (s : List ℕ) where
     rows-pieces (take {id = id} {first = p} {whole = w} {c = c} {inside = inside} {rest = rest} f among fits read kept within m)
         left q wf there n up extent around outer =
         let octets = header id c ++ c in
-        let here = extentOf id p w c in
+        let here = extentOf p w c in
         let stand = standing q id p w c inside rest left wf in
         let show = shown left q id p w c inside rest stand there in
         one-shown (f .kind) (f .item) here octets around (λ j u. rowsIn within j u here) (λ j u. piecesIn within j u octets)

@@ -14,7 +14,7 @@ use Rattle.crmf.specs.meaning.Kinds as kinds
 use Rattle.crmf.specs.meaning.Notation.{among, Top, Batch, Inside, Form, once, part, Parts, done, _then_, holding, row}
 use Rattle.crmf.specs.meaning.Grammar.{content}
 use Rattle.crmf.specs.meaning.Language.{partsAfter, OneOf, first, Matches, end, pass, take, choose, Within, unseen, parts}
-use Rattle.crmf.specs.meaning.Rows.{Row, Extent, extentOf, noExtent, rowWith, container, rows, rowsIn, batchRows}
+use Rattle.crmf.specs.meaning.Rows.{Row, Extent, headerLength, extentOf, noExtent, rowWith, container, rows, rowsIn, batchRows}
 use Rattle.crmf.proofs.theorems.grammar.Choices.{never-both}
 use Rattle.crmf.proofs.theorems.values.ValueRules.{way-selected}
 use Rattle.crmf.proofs.theorems.rows.RowsOfLines.{rowsOne}
@@ -22,12 +22,12 @@ use Rattle.crmf.proofs.theorems.grammar.Containers.{bearsIf, early, ear
 use Rattle.crmf.proofs.theorems.rows.RowsInPlace.{noRow, before-at, Fit, Fits, fits-at, Laid, Room, room-less, Early, early-less, one-laid}
 
 -- one of two holds if the second does
-or-true : (a b : Bool) → b ≡ true → (a || b) ≡ true
+pub or-true : (a b : Bool) → b ≡ true → (a || b) ≡ true
 or-true true b e = refl
 or-true false b e = e
 
 -- and if the first does
-or-first : (a b : Bool) → a ≡ true → (a || b) ≡ true
+pub or-first : (a b : Bool) → a ≡ true → (a || b) ≡ true
 or-first true b e = refl
 or-first false b e = never-both false e refl
 
@@ -101,7 +101,7 @@ mutual
       let e = q + length (encode (element id p w c inside rest)) in
       let h = p + length (header id c) in
       let a = h + length (encode inside) in
-      let here = extentOf id p w c in
+      let here = extentOf p w c in
       let parts-right = right-part b o fs ps ok in
       let form-right = parts-right .form among in
       let room-here = room-less pre up b q e p e room (omega (arith, s .at)) (omega arith) in
@@ -136,15 +136,20 @@ mutual
   laid-in (parts {n = name} m) left q wf pre n up extent b sized ok room given =
       laid m left q wf pre n up extent b sized (right-content b name ok) room given
 
--- the batch's row
-abbrev pub batchRow : ℕ → Row
-batchRow w = record { kind = kinds.batch; first = 0; whole = w; parent = 0 }
+-- the length of the first element's header
+unfoldable pub firstHeader : Tree → ℕ
+firstHeader none = 0
+firstHeader (element id p w c inside rest) = length (header id c)
 
--- Rows that begin with the batch's, which is w bytes long, and the others in place after it.
-record Batched (rs : List Row) (w : ℕ) : Type 0 where
+-- the row of a batch that is such a tree
+abbrev pub batchRow : Tree → Row
+batchRow t = record { kind = kinds.batch; first = 0; whole = length (encode t); parent = 0; content = firstHeader t }
+
+-- Rows that begin with the batch's, and the others in place after it.
+record Batched (rs : List Row) (t : Tree) : Type 0 where
   more : List Row
-  table : rs ≡ batchRow w ∷ more
-  fits : Fits (batchRow w ∷ []) more
+  table : rs ≡ batchRow t ∷ more
+  fits : Fits (batchRow t ∷ []) more
 
 -- the one form of a list
 pub only-form : {f g : Form} → OneOf f (g ∷ []) → f ≡ g
@@ -162,15 +167,15 @@ batchForm = row kinds.batch (holding 0x30 Batch)
 -- the rows of the batch's element begin so
 batch-first : {R : ℕ → Bool} {inside rest : Tree} (id p w : ℕ) (c : List ℕ) (f : Form) → f ≡ batchForm → (within : Within R (f .inside) inside)
     (m : Matches R done rest) (left : ℕ) → WellFormed left 0 (element id p w c inside rest)
-    → Batched (rowsOne (f .kind) (f .item) (extentOf id p w c) (λ j u. rowsIn within j u (extentOf id p w c)) (λ j. rows m j 0 noExtent) 0 0 noExtent)
-    (length (encode (element id p w c inside rest)))
-unfolding rowsOne container among rightIn early earlyIn content givesItem
+    → Batched (rowsOne (f .kind) (f .item) (extentOf p w c) (λ j u. rowsIn within j u (extentOf p w c)) (λ j. rows m j 0 noExtent) 0 0 noExtent)
+    (element id p w c inside rest)
+unfolding rowsOne firstHeader container among rightIn early earlyIn content givesItem
 batch-first {inside = inside} {rest = rest} id p w c f same within m left wf =
     let s = standing 0 id p w c inside rest left wf in
-    let size = length (encode (element id p w c inside rest)) in
+    let t = element id p w c inside rest in
     let h = p + length (header id c) in
     let a = h + length (encode inside) in
-    let extent = extentOf id p w c in
+    let extent = extentOf p w c in
     let own : Row = rowWith kinds.batch extent 0 in
     let inner = rowsIn within 1 0 extent in
     let kind : f .kind ≡ kinds.batch = ap (λ (g : Form). g .kind) same in
@@ -178,8 +183,9 @@ batch-first {inside = inside} {rest = rest} id p w c f same within m left wf =
     let in-form = ap (λ (g : Form). g .inside) same in
     let after = nothing-left m (1 + length inner) 0 noExtent in
     let ended : length (encode rest) ≡ 0 = ap (λ (x : Tree). length (encode x)) (after .0) ∙ ap length encode-none in
-    let here : own ≡ batchRow size =
-    ap₂ (λ (x y : ℕ). record { kind = kinds.batch; first = x; whole = y; parent = 0 }) (s .at) (omega (arith, s .at, s .ends)) in
+    let here : own ≡ batchRow t =
+    ap₂ (λ (x y : ℕ). record { kind = kinds.batch; first = x; whole = y; parent = 0; content = x + headerLength w c }) (s .at) (omega (arith, s .at, s .ends))
+    ∙ ap (λ (n : ℕ). record { kind = kinds.batch; first = 0; whole = length (encode t); parent = 0; content = n }) (omega (arith, s .sized, length-append (header id c) c)) in
     let room : Room (own ∷ []) 0 true h a =
     record { there = omega arith; bears = λ e. refl; low = omega (arith, s .starts); high = s .holds; before = (s .starts, tt) } in
     let in-place = laid-in within (s .deeper) h (s .within) (own ∷ []) 1 0 extent true refl (rw in-form) room
@@ -192,7 +198,7 @@ batch-first {inside = inside} {rest = rest} id p w c f same within m left wf =
 
 -- a batch's rows begin so
 batched : {R : ℕ → Bool} {t : Tree} (m : Matches R (part once (batchForm ∷ []) then done) t) (left : ℕ) → WellFormed left 0 t
-    → Batched (rows m 0 0 noExtent) (length (encode t))
+    → Batched (rows m 0 0 noExtent) t
 unfolding rows rowsOne
 batched (pass past m) left wf = absurd past
 batched (take {id = id} {first = p} {whole = w} {c = c} f among fits read kept within m) left wf =
@@ -205,12 +211,13 @@ pub record Inner (outer r : Row) : Type 0 where
 
 module _ {R : ℕ → Bool} {t : Tree} (m : Matches R (content Top) t) (left : ℕ) (wf : WellFormed left 0 t) where
   -- the batch's rows begin with its own
-  top : Batched (batchRows m) (length (encode t))
+  top : Batched (batchRows m) t
   unfolding content batchRows
   top = batched m left wf
 
-  -- Row 0 is the batch: kind 1, from byte 0 on, the batch's whole length, its own parent.
-  pub row-zero : getD (batchRows m) 0 noRow ≡ record { kind = kinds.batch; first = 0; whole = length (encode t); parent = 0 }
+  -- Row 0 is the batch: kind 1, from byte 0 on, the batch's whole length, its own parent, and its content after its header.
+  pub row-zero : getD (batchRows m) 0 noRow
+      ≡ record { kind = kinds.batch; first = 0; whole = length (encode t); parent = 0; content = firstHeader t }
   row-zero = ap (λ (rs : List Row). getD rs 0 noRow) (top .table)
 
   -- There is such a row.
@@ -225,10 +232,9 @@ module _ {R : ℕ → Bool} {t : Tree} (m : Matches R (content Top) t) (left : �
   pub row-fits : (i : ℕ) → 0 < i → i < length (batchRows m) → Fit (upto i (batchRows m)) (getD (batchRows m) i noRow)
   row-fits zero l there = absurd (omega arith)
   row-fits (suc i) l there =
-      let size = length (encode t) in
       let more = top .more in
       subst (λ (rs : List Row). Fit (upto (suc i) rs) (getD rs (suc i) noRow)) (sym (top .table))
-      (fits-at (batchRow size ∷ []) more (top .fits) i (omega (arith, ap length (top .table))))
+      (fits-at (batchRow t ∷ []) more (top .fits) i (omega (arith, ap length (top .table))))
 
   -- a row before another, in the table up to that other
   earlier : (i j : ℕ) → i < j → getD (upto j (batchRows m)) i noRow ≡ getD (batchRows m) i noRow

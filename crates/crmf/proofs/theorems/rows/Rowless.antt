@@ -85,20 +85,20 @@ quiet-rows : (t : Tree) (k n up : ℕ) (extent : Extent) → among quiet k ≡ t
 unfolding rowsFrom
 quiet-rows none k n up extent q = refl
 quiet-rows (element id p w c inside rest) k n up extent q =
-    go (findLine k id) refl (λ j i u. quiet-rows inside j i u (extentOf id p w c)) (λ j i. quiet-rows rest j i up extent)
+    go (findLine k id) refl (λ j i u. quiet-rows inside j i u (extentOf p w c)) (λ j i. quiet-rows rest j i up extent)
   where
-    within : (i : ℕ) → among quiet i ≡ true → ((j m u : ℕ) → among quiet j ≡ true → rowsFrom j inside m u (extentOf id p w c) ≡ [])
-        → (b : Bool) → eqb i 0 ≡ b → (m u : ℕ) → rowsWithin i inside m u (extentOf id p w c) ≡ []
-    within i s inner true e m u = inner-no-rows i inside m u (extentOf id p w c) e
-    within i s inner false e m u = inner-rows i inside m u (extentOf id p w c) e ∙ inner i m u s
+    within : (i : ℕ) → among quiet i ≡ true → ((j m u : ℕ) → among quiet j ≡ true → rowsFrom j inside m u (extentOf p w c) ≡ [])
+        → (b : Bool) → eqb i 0 ≡ b → (m u : ℕ) → rowsWithin i inside m u (extentOf p w c) ≡ []
+    within i s inner true e m u = inner-no-rows i inside m u (extentOf p w c) e
+    within i s inner false e m u = inner-rows i inside m u (extentOf p w c) e ∙ inner i m u s
 
-    go : (r : FoundLine) → findLine k id ≡ r → ((j m u : ℕ) → among quiet j ≡ true → rowsFrom j inside m u (extentOf id p w c) ≡ [])
+    go : (r : FoundLine) → findLine k id ≡ r → ((j m u : ℕ) → among quiet j ≡ true → rowsFrom j inside m u (extentOf p w c) ≡ [])
         → ((j m : ℕ) → among quiet j ≡ true → rowsFrom j rest m up extent ≡ []) → rowsFrom k (element id p w c inside rest) n up extent ≡ []
     go Nowhere e inner later = rows-nowhere k id p w c inside rest n up extent e
     go (At m) e inner later =
         let x = calm-line m (found-kept (λ j. among quiet j ≡ true) (λ j s g. calm-line j s .after g) id m k q e) in
         let o = goes (line m .judge) (line m .next) c in
-        let here = extentOf id p w c in
+        let here = extentOf p w c in
         let f : ℕ → ℕ → List Row = λ j u. rowsWithin (line m .inside) inside j u here in
         let h : ℕ → List Row = λ j. rowsFrom o rest j up extent in
         rows-found k id p w c inside rest n up extent m e

@@ -16,7 +16,7 @@ use Rattle.crmf.proofs.theorems.grammar.Containers.{bearsIf, bears-none
 
 -- the row given for a number that has none
 abbrev pub noRow : Row
-noRow = record { kind = kinds.none; first = 0; whole = 0; parent = 0 }
+noRow = record { kind = kinds.none; first = 0; whole = 0; parent = 0; content = 0 }
 
 -- the rows' first bytes are before a place
 abbrev pub Before : ℕ → List Row → Type 0

@@ -1,5 +1,6 @@
 -- Rows move with the bytes: the same elements at another place have the same rows, moved. Assumes nothing.
 use Prim.Native.Nat.{ℕ, _+_}
+use native.Mathlib.Nat.{add-assoc}
 use mathlib.Core.Path.{_≡_, refl, sym, _∙_, ap, subst}
 use mathlib.Core.Bool.{Bool, true, false}
 use mathlib.Core.List.{List, map, map-append}
@@ -14,19 +15,23 @@ use Rattle.crmf.specs.meaning.Grammar.{content}
 use Rattle.crmf.specs.meaning.Language.{Matches, end, pass, take, choose, Within, unseen, parts}
 use Rattle.crmf.specs.steps.grammar.Lines.{start}
 use Rattle.crmf.specs.steps.explain.Walk.{line, findLine}
-use Rattle.crmf.specs.meaning.Rows.{Row, Extent, extentOf, rowIf, rows}
+use Rattle.crmf.specs.meaning.Rows.{Row, Extent, headerLength, extentOf, rowIf, rows}
 use Rattle.crmf.specs.steps.rows.Fill.{goes, rowsFrom}
 use Rattle.crmf.proofs.theorems.rows.RowsOfLines.{rowsOne, rowsWithin, inner-no-rows, inner-rows, rows-nowhere, rows-found, row-none, row-own, rows-lines}
 
 -- a row moved by some bytes
 abbrev pub shift : ℕ → Row → Row
-shift d r = record { kind = r .kind; first = d + r .first; whole = r .whole; parent = r .parent }
+shift d r = record { kind = r .kind; first = d + r .first; whole = r .whole; parent = r .parent; content = d + r .content }
 
 -- an extent moved so
 abbrev pub shifted : ℕ → Extent → Extent
-shifted d x = record { first = d + x .first; whole = x .whole }
+shifted d x = record { first = d + x .first; whole = x .whole; content = d + x .content }
 
--- an element's own row moves with it
+-- an element's extent moves with it
+extent-moved : (d p w : ℕ) (c : List ℕ) → extentOf (d + p) w c ≡ shifted d (extentOf p w c)
+extent-moved d p w c = ap (λ (n : ℕ). record { first = d + p; whole = w; content = n }) (add-assoc d p (headerLength w c))
+
+-- and so does its own row
 row-moved : (d kind : ℕ) (here : Extent) (up : ℕ) → rowIf kind (shifted d here) up ≡ map (shift d) (rowIf kind here up)
 row-moved d kind here up = go (eqb kind 0) refl
   where
@@ -61,9 +66,9 @@ unfolding rowsFrom
 rows-from-moved d none k n up extent = ap (λ (t : Tree). rowsFrom k t n up (shifted d extent)) (moved-none d)
 rows-from-moved d (element id p w c inside rest) k n up extent =
     ap (λ (t : Tree). rowsFrom k t n up (shifted d extent)) (moved-element d id p w c inside rest)
-    ∙ go (λ i j u. rows-from-moved d inside i j u (extentOf id p w c)) (λ i j. rows-from-moved d rest i j up extent) (findLine k id) refl
+    ∙ go (λ i j u. rows-from-moved d inside i j u (extentOf p w c)) (λ i j. rows-from-moved d rest i j up extent) (findLine k id) refl
   where
-    go : ((i j u : ℕ) → rowsFrom i (moved d inside) j u (extentOf id (d + p) w c) ≡ map (shift d) (rowsFrom i inside j u (extentOf id p w c)))
+    go : ((i j u : ℕ) → rowsFrom i (moved d inside) j u (shifted d (extentOf p w c)) ≡ map (shift d) (rowsFrom i inside j u (extentOf p w c)))
         → ((i j : ℕ) → rowsFrom i (moved d rest) j up (shifted d extent) ≡ map (shift d) (rowsFrom i rest j up extent))
         → (f : FoundLine) → findLine k id ≡ f
         → rowsFrom k (element id (d + p) w c (moved d inside) (moved d rest)) n up (shifted d extent)
@@ -74,8 +79,10 @@ rows-from-moved d (element id p w c inside rest) k n up extent =
     go each further (At m) e =
         let x = line m in
         let o = goes (x .judge) (x .next) c in
-        let here = extentOf id p w c in
+        let here = extentOf p w c in
         rows-found k id (d + p) w c (moved d inside) (moved d rest) n up (shifted d extent) m e
+        ∙ ap (λ (y : Extent). rowsOne (x .kind) (x .item) y (λ j u. rowsWithin (x .inside) (moved d inside) j u y)
+        (λ j. rowsFrom o (moved d rest) j up (shifted d extent)) n up (shifted d extent)) (extent-moved d p w c)
         ∙ rows-one-moved d (x .kind) (x .item) here (λ j u. rowsWithin (x .inside) inside j u here)
         (λ j u. rowsWithin (x .inside) (moved d inside) j u (shifted d here)) (λ j. rowsFrom o rest j up extent)
         (λ j. rowsFrom o (moved d rest) j up (shifted d extent)) n up extent

@@ -65,7 +65,7 @@ rows-nowhere k id p w c inside rest n up extent e = rw (e, rowsFrom)
 -- the rows of an element whose line is found
 pub rows-found : (k id p w : ℕ) (c : List ℕ) (inside rest : Tree) (n up : ℕ) (extent : Extent) (m : ℕ) → findLine k id ≡ At m
     → rowsFrom k (element id p w c inside rest) n up extent
-    ≡ rowsOne (line m .kind) (line m .item) (extentOf id p w c) (λ j u. rowsWithin (line m .inside) inside j u (extentOf id p w c))
+    ≡ rowsOne (line m .kind) (line m .item) (extentOf p w c) (λ j u. rowsWithin (line m .inside) inside j u (extentOf p w c))
     (λ j. rowsFrom (goes (line m .judge) (line m .next) c) rest j up extent) n up extent
 unfolding rowsFrom rowsWithin rowsOne
 rows-found k id p w c inside rest n up extent m e = rw (e, rowsFrom)
@@ -80,11 +80,11 @@ judged-goes (Lines.choose s) next c onward e = let (w, is, goes-on) = way-onward
 pub rows-from-element : (k id p w : ℕ) (c : List ℕ) (inside rest : Tree) (n up : ℕ) (extent : Extent) (m onward : ℕ) → findLine k id ≡ At m
     → judged (line m .judge) (line m .next) c ≡ To onward
     → rowsFrom k (element id p w c inside rest) n up extent
-    ≡ rowsOne (line m .kind) (line m .item) (extentOf id p w c) (λ j u. rowsWithin (line m .inside) inside j u (extentOf id p w c))
+    ≡ rowsOne (line m .kind) (line m .item) (extentOf p w c) (λ j u. rowsWithin (line m .inside) inside j u (extentOf p w c))
     (λ j. rowsFrom onward rest j up extent) n up extent
 rows-from-element k id p w c inside rest n up extent m onward e j =
     rows-found k id p w c inside rest n up extent m e
-    ∙ ap (λ (o : ℕ). rowsOne (line m .kind) (line m .item) (extentOf id p w c) (λ j u. rowsWithin (line m .inside) inside j u (extentOf id p w c))
+    ∙ ap (λ (o : ℕ). rowsOne (line m .kind) (line m .item) (extentOf p w c) (λ j u. rowsWithin (line m .inside) inside j u (extentOf p w c))
     (λ j. rowsFrom o rest j up extent) n up extent) (judged-goes (line m .judge) (line m .next) c onward j)
 
 -- an element's rows depend only on the rows inside it and after it
@@ -113,7 +113,7 @@ module _ (R : ℕ → Bool) where
   rowsBegun : (ps : Parts) (t : Tree) → Begins R ps t → (n up : ℕ) (extent : Extent) → List Row
   rowsBegun ps none b n up extent = []
   rowsBegun ps (element id p w c inside rest) b n up extent =
-      rowsKept (b .choice) (extentOf id p w c) c inside rest (b .keeping) n up extent
+      rowsKept (b .choice) (extentOf p w c) c inside rest (b .keeping) n up extent
 
   -- a part that is passed over leaves the rows as they are
   begun-past : (o : Occurs) (fs : List Form) (ps : Parts) (t : Tree) (ok : T (passable o)) (b : Begins R ps t) (n up : ℕ) (extent : Extent)
@@ -147,11 +147,11 @@ module _ (R : ℕ → Bool) where
       → ((a : Name) (d : Matches R (content a) inside) (n up : ℕ) (extent : Extent) → rowsFrom (start a) inside n up extent ≡ rows d n up extent)
       → ((j : ℕ) (ps : Parts) → Stands j ps → (d : Matches R ps rest) (n up : ℕ) (extent : Extent)
       → rowsFrom j rest n up extent ≡ rows d n up extent)
-      → (n up : ℕ) (extent : Extent) → rowsFrom k (element id p w c inside rest) n up extent ≡ rowsKept h (extentOf id p w c) c inside rest kept n up extent
+      → (n up : ℕ) (extent : Extent) → rowsFrom k (element id p w c inside rest) n up extent ≡ rowsKept h (extentOf p w c) c inside rest kept n up extent
   unfolding rowsKept
   rows-first k id p w m c inside rest (taking f ps) found shows kept each further n up extent =
       let x = line m in
-      let here = extentOf id p w c in
+      let here = extentOf p w c in
       let onward : judged (x .judge) (x .next) c ≡ To (x .next) =
       rw (shows .judging) (judged-kept (f .rule) (x .next) c (holds-true (keeps (f .rule) c) (kept .kept))) in
       rows-from-element k id p w c inside rest n up extent m (x .next) found onward
@@ -162,7 +162,7 @@ module _ (R : ℕ → Bool) where
       (λ j. further (x .next) ps (shows .onward) (kept .further) j up extent))
   rows-first k id p w m c inside rest (choosing a t ns) found shows kept each further n up extent =
       let x = line m in
-      let here = extentOf id p w c in
+      let here = extentOf p w c in
       let (way, is, there) = way-selected t c ns (kept .name) .0 (kept .way) in
       let onward : judged (x .judge) (x .next) c ≡ To (start (kept .name)) =
       rw (shows .judging) (judged-way t (x .next) c way is ∙ ap To (shows .onward way (kept .name) there)) in
@@ -286,7 +286,7 @@ rows-count R (element id p w c inside rest) s r k around n up extent passed =
     let e = passed-element R s k around id p w c inside rest r passed in
     let x = line (e .at) in
     let m = withElement x p w s in
-    let here = extentOf id p w c in
+    let here = extentOf p w c in
     let inner : ℕ → ℕ → List Row = λ j u. rowsWithin (x .inside) inside j u here in
     let later : ℕ → List Row = λ j. rowsFrom (e .next) rest j up extent in
     let within : (j u : ℕ) → length (rowsWithin (x .inside) inside j u here) + m .count ≡ e .seen .count =

@@ -24,22 +24,22 @@ use Rattle.crmf.specs.steps.explain.Walk.{line, findLine}
 use Rattle.crmf.specs.steps.grammar.Fitting.{FitsAt}
 use Rattle.crmf.specs.meaning.Rows.{Row, Extent, extentOf, noExtent, rowIf, parentIf, width}
 use Rattle.crmf.specs.steps.rows.Fill.{goes, rowsFrom, aroundExtent, fitExtent, rowsAt, ownRows, rowAbove, innerRows, written, fits, rowsOfInput, filled, Wrote, Going, Shown, Inner, aroundInside}
-use Rattle.crmf.proofs.theorems.lines.Fitting.{fitted, fit-read, fit-order}
+use Rattle.crmf.proofs.theorems.lines.Fitting.{fitted, fit-read, fit-order, fit-content}
 use Rattle.crmf.proofs.theorems.explain.Walking.{tree-read, found-constructed, at-end}
 use Rattle.crmf.proofs.theorems.rows.RowsOfLines.{rowsOne, rowsWithin, inner-no-rows, rows-nowhere, rows-found}
 use Rattle.crmf.proofs.theorems.rows.Writing.{rows-given, wrote-none, wrote-two}
 
 -- the extent of an element that fits a line, and the element around its inside, by its first byte
 abbrev fitted-at : ℕ → Fit → Extent
-fitted-at p f = record { first = p; whole = f .end - p }
+fitted-at p f = record { first = p; whole = f .end - p; content = f .content }
 
 abbrev here : ℕ → ℕ → Fit → ℕ → Around → Around
-here n p f row a = record { up = rowAbove (line n) row (a .up); place = p; whole = f .end - p }
+here n p f row a = record { up = rowAbove (line n) row (a .up); place = p; whole = f .end - p; content = f .content }
 
 -- The rows of one element of a tree: its own, those inside it, and those after it, from a number on and below a row.
 module _ (k id p w : ℕ) (c : List ℕ) (inside rest : Tree) (row : ℕ) (a : Around) (n : ℕ) where
   abbrev extent : Extent
-  extent = extentOf id p w c
+  extent = extentOf p w c
 
   tail : ℕ → ℕ → List Row
   tail i u =
@@ -117,6 +117,19 @@ module _ (s : List ℕ) (q : Spot) (z : Bounds) (some : q .at < z .end) (fits : 
     abbrev rest-of : ℕ → ℕ → List Row
     rest-of j i = rowsAt s (record { state = j; at = f .end; row = i }) (z .end) a
 
+    -- its extent by the element that is read
+    extent-read : extentOf (q .at) (f .end - q .at) octets ≡ fitted-at (q .at) f
+    extent-read =
+        ap (λ (c : ℕ). record { first = q .at; whole = f .end - q .at; content = c })
+        (sym (fit-content s (q .at) (z .end) (q .state) f h some fits high))
+
+    -- the element's rows and those after it, by its extent and by what is inside it
+    abbrev parted : Extent → Tree → List Row
+    parted x t =
+        let own = ownRows (line n) x (q .row) a in
+        let within = rowsWithin (line n .inside) t (q .row + length own) (rowAbove (line n) (q .row) (a .up)) x in
+        own ++ (within ++ rest-of (goes (line n .judge) (line n .next) octets) (q .row + length own + length within))
+
     shown-found : rowsAt s q (z .end) a
         ≡ (own-of ++ inner-of (q .row + length own-of))
         ++ rest-of (goes (line n .judge) (line n .next) octets) (q .row + length own-of + length (inner-of (q .row + length own-of)))
@@ -132,6 +145,7 @@ module _ (s : List ℕ) (q : Spot) (z : Bounds) (some : q .at < z .end) (fits : 
         let same : rowsWithin (line n .inside) kept i u (fitted-at p f) ≡ inner-of i = inside-found (q .state) _ n i u (fitted-at p f) t (h .found) in
         rw (tree-read s p (z .end) some fits high (fitted s p (z .end) f) (fit-read s p (z .end) (q .state) f h))
         (rows-split (q .state) _ p (f .end - p) octets kept rest (q .row) a n (h .found)
+        ∙ ap (λ (x : Extent). parted x kept) extent-read
         ∙ ap (λ (l : List Row). own-of ++ (l ++ rowsFrom onward rest (i + length l) (a .up) (aroundExtent a))) same
         ∙ sym (append-assoc own-of (inner-of i) (rest-of onward (i + length (inner-of i)))))
 
@@ -167,11 +181,11 @@ module _ (s : List ℕ) (q : Spot) (z : Bounds) (some : q .at < z .end) (fits : 
 -- The rows of a list that is an element's inside are those inside the element.
 pub held-rows : (k : ℕ) (s : List ℕ) (f : Fit) (m : Numbers) (limit : ℕ) (old new : List ℕ) (next start above : ℕ) → start ≡ line k .inside
     → above ≡ rowAbove (line k) (m .row) (m .up) → (line k .inside ≡ 0 → ⊥)
-    → Wrote (rowsAt s (record { state = start; at = f .content; row = m .next }) (f .end) (record { up = above; place = f .first; whole = f .end - f .first })) (m .next) limit old next new
+    → Wrote (rowsAt s (record { state = start; at = f .content; row = m .next }) (f .end) (record { up = above; place = f .first; whole = f .end - f .first; content = f .content })) (m .next) limit old next new
     → Inner k s f m limit old next new
 held-rows k s f m limit old new next start above starts is some wrote =
     let rows : ℕ → ℕ → List Row =
-    λ i u. rowsAt s (record { state = i; at = f .content; row = m .next }) (f .end) (record { up = u; place = f .first; whole = f .end - f .first }) in
+    λ i u. rowsAt s (record { state = i; at = f .content; row = m .next }) (f .end) (record { up = u; place = f .first; whole = f .end - f .first; content = f .content }) in
     let held : rows (line k .inside) (rowAbove (line k) (m .row) (m .up)) ≡ innerRows k s (f .content) (f .end) (m .next) (aroundInside (line k) f m) =
     rw (innerRows, ne-eqb _ _ some) in
     subst (λ (l : List Row). Wrote l (m .next) limit old next new) (ap₂ rows starts is ∙ held) wrote
@@ -207,10 +221,10 @@ module _ (s : List ℕ) (count : ℕ) (old : List ℕ) where
         let none : rowsOfInput s ≡ [] = rw (rowsOfInput, lt-leb _ _ long) in
         (fill-all .0, wrote-none 0 count old .kept ∙ ap (written old 0 count) (sym none) ∙ fill-all .1)
 
-    pub fill-rows : length s ≤ longest → (new : List ℕ) → new ≡ written old 0 count (rowsAt s (record { state = 1; at = 0; row = 0 }) (length s) (record { up = 0; place = 0; whole = 0 }))
+    pub fill-rows : length s ≤ longest → (new : List ℕ) → new ≡ written old 0 count (rowsAt s (record { state = 1; at = 0; row = 0 }) (length s) (record { up = 0; place = 0; whole = 0; content = 0 }))
         → (true ≡ fits count old) × (new ≡ filled s count old)
     unfolding rowsOfInput start startsFrom order
     fill-rows short new e =
-        let all : rowsOfInput s ≡ rowsAt s (record { state = 1; at = 0; row = 0 }) (length s) (record { up = 0; place = 0; whole = 0 }) =
+        let all : rowsOfInput s ≡ rowsAt s (record { state = 1; at = 0; row = 0 }) (length s) (record { up = 0; place = 0; whole = 0; content = 0 }) =
         rw (rowsOfInput, le-leb _ _ short) (ap (λ (l : List ℕ). rowsFrom 1 (tree 0 l) 0 0 noExtent) (sym (take-length s))) in
         (fill-all .0, e ∙ ap (written old 0 count) (sym all) ∙ fill-all .1)

@@ -5,7 +5,7 @@ use mathlib.Core.Bool.{Bool, true, false}
 use mathlib.Core.List.{List, [], _∷_, _++_, append-assoc, append-nil}
 use native.Mathlib.Nat.{add-zero}
 use native.Mathlib.Decide.{decLe}
-use native.Mathlib.Numerals.{add-one, add-two, add-three}
+use native.Mathlib.Numerals.{add-one, add-two, add-three, add-four}
 use native.Mathlib.Omega.{arith}
 use lib.ListN.{length, take, drop, set, length-append, length-take, length-drop, take-append-drop}
 use lib.Seq.{take-all, take-nil, take-at, drop-at, drop-drop, length-take-le, sets-eq}
@@ -52,7 +52,7 @@ length-over old a p fits = simp (length-append, length-take, length-drop) (omega
 pub numbers-append : (rs ss : List Row) → numbers (rs ++ ss) ≡ numbers rs ++ numbers ss
 unfolding numbers
 numbers-append [] ss = refl
-numbers-append (r ∷ rs) ss = ap (λ (l : List ℕ). r .kind ∷ r .first ∷ r .whole ∷ r .parent ∷ l) (numbers-append rs ss)
+numbers-append (r ∷ rs) ss = ap (λ (l : List ℕ). r .kind ∷ r .first ∷ r .whole ∷ r .parent ∷ r .content ∷ l) (numbers-append rs ss)
 
 pub numbers-length : (rs : List Row) → length (numbers rs) ≡ width * length rs
 unfolding numbers
@@ -138,15 +138,15 @@ module _ (old : List ℕ) (n limit : ℕ) (new : Entry) where
 
     pub put-row : n < limit → width * limit ≤ length old
         → Wrote (rowOf new) n limit old (n + 1)
-        (set (set (set (set old (width * n) (new .kind)) (width * n + 1) (new .first)) (width * n + 2) (new .whole)) (width * n + 3) (new .parent))
+        (set (set (set (set (set old (width * n) (new .kind)) (width * n + 1) (new .first)) (width * n + 2) (new .whole)) (width * n + 3) (new .parent)) (width * n + 4) (new .content))
     unfolding numbers over
     put-row below room =
         let b = width * n in
-        let values = new .kind ∷ new .first ∷ new .whole ∷ new .parent ∷ [] in
+        let values = new .kind ∷ new .first ∷ new .whole ∷ new .parent ∷ new .content ∷ [] in
         let all : take (limit - n) row ≡ row = take-all (limit - n) row (omega arith) in
         record {
           next-row = rw one-row;
-          kept = simp (add-one, add-two, add-three) (sets-eq values old b (omega arith) ∙ append-assoc (take b old) values (drop (b + 4) old)) ∙ ap (λ (rs : List Row). over old b (numbers rs)) (sym all)
+          kept = simp (add-one, add-two, add-three, add-four) (sets-eq values old b (omega arith) ∙ append-assoc (take b old) values (drop (b + width) old)) ∙ ap (λ (rs : List Row). over old b (numbers rs)) (sym all)
               ∙ ap (written old n limit) (sym one-row);
         }
 

@@ -41,7 +41,7 @@ rowsFrom k (element id p w c inside rest) n up extent =
           let x = line m in
           let item = rowIf (x .item) extent up in
           let above = parentIf (x .item) n up in
-          let here = extentOf id p w c in
+          let here = extentOf p w c in
           let own = rowIf (x .kind) here above in
           let next = n + length item in
           let inner : List Row = elim (eqb (x .inside) 0) [
@@ -83,13 +83,13 @@ pub record Room (bytes : List ℕ) (at end row limit : ℕ) (lines out : List �
 
 -- the extent of an entry, of the element around some rows, and of an element that fits a line
 abbrev pub entryExtent : Entry → Extent
-entryExtent new = record { first = new .first; whole = new .whole }
+entryExtent new = record { first = new .first; whole = new .whole; content = new .content }
 
 abbrev pub aroundExtent : Around → Extent
-aroundExtent a = record { first = a .place; whole = a .whole }
+aroundExtent a = record { first = a .place; whole = a .whole; content = a .content }
 
 abbrev pub fitExtent : Fit → Extent
-fitExtent f = record { first = f .first; whole = f .end - f .first }
+fitExtent f = record { first = f .first; whole = f .end - f .first; content = f .content }
 
 -- the rows of the elements from a spot to an end
 abbrev pub rowsAt : List ℕ → Spot → ℕ → Around → List Row
@@ -120,7 +120,7 @@ rowAbove x row up = parentIf (x .kind) (row + rowsGiven (x .item)) (parentIf (x 
 
 -- what surrounds the rows inside an element in a line's form
 abbrev pub aroundInside : Line → Fit → Numbers → Around
-aroundInside x fit n = record { up = rowAbove x (n .row) (n .up); place = fit .first; whole = fit .end - fit .first }
+aroundInside x fit n = record { up = rowAbove x (n .row) (n .up); place = fit .first; whole = fit .end - fit .first; content = fit .content }
 
 -- the rows inside an element in a line's form
 abbrev pub innerRows : ℕ → List ℕ → ℕ → ℕ → ℕ → Around → List Row

@@ -2,13 +2,15 @@
 -- others after it. Assumes nothing.
 use Prim.Native.Nat.{ℕ, suc, _+_, _≤_}
 use native.Mathlib.Omega.{arith}
-use mathlib.Core.Path.{_≡_, refl, ap}
+use mathlib.Core.Path.{_≡_, refl, sym, ap, _∙_}
 use mathlib.Core.Logic.{_↔_}
 use mathlib.Core.Bool.{Bool, true, false}
 use mathlib.Core.List.{List, [], _∷_, _++_}
 use lib.Dec.{ltb}
-use lib.ListN.{length, length-append}
-use Rattle.der.specs.meaning.Length.{base256, lengthOctets}
+use lib.ListN.{length, drop, length-append}
+use Rattle.der.specs.meaning.Bounds.{longest}
+use Rattle.der.specs.meaning.Length.{base256, lengthOctets, octets, lengthOf}
+use Rattle.der.proofs.theorems.element.Length.{length-encoded}
 use Rattle.der.specs.meaning.Tree.{Tree, none, element, header, encode, Formed, WellFormed, Single, moved}
 
 -- a header has at least one octet
@@ -33,6 +35,15 @@ length-some n = go (ltb n 0x80)
 -- so a header has at least two octets
 pub header-two : (id : ℕ) (c : List ℕ) → 2 ≤ length (header id c)
 header-two id c = omega (arith, ap length (header-octets id c), length-some (length c))
+
+-- An element's octets determine how long its header is.
+pub header-same : (id j : ℕ) (c d : List ℕ) → header id c ++ c ≡ header j d ++ d → length c ≤ longest → length d ≤ longest
+    → length (header id c) ≡ length (header j d)
+unfolding header
+header-same id j c d is short brief =
+    let counted : octets (length (lengthOctets (length c))) (length c) ≡ octets (length (lengthOctets (length d))) (length d) =
+    sym (length-encoded (length c) c short) ∙ ap (λ (l : List ℕ). lengthOf (drop 1 l)) is ∙ length-encoded (length d) d brief in
+    ap suc (cc counted)
 
 -- the encoding of no elements
 pub encode-none : encode none ≡ []

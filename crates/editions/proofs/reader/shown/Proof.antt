@@ -1,4 +1,4 @@
--- `editions::reader::shown` meets its contract: a table is too short exactly if a quarter of its length is below the count. Assumes nothing.
+-- `editions::reader::shown` meets its contract: a table is too short exactly if it has fewer numbers than the rows. Assumes nothing.
 use borrow.Author.Needs.{needs}
 use native.Mathlib.Omega.{arith}
 use mathlib.Core.Path.{_∙_}

@@ -1,4 +1,4 @@
--- `writer::draft::row_at` meets its contract: a row is four numbers. Assumes nothing.
+-- `writer::draft::row_at` meets its contract: a row is its numbers. Assumes nothing.
 use Rattle.writer.proofs.theorems.DraftRows.{rows-room, row-cut}
 use native.Mathlib.Omega.{arith}
 use Rattle.writer.proofs.draft.row_at.Statement.{statement}
@@ -40,9 +40,18 @@ mul-t16 c = omega (arith, rows-room (c .before .before .before .args .draft .now
 shared-slice-read-t18 : tie.Need-shared-slice-read-t18
 shared-slice-read-t18 c = omega (arith, rows-room (c .before .before .before .before .args .draft .now))
 
+add-t19 : tie.Need-add-t19
+add-t19 c = omega (arith, rows-room (c .before .before .before .before .args .draft .now))
+
+mul-t20 : tie.Need-mul-t20
+mul-t20 c = omega (arith, rows-room (c .before .before .before .before .args .draft .now))
+
+shared-slice-read-t22 : tie.Need-shared-slice-read-t22
+shared-slice-read-t22 c = omega (arith, rows-room (c .before .before .before .before .before .args .draft .now))
+
 returns : tie.Need-returns
 returns c =
-    let s = c .before .before .before .before in
+    let s = c .before .before .before .before .before in
     row-cut (s .args .draft .now) (s .args .i) (s .pre)
 
 pub row-at-spec : {M : Type 1} → statement M
@@ -61,4 +70,7 @@ row-at-spec =
     add-t15
     mul-t16
     shared-slice-read-t18
+    add-t19
+    mul-t20
+    shared-slice-read-t22
     returns)
