@@ -8,7 +8,8 @@
  *     if (answer.number == PHAGUNDRO_ACCEPTED)
  *         for (size_t i = 0; i < answer.count; i++) {
  *             const size_t *row = table + PHAGUNDRO_ROW_NUMBERS * i;
- *             show(row[PHAGUNDRO_ROW_KIND], bytes + row[PHAGUNDRO_ROW_FIRST], row[PHAGUNDRO_ROW_LENGTH]);
+ *             size_t end = row[PHAGUNDRO_ROW_FIRST] + row[PHAGUNDRO_ROW_LENGTH];
+ *             show(row[PHAGUNDRO_ROW_KIND], bytes + row[PHAGUNDRO_ROW_CONTENT], end - row[PHAGUNDRO_ROW_CONTENT]);
  *         }
  *
  * What a caller owes, in every call:
@@ -32,7 +33,7 @@
 extern "C" {
 #endif
 
-#define PHAGUNDRO_VERSION "0.1"
+#define PHAGUNDRO_VERSION "0.2"
 
 /* Limits. */
 enum {
@@ -41,7 +42,7 @@ enum {
     PHAGUNDRO_MOST_ROWS        = PHAGUNDRO_LONGEST / 2, /* rows of a batch: no batch has more */
     PHAGUNDRO_STACK            = 16000,                 /* bytes of stack for each call but the next two */
     PHAGUNDRO_STACK_DUPLICATES = 80000,                 /* for phagundro_duplicates */
-    PHAGUNDRO_STACK_WRITE      = 1200000                /* for phagundro_write */
+    PHAGUNDRO_STACK_WRITE      = 1500000                /* for phagundro_write */
 };
 
 /* An edition: the grammar that a batch is read or written in. Any other number is refused with PHAGUNDRO_UNKNOWN_EDITION. */
@@ -91,13 +92,17 @@ typedef struct {
  * So it is never PHAGUNDRO_NO_ROOM. */
 size_t phagundro_accept(size_t edition, const uint8_t *bytes, size_t length);
 
-/* A row: the numbers that a table has of each field. */
+/* A row: the numbers that a table has of each field. There are five of them since version 0.2; version 0.1 had the first four alone.
+ *
+ * An element's content is what follows its identifier and length octets: bytes[content .. first + length). An empty content starts one past
+ * its element. */
 enum {
     PHAGUNDRO_ROW_KIND    = 0, /* what the field is, one of PHAGUNDRO_KIND_ .. */
     PHAGUNDRO_ROW_FIRST   = 1, /* the first byte of its element, as an offset in the batch */
     PHAGUNDRO_ROW_LENGTH  = 2, /* the length of its whole element in bytes, identifier and length octets included */
     PHAGUNDRO_ROW_PARENT  = 3, /* the row of the field that it belongs to, counted from 0 */
-    PHAGUNDRO_ROW_NUMBERS = 4  /* the numbers of a row */
+    PHAGUNDRO_ROW_CONTENT = 4, /* the first byte of its element's content, as an offset in the batch; since 0.2 */
+    PHAGUNDRO_ROW_NUMBERS = 5  /* the numbers of a row; 4 in 0.1 */
 };
 
 /* The kind of a row: the name of its field. */
@@ -169,11 +174,14 @@ phagundro_answer phagundro_read(size_t edition, const uint8_t *bytes, size_t len
  *
  * A draft is rows, as phagundro_read shows them, over a slice of bytes; `numbers` is PHAGUNDRO_ROW_NUMBERS times the count of rows. The
  * first byte and length of a leaf point at its element in the slice. Leaves may be there in any order and overlap, and the slice may have
- * other bytes too. The first byte and length of a container are ignored: its element is made around the elements of the rows below it.
+ * other bytes too. A leaf's content must begin where its row says, which is counted in the slice too: after the identifier and length
+ * octets there. The first byte, the length and the content's first byte of a container are ignored: its element is made around the elements
+ * of the rows below it.
  *
  * The draft describes the batch that is accepted in this edition, and whose own rows have the same kinds and parents in the same order and,
  * in each leaf, the same length and the bytes that the draft points at. At most one batch is such. The answer is PHAGUNDRO_NO_SUCH_BATCH
- * where there is none, where `numbers` is 0 or no multiple of PHAGUNDRO_ROW_NUMBERS, and where a leaf leaves the slice.
+ * where there is none, where `numbers` is 0 or no multiple of PHAGUNDRO_ROW_NUMBERS, where a leaf leaves the slice, and where a leaf's
+ * content does not begin where its row says.
  *
  * Accepted: the first `count` bytes of the output are the batch, and the bytes after them are as they were. `room` counts bytes; the room
  * is enough exactly when it is at least the batch's length, which is never more than PHAGUNDRO_LONGEST. Refused: count is 0, and the

@@ -1,7 +1,10 @@
 """The stored files of a program that reads cases by the crate `cases`."""
 
+from paper import ROW_NUMBERS
+
 TEXT = 65536  # characters of input that such a program reads, unless it reads them all
 ROOM = 70000  # octets of a case that it keeps
+NUMBERS = ROW_NUMBERS * 30000  # numbers of the table that it lends, which has room for 30,000 rows
 
 
 def files(cases, most=TEXT):

@@ -20,7 +20,8 @@ def repeated(times, size, count, rows):
     """Rows again and again, each time `size` bytes and `count` rows further; row 0 stays the parent that it is."""
     for turn in range(times):
         for row in rows:
-            yield str(row._replace(first=row.first + turn * size, parent=row.parent + turn * count if row.parent else 0))
+            moved = {"first": row.first + turn * size, "content": row.content + turn * size}
+            yield str(row._replace(parent=row.parent + turn * count if row.parent else 0, **moved))
 
 
 def answered(line):

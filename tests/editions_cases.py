@@ -12,7 +12,6 @@ import grammar_model
 from paper import EDITIONS, ROW_NUMBERS, Answer, Row, told
 
 TABLE = pathlib.Path(__file__).with_name("editions_cases.txt")
-NUMBERS = 120000  # numbers of the program's table
 SHOWN = corpus.SHOWN  # rows that it prints, at most
 
 ANSWER = r"(?:\d+@\d+|0 \d+)(?:, accept 0 \d+)?"
@@ -24,7 +23,7 @@ class Case:
 
     def __init__(self, match):
         self.heading = (match["edition"] or "") + ("/" + match["numbers"] if match["numbers"] else "")
-        self.numbers = int(match["numbers"] or NUMBERS)
+        self.numbers = int(match["numbers"] or cases.NUMBERS)
         self.batch = match["batch"]
         self.answers = {1: match["one"], 2: match["two"] or match["one"]}
         if match["edition"]:

@@ -1,4 +1,5 @@
-"""A model of document 01's sections "The grammar" and "Rows" and of its order for reading, written from that document alone.
+"""A model of document 01's sections "The grammar" and "Rows" and of its order for reading, with document 02's A11, written from those
+documents alone.
 
 `walk` is the walk of one edition, or of both editions' forms at once, over bytes whose nest is sound. `read` is the reading of a
 whole batch in an edition.
@@ -38,9 +39,10 @@ class Element:
     def __init__(self, octets, place, end):
         header, size, _ = nest_model.length(octets[place:end])
         self.place, self.whole, self.identifier = place, header + size, octets[place]
+        self.content_place = place + header
         self.content = octets[place + header:place + header + size]
         self.inside = []
-        inner = place + header
+        inner = self.content_place
         while self.identifier & 0x20 and inner < place + self.whole:
             self.inside.append(Element(octets, inner, place + self.whole))
             inner += self.inside[-1].whole
@@ -93,7 +95,7 @@ class Walk:
         self.editions, self.rows, self.differences, self.ids = editions, [], [], []
 
     def row(self, kind, element, parent):
-        self.rows.append(Row(kind, element.place, element.whole, parent))
+        self.rows.append(Row(kind, element.place, element.whole, parent, element.content_place))
         return len(self.rows) - 1
 
     def alone(self, edition, difference, element):

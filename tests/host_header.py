@@ -33,7 +33,7 @@ def numbers():
     found |= {f"PHAGUNDRO_KIND_{kind.name}": kind for kind in paper.Kind}
     found |= {f"PHAGUNDRO_VERDICT_{verdict.name}": verdict for verdict in paper.Verdict}
     found |= {"PHAGUNDRO_RFC2511": paper.EDITIONS[0], "PHAGUNDRO_RFC4211": paper.EDITIONS[1]}
-    columns = ("KIND", "FIRST", "LENGTH", "PARENT")
+    columns = ("KIND", "FIRST", "LENGTH", "PARENT", "CONTENT")
     found |= {f"PHAGUNDRO_ROW_{name}": column for column, name in enumerate(columns)}
     return found | {"PHAGUNDRO_ROW_NUMBERS": paper.ROW_NUMBERS, "PHAGUNDRO_LONGEST": paper.LONGEST, "PHAGUNDRO_DEEPEST": paper.DEEPEST}
 

@@ -16,7 +16,7 @@ INPUTS = 100_000  # that the archive is compared on
 MODELLED = 4_000  # inputs that the model is asked about, which takes its time
 LONGEST_MODELLED = 2_000  # bytes of them
 FAULTS = ("SUBJECT_IS_NAME", "FALSE_ACCEPTED", "LAST_DIFFERENCE", "BYTE_OF_MESSAGES", "OWN_IDS", "ORDER_BEFORE_INSIDE", "CONTENTS_ORDERED",
-    "TAGGED_ORDERED", "FIRST_PAIR_ORDERED", "EQUALS_REFUSED")
+    "TAGGED_ORDERED", "FIRST_PAIR_ORDERED", "EQUALS_REFUSED", "SHORT_HEADERS")
 
 
 def answered(lines):

@@ -1,5 +1,6 @@
 """The papers' numbers, each named once: the answers, the row kinds, the verdicts, the columns of a row and the limits of document 01, and
-the details of request A9. The models and the tests use these names, and a test checks the C header against them."""
+the fifth number of a row (document 02, A11) and the details of request A9. The models and the tests use these names, and a test checks the
+C header against them."""
 
 import enum
 import typing
@@ -95,6 +96,7 @@ class Row(typing.NamedTuple):
     first: int
     whole: int
     parent: int
+    content: int  # the content's first byte
 
     def __str__(self):
         return " ".join(map(str, self))

@@ -10,13 +10,15 @@ import tempfile
 import corpus
 import host
 from layout import ROOT
-from paper import EDITIONS, LONGEST, Answer, Row
+from paper import EDITIONS, LONGEST, ROW_NUMBERS, Answer, Row, numbers_of
 
 # Exit statuses
 ACCEPTED, REFUSED, TROUBLE = 0, 1, 2
 
 SMALLEST = bytes.fromhex("3009300730050201003000")  # document 01's S, and its rows
-SMALLEST_ROWS = "1 0 11 0\n2 2 9 0\n3 4 7 1\n4 6 3 2\n5 9 2 2\n"
+SMALLEST_ROWS = "1 0 11 0 2\n2 2 9 0 4\n3 4 7 1 6\n4 6 3 2 8\n5 9 2 2 11\n"
+OLD_ROWS = "1 0 11 0\n2 2 9 0\n3 4 7 1\n4 6 3 2\n5 9 2 2\n"  # as version 0.1 had them, four numbers a row
+OLD_ROW_NUMBERS = 4
 
 
 def made(*words):
@@ -73,7 +75,7 @@ def other_readings():
         octets = corpus.octets(name)
         status, out, _ = call("read", "--edition", edition, "--json", path(name))
         answer = json.loads(out)
-        rows = [Row(row["kind"], row["first"], row["length"], row["parent"]) for row in answer["rows"]]
+        rows = [Row(row["kind"], row["first"], row["length"], row["parent"], row["content"]) for row in answer["rows"]]
         found = [answer[member] for member in ("edition", "number", "place", "count")]
         if (status, found) != (status_of(number), [edition, number, place, count]) or len(rows) != count:
             wrong.append(f"{name}, edition {edition}: {found} with status {status}")
@@ -108,6 +110,46 @@ def other_writings(folder):
     status, out, said = call("write", "--edition", 2, "--output", output, "-", path("openssl-minimal"), octets=b"1 0 11")
     if (status, out, output.read_bytes()) != (REFUSED, b"", b"kept") or refusal(Answer.NO_SUCH_BATCH) not in said:
         wrong.append(f"three numbers: {status}, {said}")
+    return wrong
+
+
+def other_trees():
+    """Rows of the corpus that read doesn't show as a line with the row's number, first byte, whole length and content's first byte."""
+    wrong = []
+    for (name, edition), (number, _, count) in corpus.expected().items():
+        if number == Answer.ACCEPTED and count <= corpus.SHOWN:
+            heading, columns, *lines = call("read", "--edition", edition, path(name))[1].decode().splitlines()
+            shown = [line.split()[:4] for line in lines]
+            if columns.split() != ["row", "byte", "length", "content", "field"] or shown != [
+                [str(i), str(row.first), str(row.whole), str(row.content)] for i, row in enumerate(corpus.rows(name))
+            ]:
+                wrong.append(f"{name}, edition {edition}: {columns}: {shown}")
+    return wrong
+
+
+def in_lines(numbers, each):
+    """Numbers as a file of rows, so many to a line."""
+    return "".join(" ".join(map(str, numbers[i:i + each])) + "\n" for i in range(0, len(numbers), each)).encode()
+
+
+@scratch
+def other_old_rows(folder):
+    """Where rows of four numbers a line are not answered with TROUBLE and what has changed, or rows of five are refused for their lines."""
+    wrong = []
+    output = folder / "batch"
+    output.write_bytes(b"kept")
+    told = "standard input: rows of four numbers", "since version 0.2 a row has a fifth number, the content's first byte", "read --numbers"
+    for rows in (OLD_ROWS, OLD_ROWS.rstrip("\n"), "\n" + OLD_ROWS.replace("\n", " \r\n\n"), OLD_ROWS.splitlines()[0]):
+        status, out, said = call("write", "--edition", 2, "--output", output, "-", path("openssl-minimal"), octets=rows.encode())
+        if (status, out, output.read_bytes()) != (TROUBLE, b"", b"kept") or any(words not in said for words in told):
+            wrong.append(f"{rows!r}: status {status}, {said}")
+    for (name, edition), (number, _, count) in corpus.expected().items():
+        if number == Answer.ACCEPTED and count <= corpus.SHOWN:
+            numbers = numbers_of(corpus.rows(name))
+            for each in (1, OLD_ROW_NUMBERS, OLD_ROW_NUMBERS * ROW_NUMBERS, len(numbers)):
+                written = call("write", "--edition", edition, "-", path(name), octets=in_lines(numbers, each))
+                if written != (ACCEPTED, corpus.octets(name), ""):
+                    wrong.append(f"{name}, edition {edition}: not written from lines of {each} numbers")
     return wrong
 
 
@@ -218,7 +260,9 @@ def other_troubles():
 
 TESTS = [
     ("phagundro read gives the expected answers and rows of the corpus, from files, pipes and hex", other_readings),
+    ("phagundro read shows where each row and its content begin", other_trees),
     ("phagundro write gives the batches of the corpus again, and writes nothing after a refusal", other_writings),
+    ("phagundro write says of rows of four numbers a line what has changed, and takes rows of five in lines of any length", other_old_rows),
     ("phagundro verdict and duplicates give the expected answers of the corpus, and the signed part", other_verdicts),
     ("phagundro editions shows both expected answers of the corpus", other_editions),
     ("phagundro refuses 65,536 bytes as TOO_LONG and accepts 65,535", other_limits),

@@ -11,6 +11,7 @@ from layout import ROOT
 from paper import Answer
 
 README = ROOT / "README.md"
+CHANGELOG = ROOT / "CHANGELOG.md"
 MANUAL = ROOT / "tools/phagundro.1"
 MEANINGS = ROOT / "tools/meanings.c"
 NUMBERS, VERDICTS, KINDS = "The number of an answer", "The verdict on a message's proof", "The kind of a row"  # headings of the header
@@ -35,6 +36,12 @@ def other_help():
     if tool.call("--version") != (tool.ACCEPTED, f"phagundro {tool.version()}\n".encode(), ""):
         wrong.append(f"--version: {tool.call('--version')}")
     return wrong
+
+
+def other_version():
+    """Where the changelog doesn't begin with the header's version."""
+    newest = re.search(r"^## \[(.*?)\]", CHANGELOG.read_text(), re.MULTILINE)[1]
+    return [] if newest == tool.version() else [f"the changelog begins with {newest}, the header has {tool.version()}"]
 
 
 def header_words(heading):
@@ -119,6 +126,7 @@ def other_examples(folder):
 TESTS = [
     ("phagundro shows a refusal's number, place, meaning and byte", other_refusals),
     ("phagundro has help for every command as the man page has it, and its version", other_help),
+    ("the changelog begins with the header's version", other_version),
     ("the tool's meanings and the README's numbers are the header's", other_meanings),
     ("the examples of the README and the man page run as printed, with what make install puts in place", other_examples),
 ]

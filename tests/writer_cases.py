@@ -16,7 +16,6 @@ import writer_model
 from paper import EDITIONS, KINDS_ALONE, ROW_NUMBERS, Answer, Kind, Row, numbers_of, told
 
 TABLE = pathlib.Path(__file__).with_name("writer_cases.txt")
-NUMBERS = 120000  # numbers of the longest draft that the program reads
 OUTPUT = 70000  # octets of its output
 
 ANSWER = r"1[123]|0 \d+(?:: [^/]*[^/ ])?"
@@ -120,7 +119,7 @@ def again():
     for _, batch, said in crmf_rows.table():
         octets, written = crmf_cases.built(batch)
         if said[:1] not in ([], [crmf_rows.NO_BATCH], [crmf_rows.TOO_SHORT]) and len(said) <= editions_cases.SHOWN:
-            found.append((octets, written, [editions_cases.modelled(edition, octets, NUMBERS)[0] for edition in EDITIONS]))
+            found.append((octets, written, [editions_cases.modelled(edition, octets, cases.NUMBERS)[0] for edition in EDITIONS]))
     for name in corpus.names():
         octets = corpus.octets(name)
         found.append((octets, octets.hex().upper(), [told(*corpus.expected()[name, edition]) for edition in EDITIONS]))

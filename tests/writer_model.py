@@ -1,10 +1,13 @@
-"""A model of writing, from the second paragraph of document 01's section "Rows", written from that document alone.
+"""A model of writing, from the second paragraph of document 01's section "Rows" and from document 02's A11, written from those documents
+alone.
 
 At most one batch can have a draft's rows: a container's kind fixes its identifier, and its content is what the rows below it stand for.
-`write` puts that batch together, has it read by the model of the grammar, and compares what it shows with the draft.
+`write` puts that batch together, has it read by the model of the grammar, compares what it shows with the draft, and looks whether the
+draft says of each leaf where its content begins.
 """
 
 import grammar_model
+import nest_model
 from paper import EDITIONS, LONGEST, ROW_NUMBERS, Answer, Kind, rows_of
 
 # The containers, each with its identifier
@@ -36,7 +39,7 @@ def candidate(rows, octets):
     """The only batch that can have these rows, put together from the last row to the first; None if there can be none."""
     below = [[] for _ in rows]  # the elements below each row, the last first
     for row in reversed(range(len(rows))):
-        kind, first, whole, parent = rows[row]
+        kind, first, whole, parent, _ = rows[row]
         if kind in CONTAINERS:
             own = element(CONTAINERS[kind], IMPLIED.get(kind, b"") + b"".join(reversed(below[row])))
         elif first + whole <= len(octets):
@@ -55,8 +58,15 @@ def candidate(rows, octets):
 
 def shows(row, octets):
     """What the rows of a batch and of its draft have to have in common; "containers' place and length are ignored"."""
-    kind, first, whole, parent = row
+    kind, first, whole, parent, _ = row
     return (kind, parent) if kind in CONTAINERS else (kind, parent, whole, octets[first:first + whole])
+
+
+def content_right(row, octets):
+    """Whether a draft's row says where its content begins: "ignored in containers of a draft but must be right in its leaves, by the
+    slice's own places". The row is one of a batch's, so that a leaf's octets in the slice are an element."""
+    kind, first, whole, _, content = row
+    return kind in CONTAINERS or content == first + nest_model.length(octets[first:first + whole])[0]
 
 
 def describes(edition, numbers, octets):
@@ -69,7 +79,9 @@ def describes(edition, numbers, octets):
         return None
     number, _, own = grammar_model.read(edition, batch)
     alike = [shows(row, octets) for row in rows] == [shows(row, batch) for row in own]
-    return batch if number == Answer.ACCEPTED and alike else None
+    if number != Answer.ACCEPTED or not alike:
+        return None
+    return batch if all(content_right(row, octets) for row in rows) else None
 
 
 def write(edition, numbers, octets, room):

@@ -26,7 +26,7 @@ static bool is_standard(const char *name)
     return strcmp(name, "-") == 0;
 }
 
-static const char *shown(const char *name)
+const char *shown_name(const char *name)
 {
     return is_standard(name) ? "standard input" : name;
 }
@@ -42,7 +42,7 @@ static FILE *opened(const char *name)
 static void closed(FILE *file, const char *name)
 {
     if (ferror(file))
-        trouble("%s: %s", shown(name), strerror(errno));
+        trouble("%s: %s", shown_name(name), strerror(errno));
     if (file != stdin)
         fclose(file);
 }
@@ -73,7 +73,7 @@ static int next_digit(FILE *file, const char *name)
     while (found != EOF && isspace(found))
         found = getc(file);
     if (found != EOF && !isxdigit(found))
-        trouble("%s: not hex: a byte %02X that is no digit and no white space", shown(name), (unsigned)found);
+        trouble("%s: not hex: a byte %02X that is no digit and no white space", shown_name(name), (unsigned)found);
     return found;
 }
 
@@ -90,7 +90,7 @@ static int next_pair(FILE *file, const char *name)
         return EOF;
     int low = next_digit(file, name);
     if (low == EOF)
-        trouble("%s: not hex: an odd number of digits", shown(name));
+        trouble("%s: not hex: an odd number of digits", shown_name(name));
     return 16 * value_of(high) + value_of(low);
 }
 
@@ -123,32 +123,54 @@ bool whole_number(const char *words, size_t *number)
     return errno == 0 && *number == found;
 }
 
-/* The next word of a file; false at its end. A word that is too long to be a number is cut, and is still too long. */
-static bool next_word(FILE *file, char word[LONGEST_NUMBER + 2])
+/* The next word of a file, and whether it is the first of its line; false at the file's end. A word that is too long to be a number is cut,
+ * and is still too long. */
+static bool next_word(FILE *file, char word[LONGEST_NUMBER + 2], bool *begins_line)
 {
     size_t length = 0;
     int found = getc(file);
-    while (found != EOF && isspace(found))
-        found = getc(file);
+    for (; found != EOF && isspace(found); found = getc(file))
+        *begins_line |= found == '\n';
     for (; found != EOF && !isspace(found) && length <= LONGEST_NUMBER; found = getc(file))
         word[length++] = found == '\0' ? '?' : (char)found;
+    ungetc(found, file); /* it may end the line */
     word[length] = '\0';
     return length > 0;
 }
 
+/* How many words each line has, as far as they are counted. */
+typedef struct {
+    size_t first, now; /* words of the first line, and of the one that is being counted */
+    bool differ;       /* a line has ended with more or fewer than the first */
+} line_words;
+
+static void end_line(line_words *words)
+{
+    if (words->first == 0)
+        words->first = words->now;
+    words->differ |= words->now != words->first;
+    words->now = 0;
+}
+
 numbers read_numbers(const char *name)
 {
-    numbers found = {NULL, 0};
+    numbers found = {NULL, 0, 0};
+    line_words words = {0, 0, false};
     size_t room = 0;
     char word[LONGEST_NUMBER + 2];
     FILE *file = opened(name);
-    while (next_word(file, word)) {
+    for (bool begins_line = false; next_word(file, word, &begins_line); begins_line = false) {
+        if (begins_line && words.now > 0)
+            end_line(&words);
+        words.now++;
         found.numbers = grown(found.numbers, found.count, &room, sizeof *found.numbers);
         if (!whole_number(word, &found.numbers[found.count]))
-            trouble("%s: not a row's number: %s", shown(name), word);
+            trouble("%s: not a row's number: %s", shown_name(name), word);
         found.count++;
     }
     closed(file, name);
+    end_line(&words);
+    found.each_line = words.differ ? 0 : words.first;
     return found;
 }
 

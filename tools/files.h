@@ -14,6 +14,7 @@ typedef struct {
 typedef struct {
     size_t *numbers; /* to be freed */
     size_t count;
+    size_t each_line; /* how many of them each line has that has any; 0 if the lines differ or there are none */
 } numbers;
 
 /* Exit statuses. */
@@ -21,6 +22,9 @@ enum { STATUS_ACCEPTED = 0, STATUS_REFUSED = 1, STATUS_TROUBLE = 2 };
 
 /* Says what is wrong and ends the program with STATUS_TROUBLE. */
 _Noreturn void trouble(const char *form, ...) __attribute__((format(printf, 1, 2)));
+
+/* What a file is called in a message. */
+const char *shown_name(const char *name);
 
 /* Reads the bytes of a file, as they are or as hex digits; of standard input if the name is "-". It stops after `most` bytes. */
 octets read_octets(const char *name, bool hex, size_t most);

@@ -31,17 +31,18 @@ const char general_help[] =
 const char read_help[] =
     "phagundro read --edition N [--hex] [--numbers | --json] [FILE]\n"
     "\n"
-    "Reads a batch in an edition and shows its fields as a tree: row, first byte, whole length and name.\n"
+    "Reads a batch in an edition and shows its fields as a tree: row, first byte, whole length, content's first byte and name.\n"
     INPUT_HELP EDITION_HELP
-    "  --numbers      the rows as plain numbers, a row a line: kind, first byte, whole length, parent's row\n"
+    "  --numbers      the rows as plain numbers, a row a line: kind, first byte, whole length, parent's row, content's first byte\n"
     "  --json         the answer and the rows as JSON\n"
     STATUS_HELP FAULTS_HELP;
 
 const char write_help[] =
     "phagundro write --edition N [--hex] [--output FILE] ROWS SLICE\n"
     "\n"
-    "Writes the batch that rows over a slice of bytes describe. ROWS has numbers as read --numbers shows them, SLICE the bytes at\n"
-    "which the leaves' rows point; one of the two may be -, standard input. Of a container's row the place and length are ignored.\n"
+    "Writes the batch that rows over a slice of bytes describe. ROWS has numbers as read --numbers shows them, five a row; SLICE has\n"
+    "the bytes at which the leaves' rows point. One of the two may be -, standard input. Of a container's row the first byte, length\n"
+    "and content's first byte are ignored. Of a leaf's row they must be right, counted from the start of SLICE.\n"
     "  --hex          SLICE is written in hex digits, with or without white space between them\n"
     EDITION_HELP
     "  --output FILE  where the batch goes, in DER; without it, or if it is -, to standard output\n"

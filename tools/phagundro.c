@@ -15,6 +15,8 @@ enum {
     MOST_NUMBERS = PHAGUNDRO_ROW_NUMBERS * PHAGUNDRO_MOST_ROWS
 };
 
+enum { OLD_ROW_NUMBERS = 4 }; /* numbers of a row in version 0.1, which had no content's first byte */
+
 static size_t table[MOST_NUMBERS];
 static uint8_t output[PHAGUNDRO_LONGEST];
 
@@ -60,6 +62,14 @@ static int read_command(const options *given)
     return status_of(answer.number);
 }
 
+/* It is trouble if the rows that describe no batch are those of version 0.1, which are told by their lines. */
+static void check_row_version(const char *name, numbers rows)
+{
+    if (rows.each_line == OLD_ROW_NUMBERS)
+        trouble("%s: rows of four numbers, as version 0.1 had them: since version 0.2 a row has a fifth number, the content's first byte;"
+            " reading the batch again with read --numbers gives the new rows", shown_name(name));
+}
+
 static int write_command(const options *given)
 {
     if (given->count < 2)
@@ -70,6 +80,8 @@ static int write_command(const options *given)
     octets slice = read_octets(given->files[1], given->given & HEX, SIZE_MAX);
     phagundro_answer answer =
         phagundro_write(given->edition, rows.numbers, rows.count, slice.bytes, slice.length, output, sizeof output);
+    if (answer.number == PHAGUNDRO_NO_SUCH_BATCH)
+        check_row_version(given->files[0], rows);
     if (answer.number != PHAGUNDRO_ACCEPTED)
         show_refusal(stderr, given->edition, answer.number, answer.place, slice);
     else

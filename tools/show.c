@@ -56,14 +56,13 @@ static size_t depth_of(const size_t *table, size_t row)
     return depth;
 }
 
-/* The signed whole number of a certReqId, which has at most 8 content octets and so one length octet. */
-static long long id_of(const uint8_t *element)
+/* The signed whole number of a certReqId's row; it has from 1 to 8 content octets. */
+static long long id_of(const size_t *row, octets batch)
 {
-    size_t length = element[1];
-    const uint8_t *content = element + 2;
-    uint64_t value = content[0] & 0x80 ? UINT64_MAX : 0;
-    for (size_t at = 0; at < length; at++)
-        value = value << 8 | content[at];
+    size_t at = row[PHAGUNDRO_ROW_CONTENT], end = row[PHAGUNDRO_ROW_FIRST] + row[PHAGUNDRO_ROW_LENGTH];
+    uint64_t value = batch.bytes[at] & 0x80 ? UINT64_MAX : 0;
+    for (; at < end; at++)
+        value = value << 8 | batch.bytes[at];
     return (long long)value;
 }
 
@@ -71,16 +70,16 @@ void show_tree(size_t edition, const size_t *table, size_t count, octets batch)
 {
     size_t position = 0;
     show_count(edition, count);
-    printf("%6s %6s %6s  field\n", "row", "byte", "length");
+    printf("%6s %6s %6s %7s  field\n", "row", "byte", "length", "content");
     for (size_t i = 0; i < count; i++) {
         const size_t *row = row_of(table, i);
         int indent = (int)(2 * depth_of(table, i));
-        printf("%6zu %6zu %6zu  %*s%s", i, row[PHAGUNDRO_ROW_FIRST], row[PHAGUNDRO_ROW_LENGTH], indent, "",
-            kind_name(row[PHAGUNDRO_ROW_KIND]));
+        printf("%6zu %6zu %6zu %7zu  %*s%s", i, row[PHAGUNDRO_ROW_FIRST], row[PHAGUNDRO_ROW_LENGTH], row[PHAGUNDRO_ROW_CONTENT], indent,
+            "", kind_name(row[PHAGUNDRO_ROW_KIND]));
         if (row[PHAGUNDRO_ROW_KIND] == PHAGUNDRO_KIND_MESSAGE)
             printf(" at position %zu", position++);
         if (row[PHAGUNDRO_ROW_KIND] == PHAGUNDRO_KIND_CERT_REQ_ID)
-            printf(" %lld", id_of(batch.bytes + row[PHAGUNDRO_ROW_FIRST]));
+            printf(" %lld", id_of(row, batch));
         putchar('\n');
     }
 }
@@ -102,9 +101,9 @@ void json_rows(const size_t *table, size_t count)
     putchar('[');
     for (size_t i = 0; i < count; i++) {
         const size_t *row = row_of(table, i);
-        printf("%s\n  {\"kind\": %zu, \"name\": \"%s\", \"first\": %zu, \"length\": %zu, \"parent\": %zu}", i == 0 ? "" : ",",
-            row[PHAGUNDRO_ROW_KIND], kind_name(row[PHAGUNDRO_ROW_KIND]), row[PHAGUNDRO_ROW_FIRST], row[PHAGUNDRO_ROW_LENGTH],
-            row[PHAGUNDRO_ROW_PARENT]);
+        printf("%s\n  {\"kind\": %zu, \"name\": \"%s\", \"first\": %zu, \"length\": %zu, \"parent\": %zu, \"content\": %zu}",
+            i == 0 ? "" : ",", row[PHAGUNDRO_ROW_KIND], kind_name(row[PHAGUNDRO_ROW_KIND]), row[PHAGUNDRO_ROW_FIRST],
+            row[PHAGUNDRO_ROW_LENGTH], row[PHAGUNDRO_ROW_PARENT], row[PHAGUNDRO_ROW_CONTENT]);
     }
     putchar(']');
 }

@@ -1,6 +1,6 @@
 /* Shows the answers of the writing in reference_writing.c: the draft's numbers, the slice in hex, and for editions 1 and 2 the number, the
  * length and the batch in hex, as
- *     1 0 0 0 2 0 0 0 3 0 0 1 4 0 3 2 5 0 0 2,020100,0 11 3009300730050201003000,0 11 3009300730050201003000
+ *     1 0 0 0 0 2 0 0 0 0 3 0 0 1 0 4 0 3 2 2 5 0 0 2 0,020100,0 11 3009300730050201003000,0 11 3009300730050201003000
  * A line of input is NUMBERS,HEX. See answering.h. */
 #include "../../include/phagundro.h"
 #include "answering.h"

@@ -46,6 +46,12 @@ size_t after(Draft *draft, size_t i)
     return j;
 }
 
+void move_row(size_t *numbers, size_t first)
+{
+    numbers[CONTENT] += first - numbers[FIRST];
+    numbers[FIRST] = first;
+}
+
 void insert_rows(Draft *draft, size_t at, const size_t *numbers, size_t count)
 {
     if (DRAFT_NUMBERS - draft->count < WIDTH * count)
@@ -68,9 +74,17 @@ void move_parents(Draft *draft, size_t from, size_t to, size_t least, size_t by)
             row(draft, i)[PARENT] += by;
 }
 
+/* The first byte after the identifier and length octets of the element at a place of the slice. */
+static size_t after_header(const Draft *draft, size_t first)
+{
+    uint8_t octet = first + 1 < draft->length ? draft->slice[first + 1] : 0;
+    return first + 2 + (octet > 0x80 ? octet - 0x80 : 0);
+}
+
 void add_row(Draft *draft, size_t kind, size_t first, size_t whole, size_t parent)
 {
-    size_t numbers[WIDTH] = {kind, first, whole, parent};
+    size_t content = is_container(kind) ? far_off() : after_header(draft, first);
+    size_t numbers[WIDTH] = {kind, first, whole, parent, content};
     insert_rows(draft, rows(draft), numbers, 1);
 }
 

@@ -5,7 +5,13 @@
 #include "drafts.h"
 
 enum { WIDTH = PHAGUNDRO_ROW_NUMBERS };
-enum { KIND = PHAGUNDRO_ROW_KIND, FIRST = PHAGUNDRO_ROW_FIRST, WHOLE = PHAGUNDRO_ROW_LENGTH, PARENT = PHAGUNDRO_ROW_PARENT };
+enum {
+    KIND = PHAGUNDRO_ROW_KIND,
+    FIRST = PHAGUNDRO_ROW_FIRST,
+    WHOLE = PHAGUNDRO_ROW_LENGTH,
+    PARENT = PHAGUNDRO_ROW_PARENT,
+    CONTENT = PHAGUNDRO_ROW_CONTENT
+};
 
 /* A row, and how many there are. */
 size_t *row(Draft *draft, size_t i);
@@ -18,7 +24,11 @@ size_t some_leaf(Draft *draft);
 /* The first row after those below a row. */
 size_t after(Draft *draft, size_t i);
 
-/* Puts rows before the one at `at`, takes rows away, and adds a row at the end. */
+/* Gives a row another first byte; its content's first byte moves with it. */
+void move_row(size_t *numbers, size_t first);
+
+/* Puts rows before the one at `at`, takes rows away, and adds a row at the end; its content's first byte is right in a leaf, and any number
+ * in a container. */
 void insert_rows(Draft *draft, size_t at, const size_t *numbers, size_t count);
 void remove_rows(Draft *draft, size_t at, size_t count);
 void add_row(Draft *draft, size_t kind, size_t first, size_t whole, size_t parent);

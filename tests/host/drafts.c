@@ -73,7 +73,7 @@ static void lay_out(Draft *draft, bool overlapping)
         size_t at = overlapping ? found(draft, octets, numbers[WHOLE]) : draft->length;
         size_t common = draft->length - at < numbers[WHOLE] ? draft->length - at : numbers[WHOLE];
         add_octets(draft, octets + common, numbers[WHOLE] - common);
-        numbers[FIRST] = at;
+        move_row(numbers, at);
     }
 }
 
@@ -104,6 +104,16 @@ static void containers_anyhow(Draft *draft)
         }
 }
 
+/* So is the first byte of their content. */
+static void container_contents_anyhow(Draft *draft)
+{
+    for (size_t i = 0; i < rows(draft); i++)
+        if (is_container(row(draft, i)[KIND]))
+            row(draft, i)[CONTENT] = chance(2) ? far_off() : below(draft->length + 2);
+    if (chance(2))
+        containers_anyhow(draft);
+}
+
 /* The batch's bytes begin later in a longer slice. */
 static void further_back(Draft *draft)
 {
@@ -113,7 +123,7 @@ static void further_back(Draft *draft)
     draft->length += by;
     add_garbage(draft, below(8));
     for (size_t i = 0; i < rows(draft); i++)
-        row(draft, i)[FIRST] += by;
+        move_row(row(draft, i), row(draft, i)[FIRST] + by);
 }
 
 /* -- Rows put together anew, with their parents -- */
@@ -168,7 +178,7 @@ static void subtree_replaced(Draft *draft)
     row(draft, i)[PARENT] = parent;
     move_parents(draft, i + 1, i + to - from, 0, i - from);
     for (size_t k = i; k < i + to - from; k++)
-        row(draft, k)[FIRST] += by;
+        move_row(row(draft, k), row(draft, k)[FIRST] + by);
 }
 
 /* -- Rows spoiled -- */
@@ -184,18 +194,29 @@ static size_t changed(Draft *draft, size_t i, size_t field, size_t way)
 
 enum { WAYS = 16 };
 
-static void number_changed(Draft *draft)
+/* What is changed in a row: one of its numbers, or its first byte and its content's together. */
+enum { ROW_MOVED = WIDTH, CHANGES };
+
+static void change(Draft *draft, size_t i, size_t what, size_t way)
 {
-    size_t i = chance(4) ? 0 : some_row(draft), field = below(WIDTH);
-    row(draft, i)[field] = changed(draft, i, field, below(WAYS));
+    if (what == ROW_MOVED)
+        move_row(row(draft, i), changed(draft, i, FIRST, way));
+    else
+        row(draft, i)[what] = changed(draft, i, what, way);
 }
 
-/* Each number of each row in turn, in each way, over one source after another. */
+static void number_changed(Draft *draft)
+{
+    size_t i = chance(4) ? 0 : some_row(draft), what = below(CHANGES);
+    change(draft, i, what, below(WAYS));
+}
+
+/* Each number of each row in turn, and its first byte and its content's together, in each way, over one source after another. */
 static void number_in_turn(Draft *draft)
 {
     static Source source;
     static size_t turn;
-    if (turn == source.count * WIDTH * WAYS) {
+    if (turn == source.count * CHANGES * WAYS) {
         if (rows(draft) > 30)
             return;
         source = sources[present];
@@ -205,8 +226,7 @@ static void number_in_turn(Draft *draft)
     memcpy(draft->numbers, source.numbers, draft->count * sizeof(size_t));
     draft->length = 0;
     add_octets(draft, source.bytes, source.length);
-    size_t i = turn / WAYS / WIDTH, field = turn / WAYS % WIDTH;
-    row(draft, i)[field] = changed(draft, i, field, turn % WAYS);
+    change(draft, turn / WAYS / CHANGES, turn / WAYS % CHANGES, turn % WAYS);
     turn++;
 }
 
@@ -289,7 +309,7 @@ static void parted_elsewhere(Draft *draft)
     }
     size_t by = chance(2) ? 1 + below(second[WHOLE] - 1) : 0 - (1 + below(first[WHOLE] - 1));
     first[WHOLE] += by;
-    second[FIRST] += by;
+    move_row(second, second[FIRST] + by);
     second[WHOLE] -= by;
 }
 
@@ -309,8 +329,10 @@ static void two_in_a_leaf(Draft *draft)
 static void leaf_in_two(Draft *draft)
 {
     size_t i = some_leaf(draft);
-    size_t *numbers = row(draft, i), size = below(numbers[WHOLE] + 1);
-    size_t second[WIDTH] = {numbers[KIND], numbers[FIRST] + size, numbers[WHOLE] - size, numbers[PARENT]};
+    size_t *numbers = row(draft, i), size = below(numbers[WHOLE] + 1), second[WIDTH];
+    memcpy(second, numbers, sizeof second);
+    move_row(second, numbers[FIRST] + size);
+    second[WHOLE] -= size;
     numbers[WHOLE] = size;
     move_parents(draft, i + 1, rows(draft), i + 1, 1);
     insert_rows(draft, i + 1, second, 1);
@@ -324,7 +346,7 @@ static void empty_leaf(Draft *draft)
         row(draft, i)[WHOLE] = 0;
         return;
     }
-    size_t numbers[WIDTH] = {any_kind(), below(draft->length + 1), 0, row(draft, i)[PARENT]};
+    size_t first = below(draft->length + 1), numbers[WIDTH] = {any_kind(), first, 0, row(draft, i)[PARENT], first + 2 * below(2)};
     while (is_container(numbers[KIND]))
         numbers[KIND] = any_kind();
     move_parents(draft, i + 1, rows(draft), i + 1, 1);
@@ -375,7 +397,7 @@ static void longer_id(Draft *draft)
     for (size_t i = below(rows(draft)); i < rows(draft); i++)
         if (row(draft, i)[KIND] == PHAGUNDRO_KIND_CERT_REQ_ID) {
             size_t octets = 8 + below(3);
-            row(draft, i)[FIRST] = add_octets(draft, id, 2 + octets);
+            move_row(row(draft, i), add_octets(draft, id, 2 + octets));
             row(draft, i)[WHOLE] = 2 + octets;
             draft->slice[row(draft, i)[FIRST] + 1] = (uint8_t)octets;
             return;
@@ -399,11 +421,38 @@ static void wrapping(Draft *draft)
 {
     size_t *numbers = row(draft, some_leaf(draft));
     if (chance(2))
-        numbers[FIRST] = 0 - (1 + below(numbers[WHOLE]));
+        move_row(numbers, 0 - (1 + below(numbers[WHOLE])));
     else
         numbers[WHOLE] = 0 - (1 + below(numbers[FIRST]));
-    if (chance(4))
-        numbers[FIRST] = numbers[WHOLE] = 0x8000000000000000;
+    if (chance(4)) {
+        numbers[WHOLE] = 0x8000000000000000;
+        move_row(numbers, numbers[WHOLE]);
+    }
+}
+
+/* -- The first byte of a leaf's content -- */
+
+/* Beside the right one, at an end of the element or of its header, or far off. */
+static void content_wrong(Draft *draft)
+{
+    size_t *numbers = row(draft, some_leaf(draft)), right = numbers[CONTENT], first = numbers[FIRST], end = first + numbers[WHOLE];
+    size_t wrong[] = {right - 1, right + 1, first, first + 1, end, end - 1, right - first, draft->length, 0 - right, SIZE_MAX - right,
+        SIZE_MAX, SIZE_MAX - 1, right + UINT8_MAX + 1, right + UINT16_MAX + 1, right + 0x100000000, right ^ 0x8000000000000000, far_off()};
+    while (numbers[CONTENT] == right)
+        numbers[CONTENT] = wrong[below(sizeof wrong / sizeof *wrong)];
+}
+
+/* Of all leaves or of one it is where it is in the batch, and the slice has them there or elsewhere. */
+static void contents_in_the_batch(Draft *draft)
+{
+    const Source *source = &sources[present];
+    bool all = chance(2);
+    size_t one = some_leaf(draft);
+    if (chance(2))
+        lay_out(draft, chance(2));
+    for (size_t i = 0; i < rows(draft); i++)
+        if (all ? !is_container(row(draft, i)[KIND]) : i == one)
+            row(draft, i)[CONTENT] = source->numbers[WIDTH * i + CONTENT];
 }
 
 /* -- Drafts that are no rows -- */
@@ -415,6 +464,16 @@ static void ragged(Draft *draft)
     else
         for (size_t more = 1 + below(WIDTH - 1); more > 0; more--)
             draft->numbers[draft->count++] = far_off();
+}
+
+/* Rows as they were before document 02's A11, without the content's first byte. */
+static void four_numbers_a_row(Draft *draft)
+{
+    enum { OLD_WIDTH = CONTENT };
+    size_t count = rows(draft);
+    for (size_t i = 0; i < count; i++)
+        memmove(draft->numbers + OLD_WIDTH * i, row(draft, i), OLD_WIDTH * sizeof(size_t));
+    draft->count = OLD_WIDTH * count;
 }
 
 static void none(Draft *draft)
@@ -550,6 +609,7 @@ const DraftSort draft_sorts[DRAFT_SORTS] = {
     {"leaves scattered over the slice", SAME_BATCH, 30, scattered},
     {"leaves that overlap", SAME_BATCH, 30, overlapping},
     {"containers with any place and length", SAME_BATCH, 30, containers_anyhow},
+    {"containers with any content's first byte", SAME_BATCH, 30, container_contents_anyhow},
     {"further back in the slice", SAME_BATCH, 30, further_back},
     {"a subtree dropped", OPEN, 30, subtree_dropped},
     {"a subtree doubled", OPEN, 30, subtree_doubled},
@@ -572,7 +632,10 @@ const DraftSort draft_sorts[DRAFT_SORTS] = {
     {"a certReqId of 8 to 10 octets", OPEN, 15, longer_id},
     {"the slice cut", OPEN, 30, slice_cut},
     {"place and length wrap", NO_BATCH, 30, wrapping},
+    {"a leaf's content elsewhere", NO_BATCH, 60, content_wrong},
+    {"leaves' contents by their places in the batch", OPEN, 30, contents_in_the_batch},
     {"no multiple of a row's numbers", NO_BATCH, 15, ragged},
+    {"rows of four numbers", NO_BATCH, 15, four_numbers_a_row},
     {"no numbers", NO_BATCH, 2, none},
     {"any rows", OPEN, 30, any_rows},
     {"near or past the longest", OPEN, 4, long_batch},

@@ -1,4 +1,4 @@
-/* Document 01's numbers, named for the references. They are written from that paper alone, and not taken from phagundro.h. */
+/* The papers' numbers, named for the references. They are written from documents 01 and 02 alone, and not taken from phagundro.h. */
 #ifndef PAPER_H
 #define PAPER_H
 
@@ -25,8 +25,8 @@ enum {
     NO_SUCH_MESSAGE = 14
 };
 
-/* A row. */
-enum { ROW_KIND, ROW_FIRST, ROW_LENGTH, ROW_PARENT, ROW_NUMBERS };
+/* A row: document 01's numbers, and document 02's A11. */
+enum { ROW_KIND, ROW_FIRST, ROW_LENGTH, ROW_PARENT, ROW_CONTENT, ROW_NUMBERS };
 
 /* Kinds of containers. */
 enum {

@@ -1,5 +1,5 @@
-/* The reading of a batch by document 01: one function for each construct of its grammar, which takes the elements inside from left to
- * right, judges each before the next, and says where it stops. Identifiers are in hex, as the paper writes them. */
+/* The reading of a batch by document 01, with document 02's A11: one function for each construct of its grammar, which takes the elements
+ * inside from left to right, judges each before the next, and says where it stops. Identifiers are in hex, as the paper writes them. */
 #include "reference.h"
 
 #include "paper.h"
@@ -118,6 +118,7 @@ static size_t row(Walk *walk, size_t kind, Element element, size_t parent)
     numbers[ROW_FIRST] = element.at;
     numbers[ROW_LENGTH] = element.end - element.at;
     numbers[ROW_PARENT] = parent;
+    numbers[ROW_CONTENT] = reference_fault == SHORT_HEADERS ? element.at + 2 : element.inside;
     return walk->count++;
 }
 

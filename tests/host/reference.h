@@ -1,5 +1,5 @@
-/* The reading, the writing, the verdict and the duplicate search by document 01 and by document 02's A3, written from those papers alone.
- * The comparisons check the archive against them. */
+/* The reading, the writing, the verdict and the duplicate search by document 01 and by document 02's A3 and A11, written from those papers
+ * alone. The comparisons check the archive against them. */
 #ifndef REFERENCE_H
 #define REFERENCE_H
 
@@ -56,7 +56,13 @@ enum {
     CONTENTS_ORDERED = 15,    /* a SET's members compared by their contents */
     TAGGED_ORDERED = 16,      /* elements of other classes with a SET's tag number judged too */
     FIRST_PAIR_ORDERED = 17,  /* only the first two members of a SET compared */
-    EQUALS_REFUSED = 18       /* equal members of a SET refused */
+    EQUALS_REFUSED = 18,      /* equal members of a SET refused */
+
+    /* in a row's fifth number */
+    SHORT_HEADERS = 19,       /* each content taken to begin two bytes after its element */
+    CONTENTS_UNCOMPARED = 20, /* the content's first byte ignored in a draft's leaves too */
+    CONTAINER_CONTENTS = 21,  /* the content's first byte not ignored in a draft's containers */
+    BATCH_CONTENTS = 22       /* the content's first byte of a draft's leaves taken as a place in the batch */
 };
 extern int reference_fault;
 

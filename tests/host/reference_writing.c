@@ -1,8 +1,10 @@
-/* The writing of a draft by document 01: the one batch that can have a draft's rows is built by recursion over the rows, each with those
- * that name it as their parent; then it is read, and what its own rows show is compared with the draft. */
+/* The writing of a draft by document 01, with document 02's A11: the one batch that can have a draft's rows is built by recursion over the
+ * rows, each with those that name it as their parent; then it is read, what its own rows show is compared with the draft, and the draft's
+ * leaves are looked at in the slice for where their contents begin. */
 #include "reference.h"
 
 #include "paper.h"
+#include "reference_nest.h"
 
 #include <stdbool.h>
 #include <string.h>
@@ -51,19 +53,19 @@ static bool append(Draft *draft, const uint8_t *octets, size_t size)
 static bool enclose(Draft *draft, size_t start, uint8_t id)
 {
     size_t size = draft->length - start, used = 0;
-    uint8_t header[4];
-    header[used++] = id;
+    uint8_t octets[4];
+    octets[used++] = id;
     if (size > 0xFF)
-        header[used++] = 0x82;
+        octets[used++] = 0x82;
     else if (size > 0x7F)
-        header[used++] = 0x81;
+        octets[used++] = 0x81;
     if (size > 0xFF)
-        header[used++] = (uint8_t)(size >> 8);
-    header[used++] = (uint8_t)size;
+        octets[used++] = (uint8_t)(size >> 8);
+    octets[used++] = (uint8_t)size;
     if (LONGEST - draft->length < used)
         return false;
     memmove(draft->batch + start + used, draft->batch + start, size);
-    memcpy(draft->batch + start, header, used);
+    memcpy(draft->batch + start, octets, used);
     draft->length += used;
     return true;
 }
@@ -85,17 +87,38 @@ static size_t build(Draft *draft, size_t i, int depth)
     return next != NOTHING && enclose(draft, start, identifier(kind)) ? next : NOTHING;
 }
 
+/* Whether the other numbers of a container's row pass: they are ignored, but for two planted faults. */
+static bool container_passes(const size_t *ours, const size_t *theirs)
+{
+    if (reference_fault == CONTAINERS_MEASURED)
+        return ours[ROW_LENGTH] == theirs[ROW_LENGTH];
+    return reference_fault != CONTAINER_CONTENTS || ours[ROW_CONTENT] == theirs[ROW_CONTENT];
+}
+
+/* Whether the row of a leaf, whose octets in the slice are the batch's, says where its content begins in the slice. */
+static bool content_right(const Draft *draft, const size_t *ours, const size_t *theirs)
+{
+    Element leaf;
+    if (reference_fault == CONTENTS_UNCOMPARED)
+        return true;
+    if (reference_fault == BATCH_CONTENTS)
+        return ours[ROW_CONTENT] == theirs[ROW_CONTENT];
+    return header(draft->slice, ours[ROW_FIRST], ours[ROW_FIRST] + ours[ROW_LENGTH], &leaf) == ACCEPTED &&
+        leaf.inside == ours[ROW_CONTENT];
+}
+
 /* Whether the batch's own row shows what the draft's row does. */
 static bool alike(const Draft *draft, const size_t *ours, const size_t *theirs)
 {
     if (ours[ROW_KIND] != theirs[ROW_KIND] || ours[ROW_PARENT] != theirs[ROW_PARENT])
         return false;
     if (identifier(ours[ROW_KIND]) != 0)
-        return reference_fault != CONTAINERS_MEASURED || ours[ROW_LENGTH] == theirs[ROW_LENGTH];
+        return container_passes(ours, theirs);
     if (reference_fault == LEAVES_UNCOMPARED)
         return true;
     size_t length = ours[ROW_LENGTH];
-    return length == theirs[ROW_LENGTH] && memcmp(draft->slice + ours[ROW_FIRST], draft->batch + theirs[ROW_FIRST], length) == 0;
+    return length == theirs[ROW_LENGTH] && memcmp(draft->slice + ours[ROW_FIRST], draft->batch + theirs[ROW_FIRST], length) == 0 &&
+        content_right(draft, ours, theirs);
 }
 
 /* Whether the draft describes an acceptable batch, which is then built. */
