@@ -25,7 +25,7 @@ pub use Rattle.editions.proofs.Laws.{rows-shown, contents-right, one-nest}
 pub use Rattle.writer.proofs.Laws.{writes-again}
 -- "A draft is refused as describing nothing exactly when no acceptable batch has its rows and leaf bytes"; documents 01 and 02: also if its
 -- numbers aren't "a multiple of five", are "none, or a leaf leaves the slice", or if the fifth number of a leaf isn't right.
-pub use Rattle.writer.proofs.Laws.{describes-nothing, misshapen-refused, wrong-content-refused}
+pub use Rattle.writer.proofs.Laws.{describes-nothing, misshapen-refused, not-right-refused, wrong-content-refused}
 -- "otherwise, given room, that batch is written": there is only one such batch, the answer has its length, and the output begins with it; and
 -- if 0 is answered, what was written has the draft's rows.
 pub use Rattle.writer.proofs.Laws.{one-batch, written-answer, written-output, written-has-rows}

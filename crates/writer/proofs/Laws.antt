@@ -4,7 +4,8 @@
 --     output-stays        a refusal leaves the output as it was, and its count is 0
 --     describes-nothing   a draft is refused with 12 exactly if no batch that the edition accepts has its rows and leaf bytes
 --     misshapen-refused   so a draft is refused whose numbers aren't a multiple of five, or none, or of which a leaf leaves the slice (`Misshapen`)
---     wrong-content-refused  and so is a draft of which a leaf's fifth number isn't its first byte and the length of its header in the slice
+--     not-right-refused   and so is a draft of which a leaf's fifth number isn't right over the slice; if an element stands there, one that isn't its
+--                         first byte and the length of its header (`wrong-content-refused`)
 --     containers-ignored  drafts that differ only in the fifth numbers of containers (`SameBut`) are answered the same
 --     one-batch           no two batches have a draft's rows and leaf bytes
 --     written-answer      given room for the batch that has them, writing answers 0 and its length
@@ -15,5 +16,5 @@
 pub use Rattle.writer.proofs.theorems.WritesExactly.{writes-exactly, writes-once}
 pub use Rattle.writer.proofs.theorems.Described.{one-batch}
 pub use Rattle.writer.proofs.theorems.Misshapen.{Misshapen, misshapen-refused}
-pub use Rattle.writer.proofs.theorems.Contents.{wrong-content-refused, SameBut, containers-ignored}
+pub use Rattle.writer.proofs.theorems.Contents.{not-right-refused, wrong-content-refused, SameBut, containers-ignored}
 pub use Rattle.writer.proofs.theorems.Demand2.{output-stays, describes-nothing, written-answer, written-output, written-has-rows, reads-back, writes-again}

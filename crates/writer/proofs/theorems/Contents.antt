@@ -15,14 +15,13 @@ use Rattle.der.specs.meaning.Bounds.{longest}
 use Rattle.der.specs.meaning.Tree.{header}
 use Rattle.der.proofs.Laws.{header-same}
 use Rattle.crmf.specs.meaning.Edition.{Edition}
-use Rattle.crmf.specs.meaning.Rows.{Row, container, numbers}
+use Rattle.crmf.specs.meaning.Rows.{Row, container, numbers, RightContent}
 use Rattle.crmf.specs.meaning.Pieces.{Piece, pieceOf, piecesOf}
 use Rattle.crmf.specs.steps.rows.Assembly.{wholeOf, childrenOf, noneLonger}
 use Rattle.crmf.proofs.Laws.{pieces-row, whole-leaf, within-piece}
 use Rattle.writer.specs.meaning.Draft.{inside, HasRows}
 use Rattle.writer.specs.meaning.Writes.{Writes, unknown-edition, no-batch, no-room, written}
-use Rattle.writer.specs.steps.Writing.{rowsIn}
-use Rattle.writer.proofs.theorems.DraftRows.{rows-back}
+use Rattle.writer.proofs.theorems.DraftRows.{numbers-once}
 use Rattle.writer.proofs.theorems.WholeLengths.{leaf-octets}
 use Rattle.writer.proofs.theorems.Described.{rows-are, pieces-fit}
 use Rattle.writer.proofs.theorems.Demand2.{describes-nothing}
@@ -43,8 +42,14 @@ leaf-short bytes n (a ∷ rs) fit r at leaf =
     first fits bare =
         omega (arith, fits, whole-leaf (pieceOf bytes a) (childrenOf n (suc n) (piecesOf bytes rs)) bare, ap length (leaf-octets bytes a bare))
 
--- "must be right in its leaves, by the slice's own places, else 12": whatever the rest of the draft is, one leaf is enough at whose place an
--- element stands in the slice and whose fifth number isn't its first byte and the length of that element's header.
+-- "must be right in its leaves, by the slice's own places, else 12": one leaf that isn't is enough, whatever the rest of the draft is.
+pub not-right-refused : {e : ℕ} {draft bytes old : List ℕ} {number place count : ℕ} {new : List ℕ} → Edition e
+    → Writes e draft bytes old number place count new → (rs : List Row) → numbers rs ≡ draft → (r : Row) → List·Memᴰ r rs → container (r .kind) ≡ false
+    → (RightContent bytes r → ⊥) → number ≡ noSuchBatch
+not-right-refused ed w rs is r at leaf wrong =
+    describes-nothing ed w .1 (λ s h. wrong (h .right r (subst (List·Memᴰ r) (sym (numbers-once (h .rows) rs (h .numbered ∙ sym is))) at) leaf))
+
+-- So is one at whose place an element stands in the slice, with another fifth number than its first byte and the length of that element's header.
 pub wrong-content-refused : {e : ℕ} {draft bytes old : List ℕ} {number place count : ℕ} {new : List ℕ} → Edition e
     → Writes e draft bytes old number place count new → (rs : List Row) → numbers rs ≡ draft → (r : Row) → List·Memᴰ r rs → container (r .kind) ≡ false
     → (id : ℕ) (c : List ℕ) → slice (r .first) (r .first + r .whole) bytes ≡ header id c ++ c → (r .content ≡ r .first + length (header id c) → ⊥)
@@ -53,10 +58,10 @@ wrong-content-refused {e} {draft} {bytes} ed w rs is r at leaf id c stands wrong
   where
     none : (s : List ℕ) → HasRows e draft bytes s → ⊥
     none s h =
-        let same : rowsIn draft ≡ rs = ap rowsIn (sym is) ∙ rows-back rs in
-        let mine : List·Memᴰ r (h .rows) = subst (List·Memᴰ r) (sym same ∙ rows-are ed draft bytes s h) at in
-        let x = h .right r mine leaf in
-        let short = leaf-short bytes 0 (rowsIn draft) (pieces-fit ed draft bytes s h) r (subst (List·Memᴰ r) (sym same) at) leaf in
+        let same = numbers-once (h .rows) rs (h .numbered ∙ sym is) in
+        let x = h .right r (subst (List·Memᴰ r) (sym same) at) leaf in
+        let fit = subst (λ (l : List Row). noneLonger longest 0 (piecesOf bytes l) ≡ true) (rows-are ed draft bytes s h ∙ same) (pieces-fit ed draft bytes s h) in
+        let short = leaf-short bytes 0 rs fit r at leaf in
         let octets = sym stands ∙ x .stands in
         let one = length-append (header id c) c in
         let two = length-append (header (x .identifier) (x .octets)) (x .octets) in
@@ -106,7 +111,7 @@ but-leaf (bearing r c is more) q at leaf =
 -- A batch that has the one's rows has the other's.
 but-rows : {e : ℕ} {bytes s : List ℕ} {rs qs : List Row} → SameBut rs qs → HasRows e (numbers rs) bytes s → HasRows e (numbers qs) bytes s
 but-rows {bytes = bytes} {rs = rs} {qs = qs} same h =
-    let own : h .rows ≡ rs = sym (rows-back (h .rows)) ∙ ap rowsIn (h .numbered) ∙ rows-back rs in
+    let own = numbers-once (h .rows) rs (h .numbered) in
     record {
       octets = h .octets;
       batch = h .batch;

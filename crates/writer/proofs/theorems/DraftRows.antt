@@ -1,7 +1,7 @@
 -- The rows of a draft: how many there are, and which numbers each has. Assumes nothing.
 use Prim.Native.Nat.{ℕ, zero, suc, _+_, _*_, _/_, _≤_, _<_}
 use native.Mathlib.Omega.{arith}
-use mathlib.Core.Path.{_≡_, refl, ap, _∙_}
+use mathlib.Core.Path.{_≡_, refl, sym, ap, _∙_}
 use mathlib.Core.List.{List, [], _∷_}
 use lib.ListN.{length, getD, drop}
 use lib.Seq.{drop-cons}
@@ -58,6 +58,10 @@ pub rows-back : (rs : List Row) → rowsIn (numbers rs) ≡ rs
 unfolding rowsIn
 rows-back [] = rw numbers-none
 rows-back (r ∷ rs) = rw (numbers-row r rs) (ap (λ (more : List Row). r ∷ more) (rows-back rs))
+
+-- so rows with the same numbers are the same
+pub numbers-once : (rs qs : List Row) → numbers rs ≡ numbers qs → rs ≡ qs
+numbers-once rs qs is = sym (rows-back rs) ∙ ap rowsIn is ∙ rows-back qs
 
 -- a draft without numbers to spare is the numbers of its rows
 pub numbers-back : (d : List ℕ) → width * length (rowsIn d) ≡ length d → numbers (rowsIn d) ≡ d

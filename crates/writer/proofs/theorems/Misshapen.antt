@@ -15,8 +15,7 @@ use Rattle.crmf.specs.meaning.Rows.{Row, width, container, numbers, batchRows}
 use Rattle.crmf.proofs.Laws.{noRow, rows-some, numbers-length, pieces-length}
 use Rattle.writer.specs.meaning.Draft.{inside, HasRows}
 use Rattle.writer.specs.meaning.Writes.{Writes}
-use Rattle.writer.specs.steps.Writing.{rowsIn}
-use Rattle.writer.proofs.theorems.DraftRows.{rows-back}
+use Rattle.writer.proofs.theorems.DraftRows.{numbers-once}
 use Rattle.writer.proofs.theorems.Demand2.{describes-nothing}
 
 -- A draft has no batch's shape, for one of the three reasons.
@@ -53,7 +52,7 @@ misshapen-none : {e : ℕ} {draft bytes : List ℕ} → Misshapen draft bytes �
 misshapen-none (no-multiple not) s h = not (length (h .rows)) (whole-rows h)
 misshapen-none (none empty) s h = omega (arith, whole-rows h, some-rows h)
 misshapen-none {bytes = bytes} (leaves rs is i there leaf past) s h =
-    let same : h .rows ≡ rs = sym (rows-back (h .rows)) ∙ ap rowsIn (h .numbered ∙ sym is) ∙ rows-back rs in
+    let same = numbers-once (h .rows) rs (h .numbered ∙ sym is) in
     omega (arith, inside-each bytes rs (ap (inside bytes) (sym same) ∙ h .leaves) i there leaf)
 
 -- So it is refused with 12.

@@ -1,6 +1,6 @@
 -- The fifth number of every row is right: it is the first byte of the row's element and the length of the element's header, since a
--- well-formed element has exactly its header before its content. And octets determine it: where two rows point at the same octets, both are
--- right exactly when the numbers are equally far from the rows' first bytes. Assumes nothing.
+-- well-formed element has exactly its header before its content. And octets determine it: where two rows point at the same octets and one is
+-- right, the other is exactly if both contents are equally far from the rows' first bytes. Assumes nothing.
 use Prim.Native.Nat.{ℕ, _+_, _-_, _≤_}
 use native.Mathlib.Omega.{arith}
 use mathlib.Core.Path.{_≡_, refl, sym, ap, subst, _∙_}
