@@ -174,14 +174,14 @@ phagundro_answer phagundro_read(size_t edition, const uint8_t *bytes, size_t len
  *
  * A draft is rows, as phagundro_read shows them, over a slice of bytes; `numbers` is PHAGUNDRO_ROW_NUMBERS times the count of rows. The
  * first byte and length of a leaf point at its element in the slice. Leaves may be there in any order and overlap, and the slice may have
- * other bytes too. A leaf's content must begin where its row says, which is counted in the slice too: after the identifier and length
- * octets there. The first byte, the length and the content's first byte of a container are ignored: its element is made around the elements
- * of the rows below it.
+ * other bytes too. A leaf's row must also say rightly where its content begins, counted in the slice like its first byte: after the
+ * identifier and length octets that stand there. The first byte, the length and the content's first byte of a container are ignored: its
+ * element is made around the elements of the rows below it.
  *
  * The draft describes the batch that is accepted in this edition, and whose own rows have the same kinds and parents in the same order and,
  * in each leaf, the same length and the bytes that the draft points at. At most one batch is such. The answer is PHAGUNDRO_NO_SUCH_BATCH
  * where there is none, where `numbers` is 0 or no multiple of PHAGUNDRO_ROW_NUMBERS, where a leaf leaves the slice, and where a leaf's
- * content does not begin where its row says.
+ * row says wrongly where its content begins.
  *
  * Accepted: the first `count` bytes of the output are the batch, and the bytes after them are as they were. `room` counts bytes; the room
  * is enough exactly when it is at least the batch's length, which is never more than PHAGUNDRO_LONGEST. Refused: count is 0, and the

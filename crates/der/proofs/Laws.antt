@@ -32,6 +32,7 @@
 --     well-formed-moved   well-formed elements are well-formed further on
 --     header-some         a header has at least one octet, and even two (`header-two`): the identifier and the shortest length (`header-octets`,
 --                         `length-some`)
+--     header-same         an element's octets determine how long its header is
 --     encode-none, encode-element, encode-length    the encoding of no elements, and of an element and those after it, with its length
 --     moved-none, moved-element      no elements further on, and an element and those after it
 --     well-formed-none, well-formed-deep    no elements are well-formed; an element is not without a level of depth left
@@ -74,7 +75,7 @@
 --     octets-none, octets-more, octets-append    no octets, one before others, and octets after octets
 --     octets-rest, octets-take, octets-drop    a part of octets is octets
 --     take-drop, slice-slice, drop-slice, slice-middle    a part of a part of a list, by the places in the whole
---     slice-none          a part that starts at its end or after it is empty
+--     slice-size          how many a part has; one that starts at its end or after it is empty (`slice-none`)
 --     append-parts        lists whose first parts have one length are equal only part by part
 --     take-from, take-slice    the part from a place on, and from a place to another, as a lent slice gives them
 pub use Rattle.der.proofs.theorems.lists.Parts.{octets-each, octets-at, octets-none, octets-more, octets-append, octets-rest, octets-take, octets-drop, take-drop, slice-size, slice-slice, drop-slice, slice-middle, slice-none, take-from, take-slice, append-parts}

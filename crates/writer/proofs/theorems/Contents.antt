@@ -68,19 +68,21 @@ wrong-content-refused {e} {draft} {bytes} ed w rs is r at leaf id c stands wrong
         let heads = header-same id (x .identifier) c (x .octets) octets (omega (arith, one, ap length stands)) (omega (arith, two, ap length (x .stands))) in
         wrong (x .starts ∙ ap (λ (n : ℕ). r .first + n) (sym heads))
 
+-- a row with another fifth number
+abbrev pub withContent : ℕ → Row → Row
+withContent c r = record { kind = r .kind; first = r .first; whole = r .whole; parent = r .parent; content = c }
+
 -- The same rows but for the fifth numbers of containers.
 pub data SameBut : List Row → List Row → Type 0 where
   none : SameBut [] []
   row : {rs qs : List Row} (r : Row) → SameBut rs qs → SameBut (r ∷ rs) (r ∷ qs)
-  bearing : {rs qs : List Row} (r : Row) (c : ℕ) → container (r .kind) ≡ true → SameBut rs qs
-      → SameBut (r ∷ rs) (record { kind = r .kind; first = r .first; whole = r .whole; parent = r .parent; content = c } ∷ qs)
+  bearing : {rs qs : List Row} (r : Row) (c : ℕ) → container (r .kind) ≡ true → SameBut rs qs → SameBut (r ∷ rs) (withContent c r ∷ qs)
 
 -- the other way round too
 but-same : {rs qs : List Row} → SameBut rs qs → SameBut qs rs
 but-same none = none
 but-same (row r more) = row r (but-same more)
-but-same (bearing r c is more) =
-    bearing (record { kind = r .kind; first = r .first; whole = r .whole; parent = r .parent; content = c }) (r .content) is (but-same more)
+but-same (bearing r c is more) = bearing (withContent c r) (r .content) is (but-same more)
 
 -- their leaves lie in the slice alike
 but-inside : (bytes : List ℕ) {rs qs : List Row} → SameBut rs qs → inside bytes rs ≡ inside bytes qs
@@ -97,7 +99,7 @@ but-pieces bytes (row {rs = rs} {qs = qs} r more) =
     pieces-row bytes r rs ∙ ap (λ (l : List Piece). pieceOf bytes r ∷ l) (but-pieces bytes more) ∙ sym (pieces-row bytes r qs)
 but-pieces bytes (bearing {rs = rs} {qs = qs} r c is more) =
     pieces-row bytes r rs ∙ ap (λ (l : List Piece). pieceOf bytes r ∷ l) (but-pieces bytes more)
-    ∙ sym (pieces-row bytes (record { kind = r .kind; first = r .first; whole = r .whole; parent = r .parent; content = c }) qs)
+    ∙ sym (pieces-row bytes (withContent c r) qs)
 
 -- a leaf of the one is a leaf of the other
 but-leaf : {rs qs : List Row} → SameBut rs qs → (q : Row) → List·Memᴰ q qs → container (q .kind) ≡ false → List·Memᴰ q rs
