@@ -42,7 +42,7 @@ const char write_help[] =
     "\n"
     "Writes the batch that rows over a slice of bytes describe. ROWS has numbers as read --numbers shows them, five a row; SLICE has\n"
     "the bytes at which the leaves' rows point. One of the two may be -, standard input. Of a container's row the first byte, length\n"
-    "and content's first byte are ignored. Of a leaf's row they must be right, counted from the start of SLICE.\n"
+    "and content's first byte are ignored. Of a leaf's row they must be right, with places counted from the start of SLICE.\n"
     "  --hex          SLICE is written in hex digits, with or without white space between them\n"
     EDITION_HELP
     "  --output FILE  where the batch goes, in DER; without it, or if it is -, to standard output\n"
