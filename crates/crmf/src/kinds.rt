@@ -1,6 +1,7 @@
 // The kinds of rows: document 01's section "Rows", SPECIFICATION 5. specs/meaning/Kinds.antt has the same names.
 ghost use Prim.Native.Nat.{_≤_};
 ghost use mathlib.Core.Path.{_≡_};
+ghost use Rattle.crmf.specs.meaning.Rows.{container as isContainer};
 ghost use Rattle.crmf.specs.steps.explain.Walk.{rowsOfKind};
 
 // No row.
@@ -102,4 +103,22 @@ pub(crate) fn row_of(kind: usize) -> usize
     ensures { λ r. ⌜ (r ≡ rowsOfKind kind) × (r ≤ 1) ⌝ }
 {
     if kind == NONE { 0 } else { 1 }
+}
+
+// Whether a kind is a container's.
+pub fn container(kind: usize) -> bool
+    ensures { λ r. ⌜ r ≡ isContainer kind ⌝ }
+{
+    (kind == BATCH)
+        | (kind == MESSAGE)
+        | (kind == CERT_REQ)
+        | (kind == CERT_TEMPLATE)
+        | (kind == VALIDITY)
+        | (kind == EXTENSIONS)
+        | (kind == CONTROLS)
+        | (kind == SIGNATURE)
+        | (kind == KEY_ENCIPHERMENT)
+        | (kind == KEY_AGREEMENT)
+        | (kind == REG_INFO)
+        | (kind == REG_INFO_CERT_REQ)
 }

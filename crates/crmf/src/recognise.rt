@@ -9,6 +9,7 @@ use crate::grammar::table;
 use crate::grammar::table::FoundLine;
 use crate::recognise::step::Visit;
 use crate::rows;
+use crate::rows::agree::agree;
 use der::bounds::DEPTH;
 use der::element::length::measure;
 ghost use Prim.Native.Nat.{ℕ, _≤_, _<_};
@@ -16,7 +17,7 @@ ghost use mathlib.Core.Path.{_≡_};
 ghost use lib.ListN.{length, drop, getD};
 ghost use Rattle.der.specs.meaning.Bounds.{longest};
 ghost use Rattle.crmf.specs.steps.grammar.Packed.{packed};
-ghost use Rattle.crmf.specs.steps.recognise.Count.{recognised, recognisedTable};
+ghost use Rattle.crmf.specs.steps.recognise.Count.{recognised, recognisedTable, agreed};
 ghost use Rattle.crmf.specs.steps.recognise.Inner.{Countable, decode, ListCounted, ElementCounted};
 
 // What the recogniser answers.
@@ -47,7 +48,21 @@ pub fn read(edition: usize, bytes: &[u8], out: &mut [usize]) -> Recognition
     recognition
 }
 
-// Answers the same by a table of lines that is lent.
+// Whether the bytes are a batch of the edition and their rows agree with a draft's, in place or wherever its leaves stand (`rows::agree`).
+pub fn agrees(edition: usize, bytes: &[u8], draft: &[usize], in_place: bool) -> bool
+    ensures { λ r. ⌜ r ≡ agreed edition (now (bytes .entry)) (now (draft .entry)) in_place ⌝ }
+{
+    let table = table::words();
+    if !agree(bytes, draft, in_place, &table) {
+        return false;
+    }
+    match count_by(edition, bytes, &table) {
+        Recognition::Rows(count) => true,
+        Recognition::Unrecognised => false,
+    }
+}
+
+// Answers as `count` does, by a table of lines that is lent.
 fn count_by(edition: usize, bytes: &[u8], table: &[usize; LINES]) -> Recognition
     requires { ⌜ now table ≡ packed ⌝ }
     ensures { λ r. ⌜ r ≡ recognised edition (now (bytes .entry)) ⌝ }

@@ -1,4 +1,6 @@
 // Writes the rows of a batch into a lent table of numbers. The batch was recognised before, so nothing is judged again.
+pub(crate) mod agree;
+
 use crate::grammar::codes;
 use crate::grammar::element::Fit;
 use crate::grammar::element::Fitting;
@@ -16,26 +18,26 @@ ghost use lib.ListN.{length, getD};
 ghost use lib.Seq.{slice};
 ghost use Rattle.crmf.specs.steps.grammar.Packed.{packed};
 ghost use Rattle.crmf.specs.steps.explain.Walk.{line};
-ghost use Rattle.crmf.specs.meaning.Rows.{parentIf, width};
+ghost use Rattle.crmf.specs.meaning.Rows.{rowIf, parentIf, width};
 ghost use Rattle.crmf.specs.steps.rows.Fill as spec;
-ghost use Rattle.crmf.specs.steps.rows.Fill.{goes, rowOf, fits, filled, fitExtent, ownRows, rowAbove, Room, Wrote, Shown, Listed, Inner};
+ghost use Rattle.crmf.specs.steps.rows.Fill.{goes, rowOf, fits, filled, aroundExtent, fitExtent, ownRows, rowAbove, Room, Wrote, Shown, Listed, Inner};
 
 // How many numbers a row has.
 pub const WIDTH: usize = 5;
 
 // The element around some rows: the row above them, its first byte, its whole length and its content's first byte.
-struct Around {
-    up: usize,
-    place: usize,
-    whole: usize,
-    content: usize,
+pub(crate) struct Around {
+    pub(crate) up: usize,
+    pub(crate) place: usize,
+    pub(crate) whole: usize,
+    pub(crate) content: usize,
 }
 
 // Where to go on: the line, the place and the number of the next row.
-struct Spot {
-    state: usize,
-    at: usize,
-    row: usize,
+pub(crate) struct Spot {
+    pub(crate) state: usize,
+    pub(crate) at: usize,
+    pub(crate) row: usize,
 }
 
 // The place at which the elements end, and the number of rows that may be written.
@@ -45,20 +47,20 @@ struct Bounds {
 }
 
 // The row numbers at an element: of the row above it, of the first that it gives and of the next after its own.
-struct Numbers {
-    up: usize,
-    row: usize,
-    next: usize,
+pub(crate) struct Numbers {
+    pub(crate) up: usize,
+    pub(crate) row: usize,
+    pub(crate) next: usize,
 }
 
 // What a row holds: its kind (0: there is no row), its element's first byte and whole length, its parent's row, and the first byte of its
 // element's content.
-struct Entry {
-    kind: usize,
-    first: usize,
-    whole: usize,
-    parent: usize,
-    content: usize,
+pub(crate) struct Entry {
+    pub(crate) kind: usize,
+    pub(crate) first: usize,
+    pub(crate) whole: usize,
+    pub(crate) parent: usize,
+    pub(crate) content: usize,
 }
 
 // Writes the rows of the bytes into `out`, as far as their numbers are below `count`, and answers true. If `out` has no room for `count` rows,
@@ -151,27 +153,41 @@ fn own_rows(fit: Fit, row: usize, around: Around, limit: usize, out: &mut [usize
     requires { ⌜ (fit .first ≤ fit .end) × (row ≤ 131070) × (width * limit ≤ length (now out)) ⌝ }
     ensures { λ r. ⌜ ((k : ℕ) → fit .word ≡ getD packed k 0 → Wrote (ownRows (line k) (fitExtent fit) row around) row limit (now (out .entry)) r (now (out .exit))) × (r ≤ row + 2) ⌝ }
 {
-    let item = table::item_of(fit.word);
-    let outer = Entry {
-        kind: item,
+    let next = put(item_entry(fit, around), row, limit, out);
+    put(own_entry(fit, row, around), next, limit, out)
+}
+
+// What the element around another has as its row, if the other's line has a kind for it.
+pub(crate) fn item_entry(fit: Fit, around: Around) -> Entry
+    ensures { λ r. ⌜ ((k : ℕ) → fit .word ≡ getD packed k 0 → rowOf r ≡ rowIf (line k .item) (aroundExtent around) (around .up)) ⌝ }
+{
+    Entry {
+        kind: table::item_of(fit.word),
         first: around.place,
         whole: around.whole,
         parent: around.up,
         content: around.content,
-    };
-    let next = put(outer, row, limit, out);
-    let own = Entry {
+    }
+}
+
+// What an element has as its own row, if its line has a kind. `row` is the number of the first row that it gives.
+pub(crate) fn own_entry(fit: Fit, row: usize, around: Around) -> Entry
+    requires { ⌜ fit .first ≤ fit .end ⌝ }
+    ensures { λ r. ⌜ ((k : ℕ) → fit .word ≡ getD packed k 0 → rowOf r ≡ rowIf (line k .kind) (fitExtent fit) (parentIf (line k .item) row (around .up))) ⌝ }
+{
+    let whole = fit.end - fit.first;
+    let parent = parent_if(table::item_of(fit.word), row, around.up);
+    Entry {
         kind: table::kind_of(fit.word),
         first: fit.first,
-        whole: fit.end - fit.first,
-        parent: parent_if(item, row, around.up),
+        whole,
+        parent,
         content: fit.content,
-    };
-    put(own, next, limit, out)
+    }
 }
 
 // The number of the row above what is inside an element in a line's form.
-fn row_above(word: usize, row: usize, up: usize) -> usize
+pub(crate) fn row_above(word: usize, row: usize, up: usize) -> usize
     requires { ⌜ row ≤ 131070 ⌝ }
     ensures { λ r. ⌜ ((k : ℕ) → word ≡ getD packed k 0 → r ≡ rowAbove (line k) row up) ⌝ }
 {
@@ -181,7 +197,7 @@ fn row_above(word: usize, row: usize, up: usize) -> usize
 }
 
 // Whether no row comes from the lines of an inside: there are none, or they are Time's, AlgId's, Spki's, OneName's or Extension's.
-fn rowless(start: usize) -> bool
+pub(crate) fn rowless(start: usize) -> bool
     ensures { λ r. ⌜ r ≡ spec.rowless start ⌝ }
 {
     (start == codes::FREE)
@@ -228,7 +244,7 @@ fn inside(
 }
 
 // The line to go on with after an element whose value keeps its rule.
-fn onward(bytes: &[u8], fit: Fit, table: &[usize; LINES]) -> usize
+pub(crate) fn onward(bytes: &[u8], fit: Fit, table: &[usize; LINES]) -> usize
     requires { ⌜ (now table ≡ packed) × (fit .content ≤ fit .end) × (fit .end ≤ length (now bytes)) ⌝ }
     ensures { λ r. ⌜ ((k : ℕ) → fit .word ≡ getD packed k 0 → r ≡ goes (line k .judge) (line k .next) (slice (fit .content) (fit .end) (now (bytes .entry)))) ⌝ }
 {

@@ -1,4 +1,5 @@
--- A batch is the assembly of the pieces that its rows show.
+-- A batch is the assembly of the pieces that its rows show, and rows that agree show the same.
+pub mod Agreeing
 pub mod AssembledOctets
 pub mod Assembly
 pub mod PieceLaws

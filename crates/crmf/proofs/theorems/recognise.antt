@@ -1,5 +1,6 @@
 -- The recogniser: exact in both directions.
 pub mod Actions
+pub mod AgreedRows
 pub mod CountSteps
 pub mod RowlessInsides
 pub mod PassedCounts

@@ -1,4 +1,6 @@
--- The rows of a batch, and the table filled with them.
+-- The rows of a batch, the table filled with them, and a draft compared with them.
+pub mod Comparing
+pub mod DraftRows
 pub mod FilledRows
 pub mod RowContents
 pub mod RowLaws

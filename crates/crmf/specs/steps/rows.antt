@@ -1,3 +1,4 @@
--- The table filled with rows, and a batch assembled from its pieces.
+-- The table filled with rows, a draft compared with them, and a batch assembled from its pieces.
+pub mod Agree
 pub mod Assembly
 pub mod Fill

@@ -79,17 +79,20 @@ shown-end s q e a h = rw (at-end s (q .at) e h)
 
 -- The same by places, over the element at a spot.
 module _ (s : List ℕ) (q : Spot) (z : Bounds) (some : q .at < z .end) (fits : z .end ≤ length s) (high : length s ≤ longest) (a : Around) where
-  -- it fits no line: no row is written, and nothing is left
+  -- it fits no line: there are no rows
+  pub misfit-rows : findLine (q .state) (readAt s (q .at) (z .end) .identifier) ≡ Nowhere → rowsAt s q (z .end) a ≡ []
+  misfit-rows f =
+      rw (tree-read s (q .at) (z .end) some fits high (readAt s (q .at) (z .end)) refl)
+      (rows-nowhere (q .state) _ (q .at) _ _ _ _ (q .row) (a .up) (aroundExtent a) f)
+
+  -- so none is written, and nothing is left
   pub shown-misfit : (old : List ℕ) → q .row ≤ 2 * q .at → findLine (q .state) (readAt s (q .at) (z .end) .identifier) ≡ Nowhere
       → Shown s q z a old (record { state = q .state; at = z .end; row = q .row }) old
   shown-misfit old few f =
-      let none : rowsAt s q (z .end) a ≡ [] =
-      rw (tree-read s (q .at) (z .end) some fits high (readAt s (q .at) (z .end)) refl)
-      (rows-nowhere (q .state) _ (q .at) _ _ _ _ (q .row) (a .up) (aroundExtent a) f) in
       record {
         going = record {
           these = [];
-          split = none ∙ sym (shown-end s (record { state = q .state; at = z .end; row = q .row }) (z .end) a refl);
+          split = misfit-rows f ∙ sym (shown-end s (record { state = q .state; at = z .end; row = q .row }) (z .end) a refl);
           wrote = wrote-none (q .row) (z .limit) old;
           past = omega arith;
           within = omega arith;
@@ -149,6 +152,20 @@ module _ (s : List ℕ) (q : Spot) (z : Bounds) (some : q .at < z .end) (fits : 
         ∙ ap (λ (l : List Row). own-of ++ (l ++ rowsFrom onward rest (i + length l) (a .up) (aroundExtent a))) same
         ∙ sym (append-assoc own-of (inner-of i) (rest-of onward (i + length (inner-of i)))))
 
+    -- the same by the places of the fit
+    pub fit-rows : (let own = ownRows (line (h .number)) (fitExtent f) (q .row) a in
+        let m = q .row + length own in
+        let inner = innerRows (h .number) s (f .content) (f .end) m (aroundInside (line (h .number)) f (record { up = a .up; row = q .row; next = m })) in
+        let st = goes (line (h .number) .judge) (line (h .number) .next) (slice (f .content) (f .end) s) in
+        rowsAt s q (z .end) a ≡ (own ++ inner) ++ rowsAt s (record { state = st; at = f .end; row = m + length inner }) (z .end) a)
+    fit-rows =
+        let all : ℕ → List Row =
+        λ p.
+        (let own = ownRows (line n) (fitted-at p f) (q .row) a in
+        let inner = innerRows n s (f .content) (f .end) (q .row + length own) (here n p f (q .row) a) in
+        (own ++ inner) ++ rest-of (goes (line n .judge) (line n .next) octets) (q .row + length own + length inner)) in
+        shown-found ∙ ap all (sym (h .first))
+
     -- The rows of the element are written: its own, then those inside it.
     pub shown-step : (old mid new : List ℕ) (m b st : ℕ)
         → Wrote (ownRows (line (h .number)) (fitExtent f) (q .row) a) (q .row) (z .limit) old m mid
@@ -179,16 +196,23 @@ module _ (s : List ℕ) (q : Spot) (z : Bounds) (some : q .at < z .end) (fits : 
         }
 
 -- The rows of a list that is an element's inside are those inside the element.
+pub held-inner : (k : ℕ) (s : List ℕ) (f : Fit) (m : Numbers) (start above : ℕ) → start ≡ line k .inside
+    → above ≡ rowAbove (line k) (m .row) (m .up) → (line k .inside ≡ 0 → ⊥)
+    → rowsAt s (record { state = start; at = f .content; row = m .next }) (f .end) (record { up = above; place = f .first; whole = f .end - f .first; content = f .content })
+    ≡ innerRows k s (f .content) (f .end) (m .next) (aroundInside (line k) f m)
+held-inner k s f m start above starts is some =
+    let rows : ℕ → ℕ → List Row =
+    λ i u. rowsAt s (record { state = i; at = f .content; row = m .next }) (f .end) (record { up = u; place = f .first; whole = f .end - f .first; content = f .content }) in
+    let held : rows (line k .inside) (rowAbove (line k) (m .row) (m .up)) ≡ innerRows k s (f .content) (f .end) (m .next) (aroundInside (line k) f m) =
+    rw (innerRows, ne-eqb _ _ some) in
+    ap₂ rows starts is ∙ held
+
 pub held-rows : (k : ℕ) (s : List ℕ) (f : Fit) (m : Numbers) (limit : ℕ) (old new : List ℕ) (next start above : ℕ) → start ≡ line k .inside
     → above ≡ rowAbove (line k) (m .row) (m .up) → (line k .inside ≡ 0 → ⊥)
     → Wrote (rowsAt s (record { state = start; at = f .content; row = m .next }) (f .end) (record { up = above; place = f .first; whole = f .end - f .first; content = f .content })) (m .next) limit old next new
     → Inner k s f m limit old next new
 held-rows k s f m limit old new next start above starts is some wrote =
-    let rows : ℕ → ℕ → List Row =
-    λ i u. rowsAt s (record { state = i; at = f .content; row = m .next }) (f .end) (record { up = u; place = f .first; whole = f .end - f .first; content = f .content }) in
-    let held : rows (line k .inside) (rowAbove (line k) (m .row) (m .up)) ≡ innerRows k s (f .content) (f .end) (m .next) (aroundInside (line k) f m) =
-    rw (innerRows, ne-eqb _ _ some) in
-    subst (λ (l : List Row). Wrote l (m .next) limit old next new) (ap₂ rows starts is ∙ held) wrote
+    subst (λ (l : List Row). Wrote l (m .next) limit old next new) (held-inner k s f m start above starts is some) wrote
 
 -- A step after rows that are written already.
 pub going-on : (s : List ℕ) (p : Spot) (z : Bounds) (a : Around) (old mid new : List ℕ) (q r : Spot) → width * z .limit ≤ length old
@@ -204,6 +228,17 @@ going-on s p z a old mid new q r room first then =
       few = then .few;
     }
 
+-- The rows of a whole input: none if it is too long, and otherwise those of the list of elements from 0 to its end.
+module _ (s : List ℕ) where
+  pub no-rows : longest < length s → rowsOfInput s ≡ []
+  unfolding rowsOfInput
+  no-rows long = rw (rowsOfInput, lt-leb _ _ long)
+
+  pub all-rows : length s ≤ longest
+      → rowsOfInput s ≡ rowsAt s (record { state = 1; at = 0; row = 0 }) (length s) (record { up = 0; place = 0; whole = 0; content = 0 })
+  unfolding rowsOfInput start startsFrom order
+  all-rows short = rw (rowsOfInput, le-leb _ _ short) (ap (λ (l : List ℕ). rowsFrom 1 (tree 0 l) 0 0 noExtent) (sym (take-length s)))
+
 -- A table with no room, an input that is too long, and the rows of a whole input.
 module _ (s : List ℕ) (count : ℕ) (old : List ℕ) where
   pub fill-short : length old < width * count → (false ≡ fits count old) × (old ≡ filled s count old)
@@ -216,15 +251,8 @@ module _ (s : List ℕ) (count : ℕ) (old : List ℕ) where
     fill-all = (rw (fits, le-leb _ _ room), rw (filled, le-leb _ _ room))
 
     pub fill-long : longest < length s → (true ≡ fits count old) × (old ≡ filled s count old)
-    unfolding rowsOfInput
-    fill-long long =
-        let none : rowsOfInput s ≡ [] = rw (rowsOfInput, lt-leb _ _ long) in
-        (fill-all .0, wrote-none 0 count old .kept ∙ ap (written old 0 count) (sym none) ∙ fill-all .1)
+    fill-long long = (fill-all .0, wrote-none 0 count old .kept ∙ ap (written old 0 count) (sym (no-rows s long)) ∙ fill-all .1)
 
     pub fill-rows : length s ≤ longest → (new : List ℕ) → new ≡ written old 0 count (rowsAt s (record { state = 1; at = 0; row = 0 }) (length s) (record { up = 0; place = 0; whole = 0; content = 0 }))
         → (true ≡ fits count old) × (new ≡ filled s count old)
-    unfolding rowsOfInput start startsFrom order
-    fill-rows short new e =
-        let all : rowsOfInput s ≡ rowsAt s (record { state = 1; at = 0; row = 0 }) (length s) (record { up = 0; place = 0; whole = 0; content = 0 }) =
-        rw (rowsOfInput, le-leb _ _ short) (ap (λ (l : List ℕ). rowsFrom 1 (tree 0 l) 0 0 noExtent) (sym (take-length s))) in
-        (fill-all .0, e ∙ ap (written old 0 count) (sym all) ∙ fill-all .1)
+    fill-rows short new e = (fill-all .0, e ∙ ap (written old 0 count) (sym (all-rows s short)) ∙ fill-all .1)

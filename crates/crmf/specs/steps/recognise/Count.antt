@@ -16,7 +16,8 @@ use Rattle.crmf.specs.meaning.Notation.{Top}
 use Rattle.crmf.specs.meaning.Language.{readable}
 use Rattle.crmf.specs.meaning.Rows.{longId}
 use Rattle.crmf.specs.steps.grammar.Lines.{Line, start}
-use Rattle.crmf.specs.steps.rows.Fill.{filled}
+use Rattle.crmf.specs.steps.rows.Agree.{draftRows, agree}
+use Rattle.crmf.specs.steps.rows.Fill.{rowsOfInput, filled}
 use Rattle.crmf.specs.steps.explain.Walk.{line, findLine, closed, judged, rowsBy}
 
 -- whether an edition allows an element of a whole length in a line's form: the form is this edition's, and it is no certReqId that is too long
@@ -54,3 +55,11 @@ recognised e s = countsAt e depth (start Top) 0 0 s
 -- a table with the rows of such a batch written into it, if it has room for them; without room, and for any other input, it stays as it is
 unfoldable pub recognisedTable : ℕ → List ℕ → List ℕ → List ℕ
 recognisedTable e s old = elim (recognised e s) [ Rows n ↦ filled s n old | Unrecognised ↦ old ]
+
+-- whether an input is such a batch and its rows agree with a draft's
+abbrev pub isRecognised : Recognition → Bool
+isRecognised (Rows n) = true
+isRecognised Unrecognised = false
+
+unfoldable pub agreed : ℕ → List ℕ → List ℕ → Bool → Bool
+agreed e s draft inPlace = agree inPlace (draftRows draft) (rowsOfInput s) && isRecognised (recognised e s)
