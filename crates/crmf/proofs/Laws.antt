@@ -50,7 +50,14 @@
 --     rows-few            its rows are at most half as many as its octets
 --     pieces-short        none of its pieces is longer than it
 --     pieces-octets       the assembly of what rows show of octets is octets, if nothing is too long
---     row-ends            the rows of a batch lie within it
+--     row-ends            the rows of a batch lie within it, and so do its leaves (`rows-within`)
+--     rows-by-width       a draft has as many rows (`draftRows`) as their width goes into its numbers, and the numbers of each (`rows-room`,
+--                         `row-cut`); the numbers of rows are a draft with these rows (`rows-back`, `numbers-once`, `numbers-back`)
+--     agree-in-place      rows that agree in place are the same
+--     agreed-pieces       rows that agree, wherever their leaves stand, show the same pieces if the pieces' assemblies are the same; then the leaves
+--                         of one are right if the rows of the other are (`agreed-right`); conversely, rows that show the same pieces agree, if all
+--                         are right (`pieces-agree`)
+--     agreed-both         an input agrees with a draft exactly if it is recognised and its rows agree (`agreed-all`)
 --     batch-content       a batch is one element 30, whose content is its messages' octets, one after the other (`BatchContent`)
 --     message-parts       each message consists of its certReq, proof and regInfo, and the certReq of its own fields (`MessageParts`)
 --     messages-match      each message and its fields are what the grammar says of them (`MessageMatches`, `ProofMatches`); conversely, a batch around
@@ -126,14 +133,16 @@ pub use Rattle.crmf.proofs.theorems.rows.RowContents.{row-content, cont
 pub use Rattle.crmf.proofs.theorems.rows.RowsMoved.{shift, matches-moved, rows-moved}
 pub use Rattle.crmf.proofs.theorems.pieces.PiecesOf.{pieceIf, pieces, piecesIn}
 pub use Rattle.crmf.proofs.theorems.pieces.ShownPieces.{pieces-length, rows-pieces, batch-pieces}
+pub use Rattle.crmf.proofs.theorems.rows.DraftRows.{rows-by-width, rows-room, row-cut, rows-back, numbers-once, numbers-back}
 pub use Rattle.crmf.proofs.theorems.rows.FilledRows.{fits-room, Holds, over-holds, rows-of, rows-counted, filled-rows, filled-short, filled-whole}
 pub use Rattle.crmf.proofs.theorems.messages.FieldLaws.{child-first, listed-none, listed-some, FormedField, IfAny}
 pub use Rattle.crmf.proofs.theorems.messages.FieldSteps.{fieldAt, Begins, fields-end, fields-at, fields-begin, inside-fields, first-with-none, first-with-here, first-with-next, child-identified, batch-at, messages-inside, message-field, proof-cases, proof-child-stands, stands-part}
 pub use Rattle.crmf.proofs.theorems.messages.FieldsMatch.{Holding}
 pub use Rattle.crmf.proofs.theorems.messages.MessageLaws.{ProofMatches, raVerified, signature, keyEncipherment, keyAgreement, MessageMatches, MessageParts, BatchContent, MessageStands}
 pub use Rattle.crmf.proofs.theorems.messages.MessageLaws.{batch-content, message-parts, messages-match, messages-formed, messages-stand, messages-moved, batch-of-matches, batch-of-formed, at-position}
+pub use Rattle.crmf.proofs.theorems.pieces.Agreeing.{agree-in-place, Within, agreed-pieces, agreed-right, pieces-agree}
 pub use Rattle.crmf.proofs.theorems.pieces.Assembly.{assembly, rows-few, pieces-short}
-pub use Rattle.crmf.proofs.theorems.pieces.AssembledOctets.{pieces-octets, row-ends}
+pub use Rattle.crmf.proofs.theorems.pieces.AssembledOctets.{pieces-octets, row-ends, rows-within}
 pub use Rattle.crmf.proofs.theorems.rows.Writing.{over-parts, numbers-length}
 pub use Rattle.crmf.proofs.theorems.messages.MessageSteps.{fieldRead, sequence-read, first-read, IdRead, id-read, batch-read}
 pub use Rattle.crmf.proofs.theorems.messages.MessageSizes.{ids-some, ids-eight, messages-few}
@@ -141,6 +150,7 @@ pub use Rattle.crmf.proofs.theorems.explain.LongIds.{rows-long, walk-lo
 pub use Rattle.crmf.proofs.theorems.explain.FirstLongIds.{long-exactly, short-none}
 pub use Rattle.crmf.proofs.theorems.explain.WholeInput.{count-whole, rows-whole, whole-count, whole-long}
 pub use Rattle.crmf.proofs.theorems.explain.CountedBatches.{Tallied, count-passes, count-stops, count-tallies, count-own, count-foreign, count-long}
+pub use Rattle.crmf.proofs.theorems.recognise.AgreedRows.{agreed-both, agreed-all}
 pub use Rattle.crmf.proofs.theorems.recognise.CountSteps.{not-recognised}
 pub use Rattle.crmf.proofs.theorems.recognise.CountWays.{unrecognised-stays, recognised-fills}
 pub use Rattle.crmf.proofs.theorems.recognise.RecognisedCounts.{none-met, Quick, recognised-walk}

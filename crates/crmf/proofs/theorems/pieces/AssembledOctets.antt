@@ -1,9 +1,10 @@
 -- The assembly of pieces of octets, none of them too long, is octets; and the rows of a batch lie within it. Assumes nothing.
 use Prim.Native.Nat.{ℕ, zero, suc, _+_, _/_, _%_, _≤_, _<_}
 use native.Mathlib.Omega.{arith}
-use mathlib.Core.Path.{_≡_, refl, ap}
+use mathlib.Core.Path.{_≡_, refl, sym, ap, subst}
 use mathlib.Core.Bool.{Bool, true, false, and-eq-true-iff}
-use mathlib.Core.List.{List, [], _∷_, _++_}
+use mathlib.Core.Logic.{⊎-elim}
+use mathlib.Core.List.{List, [], _∷_, _++_, List·Memᴰ, List·Memᴰ·not-nil, List·Memᴰ·cases-cons}
 use lib.Dec.{eqb, ltb, leb}
 use lib.ListN.{length, getD, take}
 use lib.Seq.{slice}
@@ -105,6 +106,11 @@ shown-plain s octets (r ∷ rs) = rw (pieces-row s r rs) (go (container (r .kind
 pub pieces-octets : (s : List ℕ) → Octets s → (rs : List Row) → noneLonger longest 0 (piecesOf s rs) ≡ true → Octets (assembled 0 (piecesOf s rs))
 pieces-octets s octets rs fits = assembled-octets 0 (piecesOf s rs) (shown-plain s octets rs) fits
 
+-- a row of a list has a number
+numbered : (rs : List Row) (r : Row) → List·Memᴰ r rs → (i : ℕ) × (i < length rs) × (getD rs i noRow ≡ r)
+numbered [] r at = absurd (List·Memᴰ·not-nil at)
+numbered (q ∷ rs) r at = ⊎-elim (λ same. (0, omega arith, sym same)) (λ more. let (i, there, here) = numbered rs r more in (suc i, omega arith, here)) (List·Memᴰ·cases-cons at)
+
 -- The rows of a batch lie within it.
 module _ {R : ℕ → Bool} {t : Tree} (m : Matches R (content Top) t) (left : ℕ) (wf : WellFormed left 0 t) where
   abbrev rs : List Row
@@ -126,3 +132,8 @@ module _ {R : ℕ → Bool} {t : Tree} (m : Matches R (content Top) t) (left : �
 
   pub row-ends : (i : ℕ) → i < length rs → getD rs i noRow .first + getD rs i noRow .whole ≤ length (encode t)
   row-ends i there = ends-by i i (omega arith) there
+
+  pub rows-within : (s : List ℕ) → encode t ≡ s → (r : Row) → List·Memᴰ r rs → container (r .kind) ≡ false → r .first + r .whole ≤ length s
+  rows-within s is r at leaf =
+      let (i, there, here) = numbered rs r at in
+      subst (λ (l : List ℕ). r .first + r .whole ≤ length l) is (subst (λ (q : Row). q .first + q .whole ≤ length (encode t)) here (row-ends i there))
