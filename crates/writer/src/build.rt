@@ -1,116 +1,145 @@
-// Whether a draft describes a batch: its candidate is assembled in a scratch, read, and compared with the draft.
+// Writes a draft's batch by way of a scratch, in which its candidate is put together and judged. The scratch and the sums that this takes have
+// one of four sizes: the smallest that holds them.
+use crate::answers::deliver;
+use crate::answers::refuse;
 use crate::assemble::assemble;
-use crate::compare::same_rows;
 use crate::draft::rows;
 use crate::sums::add_up;
-use crmf::rows::WIDTH;
+use crmf::recognise::agrees;
 use der::bounds::LONGEST;
-use der::refusal::ACCEPTED;
-use editions::reader::read;
-ghost use Prim.Native.Nat.{_*_, _≤_};
+use der::refusal::NO_SUCH_BATCH;
+use editions::reader::Answer;
 ghost use mathlib.Core.Path.{_≡_};
-ghost use mathlib.Core.Bool.{true};
-ghost use lib.ListN.{length};
-ghost use Rattle.der.specs.meaning.Bounds.{longest};
-ghost use Rattle.crmf.specs.meaning.Rows.{width};
-ghost use Rattle.writer.specs.steps.Writing.{rowsIn, shaped, candidate, shows};
-ghost use Rattle.writer.specs.steps.Inner.{few, Room, AddedUp, Built};
+ghost use Rattle.writer.specs.steps.Writing.{judgedAnswer, judgedOutput};
+ghost use Rattle.writer.specs.steps.Inner.{largest, Known, Room, Tried, Built};
 
-// What a draft is found to describe: a batch, by its length, or nothing.
+// What comes of a try: the answer, or that the sums or the scratch are too small.
 pub(crate) enum Outcome {
-    Batch(usize),
-    Nothing,
+    Answered(Answer),
+    TooSmall,
 }
 
 // The most rows that a batch can have.
 pub(crate) const MOST_ROWS: usize = 32767;
 
-// The most rows for which a small table is made: clearing the largest one takes longer than everything else that a small draft
-// needs.
-const FEW: usize = 256;
+// The number of the largest size, and how many rows and octets each has room for. A batch of SMALL_OCTETS has fewer than SMALL_ROWS rows.
+pub(crate) const LARGEST: usize = 3;
 
-// Finds what a draft describes. If it is a batch, the scratch then begins with it.
-pub(crate) fn build(edition: usize, draft: &[usize], bytes: &[u8], scratch: &mut [u8]) -> Outcome
-    requires { ⌜ (shaped (now draft) ≡ true) × (longest ≤ length (now scratch)) ⌝ }
-    ensures { λ r. ⌜ Built edition (now (draft .entry)) (now (bytes .entry)) (now (scratch .exit)) r ⌝ }
-{
-    if rows(draft) <= FEW {
-        return build_few(edition, draft, bytes, scratch);
-    }
-    build_many(edition, draft, bytes, scratch)
-}
+const TINY_ROWS: usize = 64;
 
-// The same for a draft of few rows.
-fn build_few(edition: usize, draft: &[usize], bytes: &[u8], scratch: &mut [u8]) -> Outcome
-    requires { ⌜ (shaped (now draft) ≡ true) × (longest ≤ length (now scratch)) × (length (rowsIn (now draft)) ≤ few) ⌝ }
-    ensures { λ r. ⌜ Built edition (now (draft .entry)) (now (bytes .entry)) (now (scratch .exit)) r ⌝ }
-{
-    let mut table = [0usize; WIDTH * FEW];
-    build_in(edition, draft, bytes, scratch, &mut table)
-}
+const TINY_OCTETS: usize = 1024;
 
-// The same for a draft of up to MOST_ROWS rows.
-fn build_many(edition: usize, draft: &[usize], bytes: &[u8], scratch: &mut [u8]) -> Outcome
-    requires { ⌜ (shaped (now draft) ≡ true) × (longest ≤ length (now scratch)) ⌝ }
-    ensures { λ r. ⌜ Built edition (now (draft .entry)) (now (bytes .entry)) (now (scratch .exit)) r ⌝ }
-{
-    let mut table = [0usize; WIDTH * MOST_ROWS];
-    build_in(edition, draft, bytes, scratch, &mut table)
-}
+const SMALL_ROWS: usize = 2048;
 
-// The same with a table that is lent: it holds the sums first, and then the rows that reading the candidate shows.
-fn build_in(
+const SMALL_OCTETS: usize = 4096;
+
+const LONG_ROWS: usize = 4096;
+
+// Writes with the smallest of the sizes up to a number that is large enough. The sizes are tried by recursion and not in a loop: each has its
+// arrays in a function of its own, and the compiler keeps these out of a function that calls itself, so that a small draft takes a small
+// stack.
+pub(crate) fn sized(
+    size: usize,
     edition: usize,
     draft: &[usize],
     bytes: &[u8],
-    scratch: &mut [u8],
-    table: &mut [usize],
+    output: &mut [u8],
 ) -> Outcome
-    requires { ⌜ Room (now draft) (now scratch) (now table) ⌝ }
-    ensures { λ r. ⌜ Built edition (now (draft .entry)) (now (bytes .entry)) (now (scratch .exit)) r ⌝ }
+    requires { ⌜ Known edition (now draft) ⌝ }
+    ensures { λ r. ⌜ Tried size edition (now (draft .entry)) (now (bytes .entry)) (now (output .entry)) r (now (output .exit)) ⌝ }
 {
-    if !add_up(draft, bytes, table) {
-        return Outcome::Nothing;
+    if size == 0 {
+        return tiny(edition, draft, bytes, output);
     }
-    build_summed(edition, draft, bytes, scratch, table)
+    let smaller = sized(size - 1, edition, draft, bytes, output);
+    if let Outcome::Answered(answer) = smaller {
+        return Outcome::Answered(answer);
+    }
+    match size {
+        1 => small(edition, draft, bytes, output),
+        2 => long(edition, draft, bytes, output),
+        _ => large(edition, draft, bytes, output),
+    }
 }
 
-// The same for a draft whose sums are in the table.
-fn build_summed(
+// For a message or two.
+fn tiny(edition: usize, draft: &[usize], bytes: &[u8], output: &mut [u8]) -> Outcome
+    requires { ⌜ Known edition (now draft) ⌝ }
+    ensures { λ r. ⌜ Tried 0 edition (now (draft .entry)) (now (bytes .entry)) (now (output .entry)) r (now (output .exit)) ⌝ }
+{
+    if TINY_ROWS < rows(draft) {
+        return Outcome::TooSmall;
+    }
+    let mut sums = [0usize; TINY_ROWS];
+    let mut scratch = [0u8; TINY_OCTETS];
+    build(edition, draft, bytes, &mut sums, &mut scratch, output)
+}
+
+// For any batch of at most 4,096 octets.
+fn small(edition: usize, draft: &[usize], bytes: &[u8], output: &mut [u8]) -> Outcome
+    requires { ⌜ Known edition (now draft) ⌝ }
+    ensures { λ r. ⌜ Tried 1 edition (now (draft .entry)) (now (bytes .entry)) (now (output .entry)) r (now (output .exit)) ⌝ }
+{
+    if SMALL_ROWS < rows(draft) {
+        return Outcome::TooSmall;
+    }
+    let mut sums = [0usize; SMALL_ROWS];
+    let mut scratch = [0u8; SMALL_OCTETS];
+    build(edition, draft, bytes, &mut sums, &mut scratch, output)
+}
+
+// For long batches of no more rows than most have.
+fn long(edition: usize, draft: &[usize], bytes: &[u8], output: &mut [u8]) -> Outcome
+    requires { ⌜ Known edition (now draft) ⌝ }
+    ensures { λ r. ⌜ Tried 2 edition (now (draft .entry)) (now (bytes .entry)) (now (output .entry)) r (now (output .exit)) ⌝ }
+{
+    if LONG_ROWS < rows(draft) {
+        return Outcome::TooSmall;
+    }
+    let mut sums = [0usize; LONG_ROWS];
+    let mut scratch = [0u8; LONGEST];
+    build(edition, draft, bytes, &mut sums, &mut scratch, output)
+}
+
+// For any batch.
+fn large(edition: usize, draft: &[usize], bytes: &[u8], output: &mut [u8]) -> Outcome
+    requires { ⌜ Known edition (now draft) ⌝ }
+    ensures { λ r. ⌜ Tried largest edition (now (draft .entry)) (now (bytes .entry)) (now (output .entry)) r (now (output .exit)) ⌝ }
+{
+    let mut sums = [0usize; MOST_ROWS];
+    let mut scratch = [0u8; LONGEST];
+    build(edition, draft, bytes, &mut sums, &mut scratch, output)
+}
+
+// Writes with the sums and the scratch that are lent, if the candidate has room in the scratch.
+fn build(
     edition: usize,
     draft: &[usize],
     bytes: &[u8],
+    sums: &mut [usize],
     scratch: &mut [u8],
-    table: &mut [usize],
+    output: &mut [u8],
 ) -> Outcome
-    requires { ⌜ AddedUp (now draft) (now bytes) (now scratch) (now table) ⌝ }
-    ensures { λ r. ⌜ Built edition (now (draft .entry)) (now (bytes .entry)) (now (scratch .exit)) r ⌝ }
+    requires { ⌜ Room edition (now draft) (now sums) (now scratch) ⌝ }
+    ensures { λ r. ⌜ Built edition (now (draft .entry)) (now (bytes .entry)) (now (scratch .entry)) (now (output .entry)) r (now (output .exit)) ⌝ }
 {
-    let length = assemble(draft, bytes, table, scratch);
-    if LONGEST < length {
-        return Outcome::Nothing;
+    if !add_up(draft, bytes, sums) {
+        return Outcome::Answered(refuse(NO_SUCH_BATCH));
     }
-    if is_shown(edition, draft, bytes, &scratch[..length], table) {
-        return Outcome::Batch(length);
+    let length = assemble(draft, bytes, sums, scratch);
+    if scratch.len() < length {
+        return Outcome::TooSmall;
     }
-    Outcome::Nothing
+    Outcome::Answered(judge(edition, draft, &scratch[..length], output))
 }
 
-// Whether reading the candidate accepts it and shows the draft's pieces.
-fn is_shown(
-    edition: usize,
-    draft: &[usize],
-    bytes: &[u8],
-    batch: &[u8],
-    table: &mut [usize],
-) -> bool
-    requires { ⌜ (now batch ≡ candidate (now draft) (now bytes)) × (width * length (rowsIn (now draft)) ≤ length (now table)) ⌝ }
-    ensures { λ r. ⌜ r ≡ shows edition (now (draft .entry)) (now (bytes .entry)) ⌝ }
+// Delivers a candidate if it is a batch of the edition that has the draft's rows.
+fn judge(edition: usize, draft: &[usize], batch: &[u8], output: &mut [u8]) -> Answer
+    ensures { λ r. ⌜ (r ≡ judgedAnswer edition (now (draft .entry)) (now (batch .entry)) (now (output .entry)))
+        × (now (output .exit) ≡ judgedOutput edition (now (draft .entry)) (now (batch .entry)) (now (output .entry))) ⌝ }
 {
-    let answer = read(edition, batch, table);
-    if answer.number != ACCEPTED {
-        return false;
+    if !agrees(edition, batch, draft, false) {
+        return refuse(NO_SUCH_BATCH);
     }
-    let end = WIDTH * answer.count;
-    same_rows(draft, bytes, &table[..end], batch)
+    deliver(batch, output)
 }

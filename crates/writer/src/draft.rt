@@ -1,13 +1,11 @@
-// A draft's rows: the numbers of each, the octets of a leaf, and the kinds of containers.
-use crmf::kinds;
+// A draft's rows: the numbers of each, and the octets of a leaf.
 use crmf::rows::WIDTH;
 ghost use Prim.Native.Nat.{suc, _+_, _<_};
 ghost use mathlib.Core.Path.{_≡_};
 ghost use mathlib.Core.List.{_∷_};
 ghost use lib.ListN.{length, drop};
 ghost use lib.Seq.{slice};
-ghost use Rattle.crmf.specs.meaning.Rows.{container as isContainer};
-ghost use Rattle.writer.specs.steps.Writing.{rowsIn};
+ghost use Rattle.crmf.specs.steps.rows.Agree.{draftRows};
 ghost use Rattle.writer.specs.steps.Inner.{rowOf};
 
 // A row of a draft.
@@ -21,15 +19,15 @@ pub(crate) struct Row {
 
 // How many rows a draft has.
 pub(crate) fn rows(draft: &[usize]) -> usize
-    ensures { λ r. ⌜ r ≡ length (rowsIn (now (draft .entry))) ⌝ }
+    ensures { λ r. ⌜ r ≡ length (draftRows (now (draft .entry))) ⌝ }
 {
     draft.len() / WIDTH
 }
 
 // The row with the number `i`.
 pub(crate) fn row_at(draft: &[usize], i: usize) -> Row
-    requires { ⌜ i < length (rowsIn (now draft)) ⌝ }
-    ensures { λ r. ⌜ drop i (rowsIn (now (draft .entry))) ≡ rowOf r ∷ drop (suc i) (rowsIn (now (draft .entry))) ⌝ }
+    requires { ⌜ i < length (draftRows (now draft)) ⌝ }
+    ensures { λ r. ⌜ drop i (draftRows (now (draft .entry))) ≡ rowOf r ∷ drop (suc i) (draftRows (now (draft .entry))) ⌝ }
 {
     let at = WIDTH * i;
     Row {
@@ -53,22 +51,4 @@ pub(crate) fn leaf(bytes: &[u8], first: usize, whole: usize) -> &[u8]
     }
     let end = first + whole;
     &bytes[first..end]
-}
-
-// Whether a kind is a container's.
-pub(crate) fn container(kind: usize) -> bool
-    ensures { λ r. ⌜ r ≡ isContainer kind ⌝ }
-{
-    (kind == kinds::BATCH)
-        | (kind == kinds::MESSAGE)
-        | (kind == kinds::CERT_REQ)
-        | (kind == kinds::CERT_TEMPLATE)
-        | (kind == kinds::VALIDITY)
-        | (kind == kinds::EXTENSIONS)
-        | (kind == kinds::CONTROLS)
-        | (kind == kinds::SIGNATURE)
-        | (kind == kinds::KEY_ENCIPHERMENT)
-        | (kind == kinds::KEY_AGREEMENT)
-        | (kind == kinds::REG_INFO)
-        | (kind == kinds::REG_INFO_CERT_REQ)
 }

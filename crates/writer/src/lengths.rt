@@ -1,6 +1,5 @@
 // The whole lengths of rows.
 use crate::draft::Row;
-use crate::draft::container;
 use crmf::kinds;
 use der::bounds::LONGEST;
 ghost use Prim.Native.Nat.{suc, _+_, _*_, _≤_};
@@ -19,7 +18,7 @@ pub(crate) fn whole_of(row: Row, bytes: &[u8], inner: usize) -> usize
     ensures { λ r. ⌜ Whole (now (bytes .entry)) (rowOf row) inner r ⌝ }
 {
     let kind = row.kind;
-    if container(kind) {
+    if kinds::container(kind) {
         return whole_around(kind, inner);
     }
     let whole = row.whole;

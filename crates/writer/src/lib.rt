@@ -1,7 +1,7 @@
 // Drafts, and writing the batch that a draft describes.
+mod answers;
 mod assemble;
 mod build;
-mod compare;
 mod draft;
 mod lengths;
 mod octets;

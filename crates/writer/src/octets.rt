@@ -1,6 +1,5 @@
 // The octets that a row adds to a batch, written into a scratch one run after another.
 use crate::draft::Row;
-use crate::draft::container;
 use crate::draft::leaf;
 use crate::lengths::implied_length;
 use crmf::kinds;
@@ -21,7 +20,7 @@ pub(crate) fn put(row: Row, inner: usize, bytes: &[u8], at: usize, scratch: &mut
     ensures { λ r. ⌜ Appended (now (scratch .entry)) at (own (pieceOf (now (bytes .entry)) (rowOf row)) inner) r (now (scratch .exit)) ⌝ }
 {
     let kind = row.kind;
-    if container(kind) {
+    if kinds::container(kind) {
         return put_header(kind, inner, at, scratch);
     }
     append(leaf(bytes, row.first, row.whole), at, scratch)

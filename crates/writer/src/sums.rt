@@ -8,14 +8,15 @@ ghost use mathlib.Core.Path.{_≡_};
 ghost use mathlib.Core.Bool.{true};
 ghost use lib.ListN.{length, getD};
 ghost use Rattle.der.specs.meaning.Bounds.{longest};
-ghost use Rattle.writer.specs.steps.Writing.{rowsIn, mostRows};
+ghost use Rattle.writer.specs.steps.Writing.{mostRows};
+ghost use Rattle.crmf.specs.steps.rows.Agree.{draftRows};
 ghost use Rattle.writer.specs.steps.Inner.{sound, Summed, Blank, Added};
 
 // Adds up the sums in a table and answers whether every leaf lies in the slice and no row is too long.
 pub(crate) fn add_up(draft: &[usize], bytes: &[u8], table: &mut [usize]) -> bool
-    requires { ⌜ Blank (rowsIn (now draft)) (now table) ⌝ }
-    ensures { λ r. ⌜ (r ≡ sound (now (bytes .entry)) 0 (rowsIn (now (draft .entry))))
-        × (r ≡ true → Summed (now (bytes .entry)) (rowsIn (now (draft .entry))) (now (table .exit))) ⌝ }
+    requires { ⌜ Blank (draftRows (now draft)) (now table) ⌝ }
+    ensures { λ r. ⌜ (r ≡ sound (now (bytes .entry)) 0 (draftRows (now (draft .entry))))
+        × (r ≡ true → Summed (now (bytes .entry)) (draftRows (now (draft .entry))) (now (table .exit))) ⌝ }
 {
     let mut i = rows(draft);
     while 0 < i {

@@ -15,25 +15,24 @@ use Rattle.crmf.specs.meaning.Pieces.{pieceOf, piecesOf}
 use Rattle.crmf.specs.steps.rows.Assembly.{own, wholeOf, assembled, noneLonger}
 use Rattle.crmf.proofs.Laws.{pieces-none, pieces-row, assembled-none, assembled-piece, within-piece}
 use Rattle.writer.specs.steps.Inner.{children, Appended, Begins}
-use Rattle.writer.proofs.theorems.WholeLengths.{stands-same, stands-past}
 
 -- The scratch begins with the octets of the rows before number i, and those of the other rows come after them.
 pub record Joined (bytes : List ℕ) (rs : List Row) (i at : ℕ) (old scratch : List ℕ) : Type 0 where
-  pub room : longest ≤ length old
+  pub room : length old ≤ longest
   pub sized : length scratch ≡ length old
   pub below : i ≤ length rs
-  pub short : at ≤ longest
+  pub short : at ≤ length old
   pub fit : noneLonger longest i (piecesOf bytes (drop i rs)) ≡ true
   pub whole : assembled 0 (piecesOf bytes rs) ≡ take at scratch ++ assembled i (piecesOf bytes (drop i rs))
 
 module _ (bytes : List ℕ) (rs : List Row) where
   -- before the first row the scratch holds nothing
-  pub joined-first : (scratch : List ℕ) → longest ≤ length scratch → noneLonger longest 0 (piecesOf bytes rs) ≡ true → Joined bytes rs 0 0 scratch scratch
+  pub joined-first : (scratch : List ℕ) → length scratch ≤ longest → noneLonger longest 0 (piecesOf bytes rs) ≡ true → Joined bytes rs 0 0 scratch scratch
   joined-first scratch room fit = record { room = room; sized = refl; below = omega arith; short = omega arith; fit = fit; whole = refl }
 
   module _ (i at : ℕ) (old scratch : List ℕ) (j : Joined bytes rs i at old scratch) where
     before : length (take at scratch) ≡ at
-    before = length-take-le at scratch (omega (arith, j .room, j .sized, j .short))
+    before = length-take-le at scratch (omega (arith, j .sized, j .short))
 
     -- after the last row it holds the whole candidate
     pub joined-last : length rs ≤ i → Begins (assembled 0 (piecesOf bytes rs)) at scratch
@@ -43,7 +42,7 @@ module _ (bytes : List ℕ) (rs : List Row) where
         rw (end, drop-length rs, pieces-none bytes) (assembled-none (length rs)) in
         let all : assembled 0 (piecesOf bytes rs) ≡ take at scratch =
         j .whole ∙ ap (λ (l : List ℕ). take at scratch ++ l) none ∙ append-nil (take at scratch) in
-        record { counted = stands-same (sym (ap length all ∙ before)); first = λ short. sym all }
+        record { first = λ short. sym all; past = λ long. absurd (omega (arith, j .sized, j .short)) }
 
     module _ (r : Row) (cut : drop i rs ≡ r ∷ drop (suc i) rs) (there : i < length rs) (inner : ℕ) (sum : inner ≡ children bytes rs i) where
       rest : List ℕ
@@ -75,10 +74,10 @@ module _ (bytes : List ℕ) (rs : List Row) where
 
       module _ (next : ℕ) (new : List ℕ) (sized : length new ≡ length scratch) (a : Appended scratch at (own (pieceOf bytes r) inner) next new) where
         -- with the row's octets
-        pub joined-next : next ≤ longest → Joined bytes rs (i + 1) next old new
+        pub joined-next : next ≤ length old → Joined bytes rs (i + 1) next old new
         unfolding rest
         joined-next short =
-            let kept = a .kept (omega (arith, j .room, j .sized)) in
+            let kept = a .kept (omega (arith, j .sized)) in
             rw add-one
             (record {
               room = j .room;
@@ -90,8 +89,8 @@ module _ (bytes : List ℕ) (rs : List Row) where
             })
 
         -- which may be too many
-        pub joined-stops : longest < next → Begins (assembled 0 (piecesOf bytes rs)) next new
+        pub joined-stops : length old < next → Begins (assembled 0 (piecesOf bytes rs)) next new
         joined-stops long =
             let size = ap length parted ∙ length-append (take at scratch ++ own (pieceOf bytes r) inner) rest in
             let front = length-append (take at scratch) (own (pieceOf bytes r) inner) in
-            record { counted = stands-past long (omega (arith, size, front, before, a .place)); first = λ short. absurd (omega arith) }
+            record { first = λ short. absurd (omega (arith, sized, j .sized)); past = λ more. omega (arith, size, front, before, a .place) }

@@ -15,7 +15,7 @@ use Rattle.crmf.specs.meaning.Rows.{Row, width, container, numbers, batchRows}
 use Rattle.crmf.proofs.Laws.{noRow, rows-some, numbers-length, pieces-length}
 use Rattle.writer.specs.meaning.Draft.{inside, HasRows}
 use Rattle.writer.specs.meaning.Writes.{Writes}
-use Rattle.writer.proofs.theorems.DraftRows.{numbers-once}
+use Rattle.crmf.proofs.Laws.{numbers-once}
 use Rattle.writer.proofs.theorems.Demand2.{describes-nothing}
 
 -- A draft has no batch's shape, for one of the three reasons.

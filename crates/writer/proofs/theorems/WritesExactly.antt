@@ -17,7 +17,7 @@ use Rattle.editions.specs.steps.Reading.{refusal, accepted}
 use Rattle.writer.specs.meaning.Draft.{HasRows}
 use Rattle.writer.specs.meaning.Writes.{Writes, unknown-edition, no-batch, no-room, written}
 use Rattle.writer.specs.steps.Writing.{candidate, described, writeAnswer, outputAfter}
-use Rattle.writer.proofs.theorems.Answering.{Computed}
+use Rattle.writer.specs.steps.Inner.{Computed}
 use Rattle.writer.proofs.theorems.Answering as computed
 use Rattle.writer.proofs.theorems.Described.{has-candidate, has-described, described-has}
 
@@ -30,7 +30,7 @@ edition-known : {e : ℕ} → Edition e → unknown e ≡ false
 edition-known first-edition = refl
 edition-known second-edition = refl
 
-known-edition : (e : ℕ) → unknown e ≡ false → Edition e
+pub known-edition : (e : ℕ) → unknown e ≡ false → Edition e
 known-edition e = go (eqb e 1) (eqb e 2) refl refl
   where
     go : (a b : Bool) → eqb e 1 ≡ a → eqb e 2 ≡ b → (not a && not b) ≡ false → Edition e

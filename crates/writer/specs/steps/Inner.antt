@@ -2,19 +2,22 @@
 -- Assumes nothing.
 use Prim.Native.Nat.{ℕ, suc, _+_, _*_, _≤_, _<_}
 use mathlib.Core.Path.{_≡_}
-use mathlib.Core.Bool.{Bool, true, false, _&&_, _||_}
+use mathlib.Core.Bool.{Bool, true, false, not, _&&_, _||_}
 use mathlib.Core.List.{List, _++_}
 use lib.Dec.{eqb, leb}
 use lib.ListN.{length, getD, take, drop}
 use Rattle.der.specs.meaning.Bounds.{longest}
-use Rattle.crmf.specs.meaning.Rows.{Row, container, width}
+use Rattle.crmf.specs.meaning.Rows.{Row, container}
 use Rattle.crmf.specs.meaning.Pieces.{pieceOf, piecesOf}
+use Rattle.crmf.specs.steps.rows.Agree.{draftRows}
 use Rattle.crmf.specs.steps.rows.Assembly.{wholeOf, childrenOf, noneLonger}
+use Rattle.editions.specs.declared.reader.Answer.{Answer}
+use Rattle.editions.specs.meaning.Edition.{rfc2511, rfc4211}
 use Rattle.writer.specs.declared.draft.Row.{Row as Given}
 use Rattle.writer.specs.declared.build.Outcome.{Outcome}
-use Rattle.writer.specs.declared.build.Outcome.the-variants.{Batch, Nothing}
+use Rattle.writer.specs.declared.build.Outcome.the-variants.{Answered, TooSmall}
 use Rattle.writer.specs.meaning.Draft.{inside}
-use Rattle.writer.specs.steps.Writing.{mostRows, rowsIn, shaped, drafted, candidate, described}
+use Rattle.writer.specs.steps.Writing.{mostRows, shaped, drafted, described, writeAnswer, outputAfter}
 
 -- a row as the code has it
 abbrev pub rowOf : Given → Row
@@ -62,39 +65,43 @@ pub record Added (old : List ℕ) (parent limit n : ℕ) (new : List ℕ) : Type
   pub below : (k : ℕ) → k < limit → getD new k 0 ≡ elim (eqb parent k) [ true ↦ n | false ↦ 0 ] + getD old k 0
   pub others : (k : ℕ) → limit ≤ k → getD new k 0 ≡ getD old k 0
 
--- what assembling is lent: a draft of which no row is too long, its sums, and a scratch with room for the longest batch
+-- what assembling is lent: a draft of which no row is too long, its sums, and a scratch no longer than the longest batch
 pub record Lent (draft bytes sums scratch : List ℕ) : Type 0 where
   pub fit : noneLonger longest 0 (drafted draft bytes) ≡ true
-  pub sized : length (rowsIn draft) ≤ length sums
-  pub summed : Summed bytes (rowsIn draft) sums
-  pub room : longest ≤ length scratch
+  pub sized : length (draftRows draft) ≤ length sums
+  pub summed : Summed bytes (draftRows draft) sums
+  pub short : length scratch ≤ longest
 
--- A number stands for the number of some octets, and a scratch begins with them.
+-- A scratch begins with some octets, and a number is their length; or they are longer than the scratch, and so is the number.
 pub record Begins (octets : List ℕ) (n : ℕ) (scratch : List ℕ) : Type 0 where
-  pub counted : Stands n (length octets)
-  pub first : n ≤ longest → take n scratch ≡ octets
+  pub first : n ≤ length scratch → take n scratch ≡ octets
+  pub past : length scratch < n → length scratch < length octets
 
--- rows for which a small table is enough
-abbrev pub few : ℕ
-few = 256
-
--- what building is lent: a draft that has a batch's shape, a scratch with room for the longest batch, and a table with room for the draft's
--- rows and a zero for each
-pub record Room (draft scratch table : List ℕ) : Type 0 where
+-- what is known before writing: the edition, and that the draft has a batch's shape
+pub record Known (e : ℕ) (draft : List ℕ) : Type 0 where
+  pub edition : (not (eqb e rfc2511) && not (eqb e rfc4211)) ≡ false
   pub shape : shaped draft ≡ true
-  pub octets : longest ≤ length scratch
-  pub rows : width * length (rowsIn draft) ≤ length table
-  pub blank : Blank (rowsIn draft) table
 
--- what building goes on with: a sound draft and its sums, a scratch with room for the longest batch, and room for the draft's rows
-pub record AddedUp (draft bytes scratch table : List ℕ) : Type 0 where
-  pub shape : shaped draft ≡ true
-  pub sounds : sound bytes 0 (rowsIn draft) ≡ true
-  pub summed : Summed bytes (rowsIn draft) table
-  pub octets : longest ≤ length scratch
-  pub rows : width * length (rowsIn draft) ≤ length table
+-- what building is lent besides: a zero for each row, and a scratch no longer than the longest batch
+pub record Room (e : ℕ) (draft sums scratch : List ℕ) : Type 0 where
+  pub known : Known e draft
+  pub blank : Blank (draftRows draft) sums
+  pub short : length scratch ≤ longest
 
--- A draft is found to describe a batch, and a scratch begins with its octets; or it describes nothing.
-abbrev pub Built : ℕ → List ℕ → List ℕ → List ℕ → Outcome → Type 0
-Built e draft bytes scratch (Batch n) = (described e draft bytes ≡ true) × (take n scratch ≡ candidate draft bytes) × (n ≤ longest)
-Built e draft bytes scratch Nothing = described e draft bytes ≡ false
+-- the answer and the output are the computed ones
+abbrev pub Computed : (e : ℕ) (draft bytes old : List ℕ) → Answer → List ℕ → Type 0
+Computed e draft bytes old a new = (a ≡ writeAnswer e draft bytes old) × (new ≡ outputAfter e draft bytes old)
+
+-- A draft is answered; or the scratch is too small, and then nothing is written, and if it is as long as the longest batch the draft describes none.
+abbrev pub Built : (e : ℕ) (draft bytes scratch old : List ℕ) → Outcome → List ℕ → Type 0
+Built e draft bytes scratch old (Answered a) new = Computed e draft bytes old a new
+Built e draft bytes scratch old TooSmall new = (new ≡ old) × (longest ≤ length scratch → described e draft bytes ≡ false)
+
+-- the number of the largest size
+abbrev pub largest : ℕ
+largest = 3
+
+-- A draft is answered; or the size is too small, and then nothing is written, and if it is the largest the draft describes no batch.
+abbrev pub Tried : (size e : ℕ) (draft bytes old : List ℕ) → Outcome → List ℕ → Type 0
+Tried size e draft bytes old (Answered a) new = Computed e draft bytes old a new
+Tried size e draft bytes old TooSmall new = (new ≡ old) × (largest ≤ size → described e draft bytes ≡ false)

@@ -1,6 +1,6 @@
 -- `writer::draft::rows` meets its contract. Assumes nothing.
 use mathlib.Core.Path.{sym}
-use Rattle.writer.proofs.theorems.DraftRows.{rows-by-width}
+use Rattle.crmf.proofs.Laws.{rows-by-width}
 use Rattle.writer.proofs.draft.rows.Statement.{statement}
 use Rattle.writer.proofs.draft.rows.Tie as tie
 

@@ -7,7 +7,7 @@ use lib.Dec.{eqb, leb}
 use lib.ListN.{length}
 use Rattle.crmf.specs.meaning.Rows.{width}
 use Rattle.writer.specs.steps.Writing.{mostRows}
-use Rattle.writer.proofs.theorems.DraftRows.{rows-room}
+use Rattle.crmf.proofs.Laws.{rows-room}
 use native.Mathlib.Omega.{arith}
 use Rattle.writer.proofs.writer.shaped.Statement.{statement}
 use Rattle.writer.proofs.writer.shaped.Tie as tie

@@ -1,51 +1,49 @@
--- `writer::writer::write` meets its contract: each test is one of the computed answer's, and if a batch is found the scratch begins with it;
--- and what is computed is what the relation says, since the bytes are octets. Assumes nothing.
-use Prim.Native.Nat.{ℕ, _≤_}
+-- `writer::writer::write` meets its contract: each test is one of the computed answer's. A draft of the bytes' own rows describes the bytes; any
+-- other is answered by a size, or the largest is too small for it. What is computed is what the relation says, since the bytes are octets.
+-- Assumes nothing.
 use borrow.Author.Needs.{needs}
 use borrow.Author.Tests.{not-true, not-false}
-use lib.ListN.{length, take}
-use lib.Seq.{length-take-le}
 use mathlib.Core.List.{List}
-use mathlib.Core.Path.{_≡_, sym, ap, subst, _∙_}
+use mathlib.Core.Path.{_≡_, sym, subst, _∙_}
 use native.Mathlib.Omega.{arith}
+use Prim.Native.Nat.{ℕ}
+use Rattle.der.specs.meaning.Octets.{Octets}
 use Rattle.der.proofs.Laws.{octets-each}
-use Rattle.crmf.specs.meaning.Lists.{over}
 use Rattle.editions.specs.declared.reader.Answer.{Answer}
-use Rattle.editions.specs.steps.Reading.{accepted}
-use Rattle.writer.specs.declared.build.Outcome.the-variants.{Batch}
+use Rattle.writer.specs.declared.build.Outcome.{Outcome}
+use Rattle.writer.specs.declared.build.Outcome.the-variants.{Answered, TooSmall}
 use Rattle.writer.specs.meaning.Writes.{Writes}
-use Rattle.writer.specs.steps.Writing.{candidate}
-use Rattle.writer.specs.steps.Inner.{Built}
+use Rattle.writer.specs.steps.Inner.{Computed, largest, Tried}
 use Rattle.writer.proofs.theorems.Describing.{shapeless}
-use Rattle.writer.proofs.theorems.Answering.{zeros-longest, array-room, Computed, no-edition, no-batch, no-room, writes}
-use Rattle.writer.proofs.theorems.WritesExactly.{writes-exactly}
+use Rattle.writer.proofs.theorems.Described.{stands-described, stands-candidate}
+use Rattle.writer.proofs.theorems.Answering.{no-edition, no-batch, delivered}
+use Rattle.writer.proofs.theorems.WritesExactly.{known-edition, writes-exactly}
 use Rattle.writer.proofs.writer.write.Statement.{statement}
 use Rattle.writer.proofs.writer.write.Tie as tie
 
--- the entry, from the place where the edition is known, and that place, from the place after building
-abbrev entry : tie.Else1 → tie.Start
-entry known = known .before .before .before .before
+-- the entry, and what is known there of the bytes
+abbrev entry : tie.After-slice-known → tie.Start
+entry c = c .before .before .before
 
-abbrev known : tie.After-build → tie.Else1
-known built = built .before .before .before .before
+octets : (c : tie.After-slice-known) → Octets (entry c .args .bytes .now)
+octets c = octets-each (entry c .args .bytes .now) (λ i. c .before .shared-slice-known2 .given i .fits)
 
 -- the computed answer and output are those of the relation
 answers : (c : tie.After-slice-known) (r : Answer) (new : List ℕ)
-    → let a = c .before .before .before .args in Computed (a .edition) (a .draft .now) (a .bytes .now) (a .output .now) r new
+    → let a = entry c .args in Computed (a .edition) (a .draft .now) (a .bytes .now) (a .output .now) r new
     → Writes (a .edition) (a .draft .now) (a .bytes .now) (a .output .now) (r .number) (r .place) (r .count) new
 answers c r new =
-    let a = c .before .before .before .args in
-    let octets = octets-each (a .bytes .now) (λ i. c .before .shared-slice-known2 .given i .fits) in
-    writes-exactly (a .edition) (a .draft .now) (a .bytes .now) (a .output .now) octets r new .1
+    let a = entry c .args in
+    writes-exactly (a .edition) (a .draft .now) (a .bytes .now) (a .output .now) (octets c) r new .1
 
 refuse-requires : tie.Need-refuse-requires
 refuse-requires c κs = search needs
 
 returns : tie.Need-returns
 returns c =
-    let tested = c .before .before in
-    let a = tested .before .before .before .args in
-    answers tested (c .refuse .result) (a .output .now)
+    let begun = c .before .before in
+    let a = entry begun .args in
+    answers begun (c .refuse .result) (a .output .now)
     (no-edition (a .edition) (a .draft .now) (a .bytes .now) (a .output .now) (c .before .if1 .taken) (c .refuse .result) (c .refuse .ensures))
 
 shaped-requires : tie.Need-shaped-requires
@@ -57,20 +55,54 @@ refuse-requires-2 c κs = search needs
 returns-2 : tie.Need-returns-2
 returns-2 c =
     let tested = c .before .before in
-    let a = entry (tested .before) .args in
+    let known = tested .before in
+    let a = entry (known .before) .args in
     let no-shape = sym (tested .shaped .ensures) ∙ not-true _ (c .before .if2 .taken) in
-    answers (tested .before .before) (c .refuse2 .result) (a .output .now)
-    (no-batch (a .edition) (a .draft .now) (a .bytes .now) (a .output .now) (tested .before .if1 .left)
+    answers (known .before) (c .refuse2 .result) (a .output .now)
+    (no-batch (a .edition) (a .draft .now) (a .bytes .now) (a .output .now) (known .if1 .left)
     (shapeless (a .edition) (a .draft .now) (a .bytes .now) no-shape) (c .refuse2 .result) (c .refuse2 .ensures))
 
-slice-aggregate-build : tie.Need-slice-aggregate-build
-slice-aggregate-build c = search needs
+agrees-requires : tie.Need-agrees-requires
+agrees-requires c κs = search needs
 
-build-requires : tie.Need-build-requires
-build-requires c κs = (sym (c .before .before .shaped .ensures) ∙ not-false _ (c .before .if2 .left), zeros-longest)
+-- the edition is known, and the draft has a batch's shape
+module _ (c : tie.Else2) where
+  abbrev known : tie.Else1
+  known = c .before .before
 
-enum-known-found : tie.Need-enum-known-found
-enum-known-found c = search needs
+  abbrev begun : tie.After-slice-known
+  begun = known .before
+
+deliver-requires : tie.Need-deliver-requires
+deliver-requires c κs = search needs
+
+same-length : tie.Need-same-length
+same-length c = search needs
+
+returns-3 : tie.Need-returns-3
+returns-3 c =
+    let done = c .before .before in
+    let judged = done .before .before .before in
+    let d = judged .before in
+    let b = begun d in
+    let a = entry b .args in
+    let e = a .edition in
+    let shape = sym (d .before .shaped .ensures) ∙ not-false _ (d .if2 .left) in
+    let ed = known-edition e (known d .if1 .left) in
+    let agreed = sym (judged .agrees .ensures) ∙ done .before .before .if3 .taken in
+    answers b (done .deliver .result) _
+    (delivered e (a .draft .now) (a .bytes .now) (a .output .now) (known d .if1 .left)
+    (stands-described e ed (a .draft .now) (a .bytes .now) (octets b) shape agreed) (a .bytes .now)
+    (sym (stands-candidate e ed (a .draft .now) (a .bytes .now) (octets b) shape agreed))
+    (done .deliver .result) _ (done .deliver .ensures .0) (done .deliver .ensures .1))
+
+sized-requires : tie.Need-sized-requires
+sized-requires c κs =
+    let d = c .before .before .before in
+    record { edition = known d .if1 .left; shape = sym (d .before .shaped .ensures) ∙ not-false _ (d .if2 .left) }
+
+enum-known-outcome : tie.Need-enum-known-outcome
+enum-known-outcome c = search needs
 
 enum-told : tie.Need-enum-told
 enum-told c = search needs
@@ -78,74 +110,44 @@ enum-told c = search needs
 refuse-requires-3 : tie.Need-refuse-requires-3
 refuse-requires-3 c κs = search needs
 
-returns-3 : tie.Need-returns-3
-returns-3 c =
-    let built = c .before .before .before .before in
-    let a = entry (known built) .args in
-    let nothing = subst (Built (a .edition) (a .draft .now) (a .bytes .now) (built .build .last .1 .1 .1 .0)) (c .before .enum-told .given .1) (built .build .ensures) in
-    answers (known built .before) (c .refuse3 .result) (a .output .now)
-    (no-batch (a .edition) (a .draft .now) (a .bytes .now) (a .output .now) (known built .if1 .left) nothing (c .refuse3 .result) (c .refuse3 .ensures))
+-- what the sizes have come to
+module _ (c : tie.After-slice-known3) where
+  abbrev called : tie.After-sized
+  called = c .before .before
 
--- a batch is found, of n octets
-module _ (c : tie.After-found) where
-  abbrev built : tie.After-build
-  built = c .before .before .before
+  abbrev tested : tie.Else2
+  tested = called .before .before .before .before
 
-  abbrev scratch : List ℕ
-  scratch = built .build .last .1 .1 .1 .0
+  abbrev output : List ℕ
+  output = called .sized .last .1 .1 .1 .1 .0
 
-  abbrev n : ℕ
-  n = c .found .given .0 .0
-
-  describes : let a = entry (known built) .args in Built (a .edition) (a .draft .now) (a .bytes .now) scratch (Batch n)
-  describes =
-      let a = entry (known built) .args in
-      subst (Built (a .edition) (a .draft .now) (a .bytes .now) scratch) (c .found .given .1) (built .build .ensures)
-
-  fits : n ≤ length scratch
-  fits = array-room scratch n (built .build .kept .1 .1 .1 .0) (describes .2)
-
-  size : length (take n scratch) ≡ n
-  size = length-take-le n scratch fits
-
-  candidate-size : let a = entry (known built) .args in n ≡ length (candidate (a .draft .now) (a .bytes .now))
-  candidate-size = sym size ∙ ap length (describes .1)
-
-refuse-requires-4 : tie.Need-refuse-requires-4
-refuse-requires-4 c κs = search needs
+  tried : (r : Outcome) → called .sized .result ≡ r
+      → let a = entry (begun tested) .args in Tried largest (a .edition) (a .draft .now) (a .bytes .now) (a .output .now) r output
+  tried r is =
+      let a = entry (begun tested) .args in
+      subst (λ (o : Outcome). Tried largest (a .edition) (a .draft .now) (a .bytes .now) (a .output .now) o output) is (called .sized .ensures)
 
 returns-4 : tie.Need-returns-4
 returns-4 c =
-    let found = c .before .before .before in
-    let test = known (built found) in
-    let a = entry test .args in
-    answers (test .before) (c .refuse4 .result) (a .output .now)
-    (no-room (a .edition) (a .draft .now) (a .bytes .now) (a .output .now) (test .if1 .left) (describes found .0)
-    (omega (arith, candidate-size found, c .before .if3 .taken)) (c .refuse4 .result) (c .refuse4 .ensures))
+    let d = c .before .before .before in
+    let b = begun (tested d) in
+    let a = entry b .args in
+    let (kept, nothing) = tried d TooSmall (c .before .enum-told .given .1) in
+    answers b (c .refuse3 .result) (output d)
+    (subst (Computed (a .edition) (a .draft .now) (a .bytes .now) (a .output .now) (c .refuse3 .result)) (sym kept)
+    (no-batch (a .edition) (a .draft .now) (a .bytes .now) (a .output .now) (known (tested d) .if1 .left) (nothing (omega arith)) (c .refuse3 .result) (c .refuse3 .ensures)))
 
-array-share-prefix-scratch : tie.Need-array-share-prefix-scratch
-array-share-prefix-scratch c = fits (c .before .before)
+same-length-2 : tie.Need-same-length-2
+same-length-2 c = search needs
 
-slice-aggregate-copy : tie.Need-slice-aggregate-copy
-slice-aggregate-copy c = sym (size (c .before .before .before))
-
-copy-requires : tie.Need-copy-requires
-copy-requires c κs = omega (arith, size (c .before .before .before .before), c .before .before .if3 .left)
-
-same-length : tie.Need-same-length
-same-length c = search needs
+same-length-3 : tie.Need-same-length-3
+same-length-3 c = search needs
 
 returns-5 : tie.Need-returns-5
 returns-5 c =
-    let copied = c .before .before in
-    let roomy = copied .before .before .before in
-    let found = roomy .before .before in
-    let test = known (built found) in
-    let a = entry test .args in
-    answers (test .before) (accepted (n found)) (copied .copy .last .1 .1 .0)
-    (writes (a .edition) (a .draft .now) (a .bytes .now) (a .output .now) (test .if1 .left) (describes found .0)
-    (omega (arith, candidate-size found, roomy .if3 .left)) (n found) (candidate-size found) (copied .copy .last .1 .1 .0)
-    (copied .copy .ensures ∙ ap (over (a .output .now) 0) (describes found .1)))
+    let found = c .before .outcome .given in
+    let d = c .before .before .before in
+    answers (begun (tested d)) (found .0 .0) (output d) (tried d (Answered (found .0 .0)) (found .1))
 
 pub write-spec : {M : Type 1} → statement M
 write-spec =
@@ -156,16 +158,15 @@ write-spec =
     shaped-requires
     refuse-requires-2
     returns-2
-    slice-aggregate-build
-    build-requires
-    enum-known-found
+    agrees-requires
+    deliver-requires
+    same-length
+    returns-3
+    sized-requires
+    enum-known-outcome
     enum-told
     refuse-requires-3
-    returns-3
-    refuse-requires-4
+    same-length-2
     returns-4
-    array-share-prefix-scratch
-    slice-aggregate-copy
-    copy-requires
-    same-length
+    same-length-3
     returns-5)
