@@ -11,15 +11,19 @@ use crate::grammar::judge::Onward;
 use crate::grammar::lines::LINES;
 use crate::grammar::lines::TOP;
 use crate::grammar::table;
+use crate::kinds;
+use crate::recognise;
+use der::bounds::DEPTH;
 use der::element::reading::read_at;
 ghost use Prim.Native.Nat.{ℕ, _≤_, _<_};
 ghost use mathlib.Core.Path.{_≡_};
 ghost use lib.ListN.{length, getD};
 ghost use lib.Seq.{slice};
+ghost use Rattle.der.specs.meaning.Bounds.{longest};
 ghost use Rattle.der.specs.steps.Reading.{tree};
 ghost use Rattle.crmf.specs.steps.grammar.Packed.{packed};
 ghost use Rattle.crmf.specs.steps.explain.Walk.{line, judged, countOf};
-ghost use Rattle.crmf.specs.steps.explain.Inner.{Lent, insideWalk, Passing, walkFrom, stepped, Stepped};
+ghost use Rattle.crmf.specs.steps.explain.Inner.{Lent, insideWalk, Tried, Passing, walkFrom, stepped, Stepped};
 
 // What the walk over a container answers.
 pub enum Walked {
@@ -136,7 +140,8 @@ fn element(bytes: &[u8], cursor: Cursor, end: usize, table: &[usize; LINES]) -> 
     }
 }
 
-// Walks over the inside of an element, if its line has one.
+// Walks over the inside of an element, if its line has one. The inside of a message's part is tried with the recogniser first: most have
+// neither a fault nor a form of one edition alone.
 fn inside(bytes: &[u8], fit: Fit, tally: Tally, table: &[usize; LINES]) -> Walked
     requires { ⌜ Lent (now bytes) (fit .content) (fit .end) (tally .count) (now table) ⌝ }
     ensures { λ r. ⌜ ((k : ℕ) → fit .word ≡ getD packed k 0 → r ≡ insideWalk k tally (fit .first) (tree (fit .content) (slice (fit .content) (fit .end) (now (bytes .entry))))) × Passing (fit .end) r ⌝ }
@@ -145,12 +150,39 @@ fn inside(bytes: &[u8], fit: Fit, tally: Tally, table: &[usize; LINES]) -> Walke
     if state == codes::FREE {
         return Walked::Passed(tally);
     }
+    let counted = count_part(bytes, fit, state, table);
+    if counted != 0 {
+        return Walked::Passed(tally::with_rows(counted - 1, tally));
+    }
     let start = Cursor {
         state,
         at: fit.content,
         tally,
     };
     list(bytes, start, fit.end, fit.first, table)
+}
+
+// Tries the inside of an element, from the line `state` on, if the element is a part of a message. Answers one more than its rows if all of it is
+// recognised and none is in a form of one edition alone, otherwise 0.
+fn count_part(bytes: &[u8], fit: Fit, state: usize, table: &[usize; LINES]) -> usize
+    requires { ⌜ (fit .content ≤ fit .end) × (fit .end ≤ length (now bytes)) × (length (now bytes) ≤ longest) × (now table ≡ packed) ⌝ }
+    ensures { λ r. ⌜ Tried state (fit .content) (slice (fit .content) (fit .end) (now (bytes .entry))) r ⌝ }
+{
+    if !is_part(table::kind_of(fit.word)) {
+        return 0;
+    }
+    let from = fit.content;
+    let to = fit.end;
+    recognise::list(&bytes[from..to], state, DEPTH, 0, recognise::NEITHER, table)
+}
+
+// Whether a kind is that of a message's part.
+fn is_part(kind: usize) -> bool {
+    (kind == kinds::CERT_REQ)
+        | (kind == kinds::SIGNATURE)
+        | (kind == kinds::KEY_ENCIPHERMENT)
+        | (kind == kinds::KEY_AGREEMENT)
+        | (kind == kinds::REG_INFO)
 }
 
 // The step that an element's value makes, after its inside.

@@ -20,6 +20,9 @@ ghost use Rattle.crmf.specs.steps.grammar.Packed.{packed};
 ghost use Rattle.crmf.specs.steps.recognise.Count.{recognised, recognisedTable, agreed};
 ghost use Rattle.crmf.specs.steps.recognise.Inner.{Countable, decode, ListCounted, ElementCounted};
 
+// Neither edition: no form of one edition alone is recognised.
+pub(crate) const NEITHER: usize = 0;
+
 // What the recogniser answers.
 pub enum Recognition {
     // A batch of the edition with this many rows, and no certReqId of more than 8 octets.
@@ -97,7 +100,7 @@ enum Advance {
 
 // Recognises the elements that the bytes are, from the line `state` on, after `before` rows. Answers one more than the rows up to their end,
 // or 0 if they aren't recognised. This number stays in a register; a `Recognition` would go through memory at each level.
-fn list(
+pub(crate) fn list(
     bytes: &[u8],
     state: usize,
     left: usize,

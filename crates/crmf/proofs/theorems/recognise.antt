@@ -2,6 +2,8 @@
 pub mod Actions
 pub mod AgreedRows
 pub mod CountSteps
+pub mod CountedWalks
+pub mod CommonForms
 pub mod RowlessInsides
 pub mod PassedCounts
 pub mod RecognisedBatches

@@ -7,7 +7,7 @@ ghost use Prim.Native.Nat.{ℕ, _+_, _-_, _≤_};
 ghost use mathlib.Core.Path.{_≡_};
 ghost use lib.ListN.{getD};
 ghost use Rattle.crmf.specs.steps.grammar.Packed.{packed, markCode};
-ghost use Rattle.crmf.specs.steps.explain.Walk.{line, withForm, withLongId, withElement, emptyTally};
+ghost use Rattle.crmf.specs.steps.explain.Walk.{line, withForm, withLongId, withRows, withElement, emptyTally};
 
 // A form of one edition alone: its difference's number (0: none was met) and its place.
 pub struct Difference {
@@ -108,6 +108,16 @@ fn with_form(mark: usize, place: usize, tally: Tally) -> Tally
         };
     }
     tally
+}
+
+// The tally with more rows.
+pub(crate) fn with_rows(rows: usize, tally: Tally) -> Tally
+    requires { ⌜ (tally .count ≤ 131070) × (rows ≤ 65535) ⌝ }
+    ensures { λ r. ⌜ r ≡ withRows rows tally ⌝ }
+{
+    let mut after = tally;
+    after.count = tally.count + rows;
+    after
 }
 
 // How many rows there are after an element: those before it, its item's and its own.

@@ -8,12 +8,15 @@ use borrow.Author.Needs.{needs}
 use borrow.Fn.Kinds.{In}
 use borrow.Fn.PlainCycle.{Measures, is, falls, and}
 use denote.Ref.{now}
-use lib.Seq.{slice}
+use lib.Seq.{slice, length-slice}
+use mathlib.Core.List.{List}
 use Rattle.der.proofs.Laws.{InOrder}
 use Rattle.der.specs.declared.element.reading.Element.{Element}
 use Rattle.der.specs.steps.Reading.{readAt, tree}
 use Rattle.crmf.specs.declared.grammar.element.Fit.{Fit}
 use Rattle.crmf.specs.declared.grammar.element.Fitting.the-variants.{Misfit}
+use Rattle.crmf.specs.declared.explain.tally.Tally.{Tally}
+use Rattle.crmf.specs.declared.explain.Walked.the-variants.{Passed}
 use Rattle.crmf.specs.declared.explain.WalkStep.{WalkStep}
 use Rattle.crmf.specs.declared.explain.WalkStep.the-variants.{On}
 use Rattle.crmf.specs.steps.grammar.Fitting.{Fitted, FitsAt}
@@ -23,11 +26,14 @@ use Rattle.crmf.specs.steps.explain.Inner.{Lent, insideWalk, walkFrom, P
 use Rattle.crmf.proofs.theorems.lines.WordFields.{inside-at as inside-field}
 use Rattle.crmf.proofs.theorems.lines.Fitting.{fitted, fit-order}
 use Rattle.crmf.proofs.theorems.explain.Walking.{at-misfit, at-broken, at-passed, at-closed, at-open, inside-free, inside-walked, inside-met}
+use Rattle.crmf.proofs.theorems.recognise.CommonForms.{tried-walk, tried-few}
 use Rattle.crmf.proofs.grammar.element.line_for.Reads as line-for-reads
 use Rattle.der.proofs.element.reading.read_at.Reads as read-at-reads
 use Rattle.crmf.proofs.grammar.table.closed.Reads as closed-reads
 use Rattle.crmf.proofs.grammar.table.inside_of.Reads as inside-of-reads
 use Rattle.crmf.proofs.explain.tally.with_element.Reads as with-element-reads
+use Rattle.crmf.proofs.explain.tally.with_rows.Reads as with-rows-reads
+use Rattle.crmf.proofs.explain.count_part.Reads as count-part-reads
 use Rattle.crmf.proofs.explain.after_inside.Reads as after-inside-reads
 use Rattle.crmf.proofs.explain.element.Reads as element
 use Rattle.crmf.proofs.explain.element.Kinds as element-kinds
@@ -88,7 +94,7 @@ module _ (t : ℕ) where
 
   -- what `inside` knows of the functions that it calls
   abbrev inside-calls : inside-lts.Claims
-  inside-calls = (inside-of-reads.Asked, inside-of-reads.Learnt, list-below, list.Post)
+  inside-calls = (inside-of-reads.Asked, inside-of-reads.Learnt, count-part-reads.Asked, count-part-reads.Learnt, with-rows-reads.Asked, with-rows-reads.Learnt, list-below, list.Post)
 
   -- what `list` knows of the functions that it calls
   abbrev list-calls : list-lts.Claims
@@ -206,15 +212,53 @@ module _ (t : ℕ) where
         omega (arith, begun .pre .1 .few, begun .pre .1 .order),
       )
 
-  inside-list-requires : inside-lts.Need-list-requires inside-calls inside-at inside.Post
-  inside-list-requires c κs = (omega (arith, c .before .before .before .pre .0), c .before .before .before .pre .1)
+  inside-count-part-requires : inside-lts.Need-count-part-requires inside-calls inside-at inside.Post
+  inside-count-part-requires c κs = let l = c .before .before .before .pre .1 in (l .order, l .inside, l .short, l .right)
+
+  inside-sub-with-rows : inside-lts.Need-sub-with-rows inside-calls inside-at inside.Post
+  inside-sub-with-rows c = search needs
+
+  -- an inside that was tried, from the place where its rows are added
+  module _ (c : inside-lts.Then2 inside-calls inside-at inside.Post) where
+    abbrev begun : inside-lts.Start inside-calls inside-at inside.Post
+    begun = c .before .before .before .before .before
+
+    abbrev octets : List ℕ
+    octets = slice (begun .args .fit .content) (begun .args .fit .end) (begun .args .bytes .now)
+
+    few : c .before .count-part .result - 1 ≤ begun .args .fit .end - begun .args .fit .content
+    few =
+        omega (
+          arith,
+          tried-few _ (begun .args .fit .content) (c .before .count-part .result) octets (c .before .count-part .ensures) (c .if2 .taken),
+          length-slice (begun .args .fit .content) (begun .args .fit .end) (begun .args .bytes .now) (begun .pre .1 .inside),
+        )
+
+  inside-with-rows-requires : inside-lts.Need-with-rows-requires inside-calls inside-at inside.Post
+  inside-with-rows-requires c κs = let l = begun c .pre .1 in (omega (arith, l .few, l .order, l .inside, l .short), omega (arith, few c, l .inside, l .short))
 
   inside-returns-2 : inside-lts.Need-returns-2 inside-calls inside-at inside.Post
   inside-returns-2 c =
-      let a = c .before .before .before .before .args in (
-        λ k e. inside-walked k _ (c .before .before .inside-of .ensures ∙ ap insideField e ∙ inside-field k) (a .tally) (a .fit .first)
+      let d = c .before in
+      let a = begun d .args in
+      let known = d .before .before in (
+        λ k e. inside-walked k _ (known .before .inside-of .ensures ∙ ap insideField e ∙ inside-field k) (a .tally) (a .fit .first)
+            (tree (a .fit .content) (octets d)) (known .if1 .left) (Passed (c .with-rows .result))
+            (ap Passed (c .with-rows .ensures)
+            ∙ tried-walk _ (a .fit .content) (d .before .count-part .result) (octets d) (d .before .count-part .ensures) (d .if2 .taken) (a .tally) (a .fit .first)),
+        omega (arith, ap (λ (s : Tally). s .count) (c .with-rows .ensures), few d, begun d .pre .1 .few, begun d .pre .1 .order),
+      )
+
+  inside-list-requires : inside-lts.Need-list-requires inside-calls inside-at inside.Post
+  inside-list-requires c κs = let start = c .before .before .before .before .before in (omega (arith, start .pre .0), start .pre .1)
+
+  inside-returns-3 : inside-lts.Need-returns-3 inside-calls inside-at inside.Post
+  inside-returns-3 c =
+      let known = c .before .before .before in
+      let a = known .before .before .before .args in (
+        λ k e. inside-walked k _ (known .before .inside-of .ensures ∙ ap insideField e ∙ inside-field k) (a .tally) (a .fit .first)
             (tree (a .fit .content) (slice (a .fit .content) (a .fit .end) (a .bytes .now)))
-            (c .before .if1 .left) (c .list .result) (c .list .ensures .0),
+            (known .if1 .left) (c .list .result) (c .list .ensures .0),
         c .list .ensures .1,
       )
 
@@ -309,8 +353,12 @@ pub +element+inside+list-spec : {M : Type 1} → statement M
     (λ t. inside-lts.spec (inside-calls t) (inside-at t) inside.Post
     (inside-inside-of-requires t)
     (inside-returns t)
+    (inside-count-part-requires t)
+    (inside-sub-with-rows t)
+    (inside-with-rows-requires t)
+    (inside-returns-2 t)
     (inside-list-requires t)
-    (inside-returns-2 t))
+    (inside-returns-3 t))
     (λ t. list-lts.spec (list-calls t) (list-at t) list.Post list-Inv-loop list-μ-loop
     (list-loop-holds t)
     (list-element-requires t)

@@ -30,7 +30,8 @@ use Rattle.crmf.specs.steps.explain.Walk.{line, closed, rowsBy, withElem
 use Rattle.crmf.specs.steps.rows.Fill.{rowsOfInput}
 use Rattle.crmf.specs.steps.recognise.Count.{counts, recognised}
 use Rattle.crmf.proofs.theorems.recognise.CountSteps.{not-recognised, same-rows, countsIn, counts-closed, counts-open}
-use Rattle.crmf.proofs.theorems.recognise.RecognisedCounts.{FirstCounted, counted-element, one-matched, recognised-sound}
+use Rattle.crmf.proofs.theorems.recognise.CountedWalks.{FirstCounted, counted-element}
+use Rattle.crmf.proofs.theorems.recognise.RecognisedCounts.{one-matched, recognised-sound}
 use Rattle.crmf.proofs.theorems.recognise.PassedCounts.{walk-recognised}
 use Rattle.crmf.proofs.theorems.explain.Passing.{innerWalk, walk-closed, walk-next}
 use Rattle.crmf.proofs.theorems.explain.Accepts.{accepts}

@@ -2,40 +2,33 @@
 -- of the other edition. Assumes nothing.
 use Prim.Native.Nat.{ℕ, _+_, _≤_}
 use native.Mathlib.Omega.{arith}
-use mathlib.Core.Path.{_≡_, refl, sym, _∙_, ap, subst}
+use mathlib.Core.Path.{_≡_, refl, sym, _∙_, ap}
 use mathlib.Core.Bool.{Bool, true, false, not, and-eq-true-iff}
 use mathlib.Core.List.{List}
 use lib.Dec.{eqb}
 use lib.ListN.{length}
 use borrow.Author.Tests.{eqb-true, not-true}
 use Rattle.der.specs.declared.explain.Nest.the-variants.{End}
-use Rattle.der.specs.meaning.Tree.{Tree, none, element, Single}
+use Rattle.der.specs.meaning.Tree.{Tree, none, Single}
 use Rattle.der.specs.meaning.Bounds.{depth, longest}
 use Rattle.der.specs.steps.Explain.{walkAt}
 use Rattle.der.specs.steps.Recognise.{isList}
 use Rattle.der.specs.steps.Reading.{tree}
 use Rattle.der.proofs.Laws.{is-list-short, is-list-single, single-element}
-use Rattle.crmf.specs.declared.recognise.Recognition.{Recognition}
 use Rattle.crmf.specs.declared.recognise.Recognition.the-variants.{Rows, Unrecognised}
 use Rattle.crmf.specs.declared.explain.tally.Tally.{Tally}
-use Rattle.crmf.specs.declared.explain.Walked.{Walked}
 use Rattle.crmf.specs.declared.explain.Walked.the-variants.{Passed}
-use Rattle.crmf.specs.declared.grammar.judge.Onward.{Onward}
-use Rattle.crmf.specs.declared.grammar.judge.Onward.the-variants.{To, Breaks}
-use Rattle.crmf.specs.declared.grammar.table.FoundLine.{FoundLine}
-use Rattle.crmf.specs.declared.grammar.table.FoundLine.the-variants.{At, Nowhere}
 use Rattle.crmf.specs.meaning.Notation.{Mark, both, alone, Top, Form, once, part, done, _then_}
 use Rattle.crmf.specs.meaning.Grammar.{content}
 use Rattle.crmf.specs.meaning.Language.{readable, occurs, Matches, end, pass, take}
 use Rattle.crmf.specs.meaning.Rows.{longId}
 use Rattle.crmf.specs.steps.explain.LongIds.{longer}
 use Rattle.crmf.specs.steps.grammar.Lines.{Line, start}
-use Rattle.crmf.specs.steps.explain.Walk.{line, findLine, closed, judged, rowsBy, withElement, walk, emptyTally, countOf}
+use Rattle.crmf.specs.steps.explain.Walk.{rowsBy, withElement, walk, emptyTally, countOf}
 use Rattle.crmf.specs.steps.recognise.Count.{mayStand, counts, countsAt, recognised}
-use Rattle.crmf.proofs.theorems.recognise.CountSteps.{not-recognised, same-rows, countsIn, within}
-use Rattle.crmf.proofs.theorems.recognise.CountSteps.{counts-closed, counts-open, counts-nowhere, counts-wrong, counts-breaks, counts-none, counts-next}
-use Rattle.crmf.proofs.theorems.explain.Passing.{innerWalk, walk-closed, walk-next}
-use Rattle.crmf.proofs.theorems.explain.EveryForm.{all, all-read}
+use Rattle.crmf.proofs.theorems.recognise.CountSteps.{not-recognised}
+use Rattle.crmf.proofs.theorems.recognise.CountedWalks.{counts-walk}
+use Rattle.crmf.proofs.theorems.explain.EveryForm.{all}
 use Rattle.crmf.proofs.theorems.editions.ReadableSets.{firstOf}
 use Rattle.crmf.proofs.theorems.editions.FirstSeen.{Edition, first-edition, second-edition, firstSeen, after, after-none, after-known, after-unknown, met-seen}
 use Rattle.crmf.proofs.theorems.editions.OneEdition.{other, other-edition}
@@ -43,53 +36,6 @@ use Rattle.crmf.proofs.theorems.rows.RowsOfLines.{met-count}
 use Rattle.crmf.proofs.theorems.explain.LongIds.{met-long}
 use Rattle.crmf.proofs.theorems.explain.Accepts.{accepts-sound}
 use Rattle.crmf.proofs.theorems.explain.WholeInput.{count-whole}
-
--- What the count found for the first of elements that are recognised: its line, the rows up to its end, and the line after it.
-pub record FirstCounted (e k n id first whole : ℕ) (c : List ℕ) (inside rest : Tree) : Type 0 where
-  pub at : ℕ
-  pub found : findLine k id ≡ At at
-  pub standing : mayStand e (line at) whole ≡ true
-  pub rows : ℕ
-  pub within : countsIn e (line at .inside) (n + rowsBy (line at)) inside ≡ Rows rows
-  pub next : ℕ
-  pub onward : judged (line at .judge) (line at .next) c ≡ To next
-  pub same : counts e k n (element id first whole c inside rest) ≡ counts e next rows rest
-
-module _ (e k n id first whole : ℕ) (c : List ℕ) (inside rest : Tree) where
-  -- Of elements that are recognised, the first has a line in whose form it may stand, an inside that is recognised, and a good value.
-  pub counted-element : (r : ℕ) → counts e k n (element id first whole c inside rest) ≡ Rows r → FirstCounted e k n id first whole c inside rest
-  counted-element r some = by-line (findLine k id) refl
-    where
-      no : counts e k n (element id first whole c inside rest) ≡ Unrecognised → FirstCounted e k n id first whole c inside rest
-      no nothing = not-recognised (sym nothing ∙ some)
-
-      by-inside : (j : ℕ) → (found : findLine k id ≡ At j) → mayStand e (line j) whole ≡ true → (next : ℕ) → judged (line j .judge) (line j .next) c ≡ To next
-          → (m : Recognition) → within e k n id first whole c inside rest j found ≡ m → FirstCounted e k n id first whole c inside rest
-      by-inside j found good next onward Unrecognised nothing = no (counts-none e k n id first whole c inside rest j found nothing)
-      by-inside j found good next onward (Rows m) inner =
-          record {
-            at = j;
-            found = found;
-            standing = good;
-            rows = m;
-            within = inner;
-            next = next;
-            onward = onward;
-            same = counts-next e k n id first whole c inside rest j found next m good onward inner;
-          }
-
-      by-onward : (j : ℕ) → (found : findLine k id ≡ At j) → mayStand e (line j) whole ≡ true → (o : Onward) → judged (line j .judge) (line j .next) c ≡ o
-          → FirstCounted e k n id first whole c inside rest
-      by-onward j found good (Breaks d) breaks = no (counts-breaks e k n id first whole c inside rest j found d breaks)
-      by-onward j found good (To next) onward = by-inside j found good next onward (within e k n id first whole c inside rest j found) refl
-
-      by-test : (j : ℕ) → (found : findLine k id ≡ At j) → (b : Bool) → mayStand e (line j) whole ≡ b → FirstCounted e k n id first whole c inside rest
-      by-test j found false wrong = no (counts-wrong e k n id first whole c inside rest j found wrong)
-      by-test j found true good = by-onward j found good (judged (line j .judge) (line j .next) c) refl
-
-      by-line : (f : FoundLine) → findLine k id ≡ f → FirstCounted e k n id first whole c inside rest
-      by-line Nowhere missing = no (counts-nowhere e k n id first whole c inside rest missing)
-      by-line (At j) found = by-test j found (mayStand e (line j) whole) refl
 
 -- a form that an edition reads leaves what is known of the other's
 own-after : {e : ℕ} → Edition e → (h : ℕ × ℕ) (m : Mark) (p : ℕ) → readable (λ y. eqb y e) m ≡ true → after (other e) h (occurs m p) ≡ h
@@ -108,10 +54,6 @@ record Adds (e n m : ℕ) (s r : Tally) : Type 0 where
   short : r .long .whole ≡ s .long .whole
   clear : firstSeen (other e) r ≡ firstSeen (other e) s
 
--- how a walk passes if it goes on so
-abbrev Goes : ℕ → ℕ → ℕ → Tally → Walked → Type 0
-Goes e n m s w = (r : Tally) × (w ≡ Passed r) × Adds e n m s r
-
 -- an element that may stand in a line's form, met
 adds-met : {e : ℕ} → Edition e → (x : Line) (p w n : ℕ) (s : Tally) → mayStand e x w ≡ true → Adds e n (n + rowsBy x) s (withElement x p w s)
 adds-met {e} ed x p w n s standing =
@@ -128,61 +70,14 @@ adds-none : (e n : ℕ) (s : Tally) → Adds e n n s s
 adds-none e n s = record { rows = refl; short = refl; clear = refl }
 
 -- one step and another
-adds-on : {e n m k : ℕ} {s r v : Tally} → Adds e n m s r → Adds e m k r v → Adds e n k s v
-adds-on g h = record { rows = omega (arith, g .rows, h .rows); short = h .short ∙ g .short; clear = h .clear ∙ g .clear }
-
--- inside an element, from the elements inside it
-goes-within : (e : ℕ) (s : Tally) (i place n : ℕ) (inside : Tree) (r : ℕ)
-    → (counts e i n inside ≡ Rows r → Goes e n r s (walk all s i place inside))
-    → countsIn e i n inside ≡ Rows r → Goes e n r s (innerWalk all s i place inside)
-unfolding innerWalk
-goes-within e s i place n inside r inner some = go (eqb i 0) some
-  where
-    go : (b : Bool) → (elim b as (λ x. Recognition) [ true ↦ Rows n | false ↦ counts e i n inside ]) ≡ Rows r
-        → Goes e n r s (elim b [ true ↦ Passed s | false ↦ walk all s i place inside ])
-    go true free = (s, refl, subst (λ (m : ℕ). Adds e n m s s) (same-rows free) (adds-none e n s))
-    go false starts = inner starts
-
--- whether the walk that reads every form passes so over elements that are recognised
-abbrev Walks : ℕ → Tree → Type 0
-Walks e t = (s : Tally) (k around n r : ℕ) → counts e k n t ≡ Rows r → Goes e n r s (walk all s k around t)
-
--- at the end of the elements
-walks-none : (e : ℕ) → Walks e none
-walks-none e s k around n r some = go (closed k) refl
-  where
-    go : (b : Bool) → closed k ≡ b → Goes e n r s (walk all s k around none)
-    go true shut =
-        (s, walk-closed all s k around shut, subst (λ (m : ℕ). Adds e n m s s) (same-rows (sym (counts-closed e k n shut) ∙ some)) (adds-none e n s))
-    go false gap = not-recognised (sym (counts-open e k n gap) ∙ some)
-
--- at an element, from the elements inside it and those after it
-walks-element : {e : ℕ} → Edition e → (id first whole : ℕ) (c : List ℕ) (inside rest : Tree) → Walks e inside → Walks e rest
-    → Walks e (element id first whole c inside rest)
-walks-element {e} ed id first whole c inside rest inner later s k around n total some =
-    go (counted-element e k n id first whole c inside rest total some)
-  where
-    t : Tree
-    t = element id first whole c inside rest
-
-    go : FirstCounted e k n id first whole c inside rest → Goes e n total s (walk all s k around t)
-    go f =
-        let x = line (f .at) in
-        let own = n + rowsBy x in
-        let m = withElement x first whole s in
-        let (i, is, within) = goes-within e m (x .inside) first own inside (f .rows) (inner m (x .inside) first own (f .rows)) (f .within) in
-        let (r, passed, after-it) = later i (f .next) around (f .rows) total (sym (f .same) ∙ some) in (
-          r,
-          walk-next all s k around id first whole c inside rest (f .at) (f .next) i (f .found) (all-read (x .mark)) is (f .onward) ∙ passed,
-          adds-on (adds-on (adds-met ed x first whole n s (f .standing)) within) after-it,
-        )
+adds-on : (e n m k : ℕ) (s r v : Tally) → Adds e n m s r → Adds e m k r v → Adds e n k s v
+adds-on e n m k s r v g h = record { rows = omega (arith, g .rows, h .rows); short = h .short ∙ g .short; clear = h .clear ∙ g .clear }
 
 -- The walk that reads every form passes over elements that are recognised, with as many rows; it meets no long certReqId and no form of the
 -- other edition.
-counts-walk : {e : ℕ} → Edition e → (t : Tree) → Walks e t
-counts-walk {e} ed none = walks-none e
-counts-walk ed (element id first whole c inside rest) =
-    walks-element ed id first whole c inside rest (counts-walk ed inside) (counts-walk ed rest)
+recognised-passes : {e : ℕ} → Edition e → (t : Tree) (s : Tally) (k around n r : ℕ) → counts e k n t ≡ Rows r
+    → (v : Tally) × (walk all s k around t ≡ Passed v) × Adds e n r s v
+recognised-passes {e} ed = counts-walk e (Adds e) (adds-none e) (adds-on e) (adds-met ed)
 
 -- no parts describe no elements
 none-left : {R : ℕ → Bool} {t : Tree} → Matches R done t → t ≡ none
@@ -197,7 +92,7 @@ one-matched (take f among fits read kept within m) = single-element _ _ _ _ _ _ 
 counts-single : {e : ℕ} → Edition e → (n m : ℕ) (t : Tree) → counts e (start Top) n t ≡ Rows m → Single t
 unfolding content
 counts-single ed n m t some =
-    let (r, passed, more) = counts-walk ed t emptyTally (start Top) 0 n m some in
+    let (r, passed, more) = recognised-passes ed t emptyTally (start Top) 0 n m some in
     one-matched (accepts-sound all emptyTally r Top 0 t passed)
 
 -- an input that is recognised has no fault in its nest
@@ -231,7 +126,7 @@ pub recognised-walk : {e : ℕ} → Edition e → (s : List ℕ) (n : ℕ) → r
 unfolding emptyTally
 recognised-walk {e} ed s n is =
     let (sound, counted) = recognised-sound e n s is in
-    let (r, passed, g) = counts-walk ed (tree 0 s) emptyTally (start Top) 0 0 n counted in
+    let (r, passed, g) = recognised-passes ed (tree 0 s) emptyTally (start Top) 0 0 n counted in
     let fits = is-list-short depth s sound in
     record {
       fits = fits;

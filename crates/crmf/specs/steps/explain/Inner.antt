@@ -1,5 +1,5 @@
 -- What the inner functions of the walk require and answer. Assumes nothing.
-use Prim.Native.Nat.{ℕ, _*_, _≤_, _<_}
+use Prim.Native.Nat.{ℕ, suc, _*_, _≤_, _<_}
 use mathlib.Core.Path.{_≡_}
 use mathlib.Core.Bool.{true, false}
 use mathlib.Core.List.{List}
@@ -19,6 +19,8 @@ use Rattle.crmf.specs.declared.explain.Walked.{Walked}
 use Rattle.crmf.specs.declared.explain.Walked.the-variants.{Passed, Broken}
 use Rattle.crmf.specs.steps.grammar.Packed.{packed}
 use Rattle.crmf.specs.steps.explain.Walk.{line, walk, every}
+use Rattle.crmf.specs.declared.recognise.Recognition.the-variants.{Rows}
+use Rattle.crmf.specs.steps.recognise.Count.{neither, counts}
 
 -- What they are lent: a part of an input from a place to an end, at most two rows for each byte before it, and the table.
 pub record Lent (bytes : List ℕ) (at end count : ℕ) (table : List ℕ) : Type 0 where
@@ -31,6 +33,12 @@ pub record Lent (bytes : List ℕ) (at end count : ℕ) (table : List ℕ) : Typ
 -- the walk over the inside of an element in a line's form
 abbrev pub insideWalk : ℕ → Tally → ℕ → Tree → Walked
 insideWalk k s around t = elim (eqb (line k .inside) 0) [ true ↦ Passed s | false ↦ walk every s (line k .inside) around t ]
+
+-- What trying octets at a place from a line on has come to: one more than their rows, if they are what the lines say in forms that both editions
+-- read, and 0 if that isn't known.
+pub record Tried (state place : ℕ) (octets : List ℕ) (r : ℕ) : Type 0 where
+  pub counted : (n : ℕ) → r ≡ suc n → counts neither state 0 (tree place octets) ≡ Rows n
+  pub few : r ≤ suc (length octets)
 
 -- A walk that passes counts at most two rows for each byte up to an end.
 abbrev pub Passing : ℕ → Walked → Type 0

@@ -20,6 +20,10 @@ use Rattle.crmf.specs.steps.rows.Agree.{draftRows, agree}
 use Rattle.crmf.specs.steps.rows.Fill.{rowsOfInput, filled}
 use Rattle.crmf.specs.steps.explain.Walk.{line, findLine, closed, judged, rowsBy}
 
+-- the number of no edition, for which only forms that both editions read are recognised
+abbrev pub neither : ℕ
+neither = 0
+
 -- whether an edition allows an element of a whole length in a line's form: the form is this edition's, and it is no certReqId that is too long
 abbrev pub mayStand : ℕ → Line → ℕ → Bool
 mayStand e x whole = readable (λ y. eqb y e) (x .mark) && not (longId (x .kind) whole)
