@@ -3,3 +3,4 @@ pub mod JudgeAnswer
 pub mod Judging
 pub mod SearchAnswer
 pub mod Collecting
+pub mod Sizes

@@ -8,8 +8,9 @@ ghost use lib.ListN.{length};
 ghost use lib.Seq.{slice};
 ghost use Rattle.verdict.specs.meaning.Duplicates.{signed};
 ghost use Rattle.verdict.specs.meaning.Searches.{Searches};
-ghost use Rattle.verdict.specs.steps.SearchAnswer.{magnitudeOctet, sameNumber, pairOf, searched};
-ghost use Rattle.verdict.specs.steps.Collecting.{Accepted, mostMessages, Collected, idIn, Short};
+ghost use Rattle.verdict.specs.steps.SearchAnswer.{magnitudeOctet, sameNumber, eightOthers, pairOf, withoutPair, searched};
+ghost use Rattle.verdict.specs.steps.Collecting.{Accepted, Collected, idIn, Short};
+ghost use Rattle.verdict.specs.steps.Sizes.{smallSlots, mediumSlots, largeSlots, mostMessages, slotsOf, Tried};
 
 // A message's certReqId, a signed whole number. It is never a position.
 pub struct ReqId(pub i64);
@@ -25,8 +26,26 @@ pub struct Duplicates {
     pub later: Position,
 }
 
-// The most messages that a batch can have: each has at least 9 of its 65,535 octets.
+// What comes of a try with some slots: the answer, or that there are more messages than slots.
+enum Outcome {
+    Answered(Duplicates),
+    TooMany,
+}
+
+// How many messages each size has a slot for. MOST_MESSAGES is the most that a batch can have: each has at least 9 of its 65,535 octets.
+const SMALL: usize = 32;
+
+const MEDIUM: usize = 1024;
+
+const LARGE: usize = 4096;
+
 const MOST_MESSAGES: usize = 7281;
+
+// The number of the largest size; the medium one has 0, and the large one 1.
+const LARGEST: usize = 2;
+
+// How many positions the search passes over at once if none of them has the number.
+const EIGHT: usize = 8;
 
 // Searches the messages of a batch, read in an edition, for two with the same certReqId, and answers the first pair or that there is none.
 // Refuses what `editions::reader::accept` refuses.
@@ -35,31 +54,117 @@ pub fn search(edition: usize, bytes: &[u8]) -> Duplicates
 {
     let judged = editions::reader::accept(edition, bytes);
     if judged.number != ACCEPTED {
-        return Duplicates {
-            number: judged.number,
-            place: judged.place,
-            found: 0,
-            earlier: Position(0),
-            later: Position(0),
-        };
+        return without_pair(judged.number, judged.place);
     }
-    let mut numbers = [0i64; MOST_MESSAGES];
-    let count = collect(bytes, &mut numbers);
-    first_pair(&numbers[..count])
+    let first = small(bytes);
+    if let Outcome::Answered(answer) = first {
+        return answer;
+    }
+    let second = larger(LARGEST, bytes);
+    let Outcome::Answered(answer) = second else {
+        // never: no batch has more messages than the largest size has slots
+        return without_pair(ACCEPTED, 0);
+    };
+    answer
 }
 
-// Collects the certReqIds of an accepted batch's messages by position, and answers how many there are.
-fn collect(bytes: &[u8], numbers: &mut [i64]) -> usize
-    requires { ⌜ Accepted (now bytes) × (length (now numbers) ≡ mostMessages) ⌝ }
-    ensures { λ r. ⌜ Collected (now (bytes .entry)) (now (numbers .exit)) r ⌝ }
+// An answer without a pair.
+fn without_pair(number: usize, place: usize) -> Duplicates
+    ensures { λ r. ⌜ r ≡ withoutPair number place ⌝ }
+{
+    Duplicates {
+        number,
+        place,
+        found: 0,
+        earlier: Position(0),
+        later: Position(0),
+    }
+}
+
+// Searches with the slots of the small size. It is tried apart from the others: for a single message their recursion would take long.
+fn small(bytes: &[u8]) -> Outcome
+    requires { ⌜ Accepted (now bytes) ⌝ }
+    ensures { λ r. ⌜ Tried smallSlots (now (bytes .entry)) r ⌝ }
+{
+    let mut slots = [0i64; SMALL];
+    search_in(bytes, &mut slots)
+}
+
+// Searches with the smallest of the sizes from the medium one up to a number that has a slot for each message. The sizes are tried by recursion
+// and not in a loop: each has its array in a function of its own, and the compiler keeps these out of a function that calls itself, so that a
+// batch of few messages takes a small stack. A recursion over two sizes it would unfold.
+fn larger(size: usize, bytes: &[u8]) -> Outcome
+    requires { ⌜ Accepted (now bytes) ⌝ }
+    ensures { λ r. ⌜ Tried (slotsOf size) (now (bytes .entry)) r ⌝ }
+{
+    if size == 0 {
+        return medium(bytes);
+    }
+    let smaller = larger(size - 1, bytes);
+    if let Outcome::Answered(answer) = smaller {
+        return Outcome::Answered(answer);
+    }
+    if size == 1 {
+        return large(bytes);
+    }
+    largest(bytes)
+}
+
+// Searches with the slots of the medium size.
+fn medium(bytes: &[u8]) -> Outcome
+    requires { ⌜ Accepted (now bytes) ⌝ }
+    ensures { λ r. ⌜ Tried mediumSlots (now (bytes .entry)) r ⌝ }
+{
+    let mut slots = [0i64; MEDIUM];
+    search_in(bytes, &mut slots)
+}
+
+// Searches with the slots of the large size.
+fn large(bytes: &[u8]) -> Outcome
+    requires { ⌜ Accepted (now bytes) ⌝ }
+    ensures { λ r. ⌜ Tried largeSlots (now (bytes .entry)) r ⌝ }
+{
+    let mut slots = [0i64; LARGE];
+    search_in(bytes, &mut slots)
+}
+
+// Searches with the slots of the largest size, which has one for each message of any batch.
+fn largest(bytes: &[u8]) -> Outcome
+    requires { ⌜ Accepted (now bytes) ⌝ }
+    ensures { λ r. ⌜ Tried mostMessages (now (bytes .entry)) r ⌝ }
+{
+    let mut slots = [0i64; MOST_MESSAGES];
+    search_in(bytes, &mut slots)
+}
+
+// Searches with the slots that are lent, if there is one for each message.
+fn search_in(bytes: &[u8], slots: &mut [i64]) -> Outcome
+    requires { ⌜ Accepted (now bytes) ⌝ }
+    ensures { λ r. ⌜ Tried (length (now (slots .entry))) (now (bytes .entry)) r ⌝ }
+{
+    let count = collect(bytes, slots);
+    if slots.len() < count {
+        return Outcome::TooMany;
+    }
+    Outcome::Answered(first_pair(&slots[..count]))
+}
+
+// Collects the certReqIds of an accepted batch's messages by position, and answers how many there are. If there are more than slots, it stops
+// and answers more than there are slots.
+fn collect(bytes: &[u8], slots: &mut [i64]) -> usize
+    requires { ⌜ Accepted (now bytes) ⌝ }
+    ensures { λ r. ⌜ Collected (now (bytes .entry)) (now (slots .exit)) r ⌝ }
 {
     let end = bytes.len();
     let mut at = reading::read_at(bytes, 0, end).content;
     let mut count = 0;
     while at < end {
+        if count == slots.len() {
+            return count + 1;
+        }
         let message = reading::read_at(bytes, at, end);
         let number = own_id(bytes, message.content, message.end).0;
-        numbers[count] = number;
+        slots[count] = number;
         count += 1;
         at = message.end;
     }
@@ -114,6 +219,10 @@ fn first_pair(numbers: &[i64]) -> Duplicates
         let id = ReqId(numbers[later]);
         earlier = 0;
         while earlier < later {
+            if eight_others(numbers, earlier, later, id) {
+                earlier += EIGHT;
+                continue;
+            }
             if same(ReqId(numbers[earlier]), id) {
                 break 'pair;
             }
@@ -130,13 +239,24 @@ fn first_pair(numbers: &[i64]) -> Duplicates
             later: Position(later),
         };
     }
-    Duplicates {
-        number: ACCEPTED,
-        place: 0,
-        found: 0,
-        earlier: Position(0),
-        later: Position(0),
+    without_pair(ACCEPTED, 0)
+}
+
+// Whether the eight positions from `at` on are before `end` and none of them has a certReqId.
+fn eight_others(numbers: &[i64], at: usize, end: usize, id: ReqId) -> bool
+    requires { ⌜ (at ≤ end) × (end ≤ length (now numbers)) ⌝ }
+    ensures { λ r. ⌜ r ≡ eightOthers (now (numbers .entry)) (id .0) at end ⌝ }
+{
+    if end - at < EIGHT {
+        return false;
     }
+    let mut any = false;
+    let mut i = 0;
+    while i < EIGHT {
+        any = any | same(ReqId(numbers[at + i]), id);
+        i += 1;
+    }
+    !any
 }
 
 // Whether two certReqIds are the same number.

@@ -1,5 +1,6 @@
 -- The duplicate search.
 pub mod Collecting
+pub mod Eights
 pub mod FirstPairs
 pub mod Magnitudes
 pub mod Numbers

@@ -15,14 +15,10 @@ pub record Accepted (s : List ℕ) : Type 0 where
   pub edition : ℕ
   pub zero : answer edition s .number ≡ accepted
 
--- the most messages that a batch can have: each has at least 9 of its 65,535 octets
-abbrev pub mostMessages : ℕ
-mostMessages = 7281
-
--- The first `count` numbers of a list are the certReqIds.
-pub record Collected (s : List ℕ) (numbers : List ℤ) (count : ℕ) : Type 0 where
-  pub within : count ≤ length numbers
-  pub same : take count numbers ≡ ids s
+-- The first `count` slots are the certReqIds; if there are not as many slots, there are more certReqIds than slots.
+pub record Collected (s : List ℕ) (slots : List ℤ) (count : ℕ) : Type 0 where
+  pub same : count ≤ length slots → take count slots ≡ ids s
+  pub more : length slots < count → length slots < length (ids s)
 
 -- the certReqId of the message whose inside is from one place to another: the first element of the first element there
 abbrev pub idIn : List ℕ → ℕ → ℕ → Element

@@ -1,10 +1,10 @@
 -- The answer of the duplicate search, computed for every input: the certReqIds of the tree that is read from it, compared pair by pair.
 -- Assumes nothing.
-use Prim.Native.Nat.{ℕ, zero, suc, _-_}
-use mathlib.Core.Bool.{Bool, true, false}
+use Prim.Native.Nat.{ℕ, zero, suc, _+_, _-_}
+use mathlib.Core.Bool.{Bool, true, false, not, _||_}
 use mathlib.Core.List.{List, [], _∷_}
 use mathlib.Core.Option.{Option, some, none as absent}
-use lib.Dec.{eqb}
+use lib.Dec.{eqb, ltb}
 use lib.IntN.{ℤ, pos, negsuc}
 use lib.ListN.{length, getD, take}
 use Rattle.der.specs.meaning.Refusal.{accepted}
@@ -31,6 +31,15 @@ sameNumber (pos m) (negsuc n) = false
 sameNumber (negsuc m) (pos n) = false
 sameNumber (negsuc m) (negsuc n) = eqb m n
 
+-- whether one of the n positions from p on has the number k
+unfoldable pub anyFrom : List ℤ → ℤ → (p n : ℕ) → Bool
+anyFrom ns k p zero = false
+anyFrom ns k p (suc n) = anyFrom ns k p n || sameNumber (getD ns (p + n) (pos 0)) k
+
+-- whether the eight positions from p on are before `end` and none of them has the number k
+unfoldable pub eightOthers : List ℤ → ℤ → (p end : ℕ) → Bool
+eightOthers ns k p end = elim (ltb (end - p) 8) [ true ↦ false | false ↦ not (anyFrom ns k p 8) ]
+
 -- the first position that has the number k, in a list whose first position is i
 unfoldable pub find : ℤ → ℕ → List ℤ → Option ℕ
 find k i [] = absent
@@ -50,9 +59,13 @@ pairOf ns = pairFrom ns (length ns) 0
 abbrev pub position : ℕ → Position
 position p = record { 0 = p }
 
--- what the search answers of a pair; if there is none, the positions are 0 and 0
+-- an answer without a pair: the positions are 0 and 0
+abbrev pub withoutPair : (number place : ℕ) → Duplicates
+withoutPair number place = record { number = number; place = place; found = 0; earlier = position 0; later = position 0 }
+
+-- what the search answers of a pair, or if there is none
 abbrev pub searched : Option (ℕ × ℕ) → Duplicates
-searched absent = record { number = accepted; place = 0; found = 0; earlier = position 0; later = position 0 }
+searched absent = withoutPair accepted 0
 searched (some p) = record { number = accepted; place = 0; found = 1; earlier = position (p .0); later = position (p .1) }
 
 -- the answer for every input (SPECIFICATION 8): "Refusals: reading's without 11"
@@ -60,6 +73,6 @@ unfoldable pub duplicatesAnswer : ℕ → List ℕ → Duplicates
 duplicatesAnswer e s =
     let a = answer e s in
     elim (eqb (a .number) accepted) [
-      | false ↦ record { number = a .number; place = a .place; found = 0; earlier = position 0; later = position 0 }
+      | false ↦ withoutPair (a .number) (a .place)
       | true ↦ searched (pairOf (ids s))
     ]

@@ -1,29 +1,23 @@
 -- `verdict::duplicates::first_pair` meets its contract. No pair has its later position before the outer loop's, and no position that the inner
--- loop has passed is the earlier one. So the loops stop early at the first pair, and if they don't there is none. Assumes nothing.
-use Prim.Native.Nat.{ℕ, _-_, _^_, _≤_, _<_}
+-- loop has passed, one by one or eight at once, is the earlier one. So the loops stop early at the first pair, and if they don't there is none.
+-- Assumes nothing.
+use Prim.Native.Nat.{ℕ, _+_, _-_, _≤_, _<_}
 use native.Mathlib.Numerals.{add-one}
 use native.Mathlib.Omega.{arith}
 use mathlib.Core.Logic.{⊎-elim}
 use mathlib.Core.Path.{_≡_, sym, ap, _∙_}
-use mathlib.Core.Bool.{Bool}
 use mathlib.Core.List.{List}
 use borrow.Author.Count.{below-more}
 use borrow.Author.Needs.{needs}
 use lib.IntN.{ℤ}
 use lib.ListN.{length}
-use lib.Signed.{mag}
 use mir.Facts.{toZ-ofZ}
-use mir.Syntax.{w64}
-use mir.Val.{toZ, ofZ}
-use Rattle.verdict.specs.steps.SearchAnswer.{sameNumber, searched}
-use Rattle.verdict.proofs.theorems.duplicates.Numbers.{same-equal, same-differs}
+use Rattle.verdict.specs.steps.SearchAnswer.{eightOthers, searched}
+use Rattle.verdict.proofs.theorems.duplicates.Numbers.{same-equal, same-differs, compared}
 use Rattle.verdict.proofs.theorems.duplicates.FirstPairs.{at, Without, NoneBefore, first-equal, none-here, pair-found, pair-absent}
+use Rattle.verdict.proofs.theorems.duplicates.Eights.{eight-passed}
 use Rattle.verdict.proofs.duplicates.first_pair.Statement.{statement}
 use Rattle.verdict.proofs.duplicates.first_pair.Tie as tie
-
--- what a comparison of numbers of 64 bits says
-compared : (x y z : ℤ) (b : Bool) → mag x < 2 ^ 63 → z ≡ y → b ≡ sameNumber (toZ w64 (ofZ w64 x)) z → sameNumber x y ≡ b
-compared x y z b fits is test = sym (rw (toZ-ofZ {w = w64} {z = x} (record { sfits = fits }), is) at test)
 
 -- What holds in the inner loop: no pair has its later position before this one, which has the number z, and no earlier position that was
 -- passed has z.
@@ -63,29 +57,55 @@ loop-holds c =
       passed = λ i h e. omega arith;
     }
 
-mul-t11 : tie.Need-mul-t11 Inv-loop μ-loop Inv-pair μ-pair
-mul-t11 c = search needs
+eight-others-requires : tie.Need-eight-others-requires Inv-loop μ-loop Inv-pair μ-pair
+eight-others-requires c κs = search needs
 
-shared-slice-copy-out-t13 : tie.Need-shared-slice-copy-out-t13 Inv-loop μ-loop Inv-pair μ-pair
-shared-slice-copy-out-t13 c = search needs
+-- what the eight that were passed over say
+eight : (c : tie.Then1 Inv-loop μ-loop Inv-pair μ-pair) → let l = c .before .before .before in
+    let ns = l .before .before .before .before .args .numbers .now in
+    let later = l .before .before .before .pair .later in
+    (l .loop .earlier + 8 ≤ later) × (Without (at ns later) (l .loop .earlier) ns → Without (at ns later) (l .loop .earlier + 8) ns)
+eight c =
+    let l = c .before .before .before in
+    let ns = l .before .before .before .before .args .numbers .now in
+    let later = l .before .before .before .pair .later in
+    let test = ap (λ (k : ℤ). eightOthers ns k (l .loop .earlier) later) (sym (l .loop .inv .own)) ∙ sym (c .before .eight-others .ensures) ∙ c .if1 .taken in
+    eight-passed ns (at ns later) (l .loop .earlier) later test
+
+add-earlier : tie.Need-add-earlier Inv-loop μ-loop Inv-pair μ-pair
+add-earlier c = omega (arith, eight c .0, c .before .before .before .loop .inv .there)
+
+loop-less : tie.Need-loop-less Inv-loop μ-loop Inv-pair μ-pair
+loop-less c = omega (arith, eight c .0, c .before .before .before .loop .inv .there)
+
+loop-again : tie.Need-loop-again Inv-loop μ-loop Inv-pair μ-pair
+loop-again c =
+    let inv = c .before .before .before .loop .inv in
+    record { there = inv .there; own = inv .own; none = inv .none; passed = eight c .1 (inv .passed) }
+
+mul-t12 : tie.Need-mul-t12 Inv-loop μ-loop Inv-pair μ-pair
+mul-t12 c = search needs
+
+shared-slice-copy-out-t14 : tie.Need-shared-slice-copy-out-t14 Inv-loop μ-loop Inv-pair μ-pair
+shared-slice-copy-out-t14 c = search needs
 
 same-requires : tie.Need-same-requires Inv-loop μ-loop Inv-pair μ-pair
 same-requires c κs = search needs
 
-add-earlier : tie.Need-add-earlier Inv-loop μ-loop Inv-pair μ-pair
-add-earlier c = search needs
+add-earlier-2 : tie.Need-add-earlier-2 Inv-loop μ-loop Inv-pair μ-pair
+add-earlier-2 c = search needs
 
-loop-less : tie.Need-loop-less Inv-loop μ-loop Inv-pair μ-pair
-loop-less c = search needs
+loop-less-2 : tie.Need-loop-less-2 Inv-loop μ-loop Inv-pair μ-pair
+loop-less-2 c = search needs
 
-loop-again : tie.Need-loop-again Inv-loop μ-loop Inv-pair μ-pair
-loop-again c =
-    let l = c .before .before .before .before in
+loop-again-2 : tie.Need-loop-again-2 Inv-loop μ-loop Inv-pair μ-pair
+loop-again-2 c =
+    let l = c .before .before .before .before .before .before in
     let ns = l .before .before .before .before .args .numbers .now in
     let x = at ns (l .loop .earlier) in
     let y = at ns (l .before .before .before .pair .later) in
     let inv = l .loop .inv in
-    let test = compared x y _ _ (c .before .before .t13 .given) (inv .own) (c .before .same .ensures) ∙ c .if1 .left in
+    let test = compared x y _ _ (c .before .before .t14 .given) (inv .own) (c .before .same .ensures) ∙ c .if2 .left in
     record { there = inv .there; own = inv .own; none = inv .none; passed = below-more _ _ (inv .passed) (same-differs x y test) }
 
 add-later : tie.Need-add-later Inv-loop μ-loop Inv-pair μ-pair
@@ -106,18 +126,21 @@ returns : tie.Need-returns Inv-loop μ-loop Inv-pair μ-pair
 returns c =
     let ns = c .before .before .before .args .numbers .now in
     let later = c .before .before .pair .later in
-    ⊎-elim (λ w. absurd (omega (arith, w .0 .left, c .if2 .taken))) (λ w.
+    ⊎-elim (λ w. absurd (omega (arith, w .0 .left, c .if3 .taken))) (λ w.
     let i = w .2 .earlier in
     let inv = w .2 .inv in
-    let test = compared (at ns i) (at ns later) _ _ (w .4 .given) (inv .own) (w .5 .ensures) ∙ w .6 .taken in
+    let test = compared (at ns i) (at ns later) _ _ (w .6 .given) (inv .own) (w .7 .ensures) ∙ w .8 .taken in
     let first = first-equal ns later (inv .there) (inv .none) i (w .3 .taken) (same-equal (at ns i) (at ns later) test) (inv .passed) in
-    rw (w .7) (ap searched (sym (pair-found ns i later .1 first)))) (c .before .pair-test .came)
+    rw (w .9) (ap searched (sym (pair-found ns i later .1 first)))) (c .before .pair-test .came)
+
+without-pair-requires : tie.Need-without-pair-requires Inv-loop μ-loop Inv-pair μ-pair
+without-pair-requires c κs = search needs
 
 returns-2 : tie.Need-returns-2 Inv-loop μ-loop Inv-pair μ-pair
 returns-2 c =
-    let ns = c .before .before .before .args .numbers .now in
-    let inv = c .before .before .pair .inv in
-    ap searched (sym (pair-absent ns .1 (λ i j e. omega (arith, c .if2 .left, inv .1 i j e, e .there))))
+    let ns = c .before .before .before .before .args .numbers .now in
+    let inv = c .before .before .before .pair .inv in
+    c .without-pair .ensures ∙ ap searched (sym (pair-absent ns .1 (λ i j e. omega (arith, c .before .if3 .left, inv .1 i j e, e .there))))
 
 pub first-pair-spec : {M : Type 1} → statement M
 first-pair-spec =
@@ -131,14 +154,19 @@ first-pair-spec =
     mul-t5
     shared-slice-copy-out-t8
     loop-holds
-    mul-t11
-    shared-slice-copy-out-t13
-    same-requires
+    eight-others-requires
     add-earlier
     loop-less
     loop-again
+    mul-t12
+    shared-slice-copy-out-t14
+    same-requires
+    add-earlier-2
+    loop-less-2
+    loop-again-2
     add-later
     pair-less
     pair-again
     returns
+    without-pair-requires
     returns-2)

@@ -1,5 +1,5 @@
--- The walk over an accepted batch's messages from place to place. Each step reads a message, whose certReqId has 1 to 8 content octets, and
--- there are no more messages than the array has room for. Assumes nothing.
+-- The walk over an accepted batch's messages from place to place. Each step reads a message, whose certReqId has 1 to 8 content octets; if no
+-- slot is left for it, there are more messages than slots. There are never more than the largest size has. Assumes nothing.
 use Prim.Native.Nat.{ℕ, _+_, _-_, _≤_, _<_}
 use native.Mathlib.Numerals.{add-one}
 use native.Mathlib.Omega.{arith}
@@ -25,7 +25,8 @@ use Rattle.crmf.proofs.Laws.{MessageParts, batch-content, message-parts, fieldR
 use Rattle.editions.proofs.Laws.{nest-read, accepted-in}
 use Rattle.verdict.specs.meaning.Duplicates.{signed, ownIds}
 use Rattle.verdict.specs.steps.SearchAnswer.{ids}
-use Rattle.verdict.specs.steps.Collecting.{Accepted, mostMessages, Collected, idIn, Short}
+use Rattle.verdict.specs.steps.Collecting.{Accepted, Collected, idIn, Short}
+use Rattle.verdict.specs.steps.Sizes.{mostMessages}
 
 -- the messages from a place on
 abbrev pub messagesFrom : List ℕ → ℕ → List Message
@@ -105,53 +106,48 @@ step s p k among some =
       within = omega arith;
     }
 
--- How far the walk is: `count` numbers are collected, and the messages from a place on are left.
-pub record Walk (s : List ℕ) (numbers : List ℤ) (at count : ℕ) : Type 0 where
-  pub room : length numbers ≡ mostMessages
-  pub counted : count ≤ mostMessages
-  pub same : take count numbers ++ map idOf (messagesFrom s at) ≡ ids s
+-- How far the walk is: `count` numbers are collected in the slots, and the messages from a place on are left.
+pub record Walk (s : List ℕ) (slots : List ℤ) (at count : ℕ) : Type 0 where
+  pub counted : count ≤ length slots
+  pub same : take count slots ++ map idOf (messagesFrom s at) ≡ ids s
   pub among : Among s at
 
 -- the walk begins
-pub walk-start : (s : List ℕ) (numbers : List ℤ) → Known s → length numbers ≡ mostMessages → Walk s numbers (readAt s 0 (length s) .content) 0
+pub walk-start : (s : List ℕ) (slots : List ℤ) → Known s → Walk s slots (readAt s 0 (length s) .content) 0
 unfolding ids ownIds
-walk-start s numbers k room =
+walk-start s slots k =
     record {
-      room = room;
       counted = omega arith;
       same = ap (map idOf) (sym (k .start));
       among = λ m at. rw (k .start) at;
     }
 
-module _ (s : List ℕ) (numbers : List ℤ) (at count : ℕ) (k : Known s) (w : Walk s numbers at count) where
+module _ (s : List ℕ) (slots : List ℤ) (at count : ℕ) (w : Walk s slots at count) where
   -- the walk ends
-  pub walk-end : length s ≤ at → Collected s numbers count
+  pub walk-end : length s ≤ at → Collected s slots count
   walk-end past =
-      record {
-        within = omega (arith, w .counted, w .room);
-        same = sym (append-nil (take count numbers)) ∙ ap (λ (ms : List Message). take count numbers ++ map idOf ms) (sym (none-from s at past)) ∙ w .same;
-      }
+      let all : take count slots ≡ ids s =
+      sym (append-nil (take count slots)) ∙ ap (λ (ms : List Message). take count slots ++ map idOf ms) (sym (none-from s at past)) ∙ w .same in
+      record { same = λ h. all; more = λ h. absurd (omega (arith, h, w .counted)) }
 
   module _ (next : Step s at) where
-    -- there is room for one number more
-    pub walk-room : count < mostMessages
-    unfolding ids ownIds
-    walk-room =
-        let front : length (take count numbers) ≡ count = length-take-le count numbers (omega (arith, w .counted, w .room)) in
-        let all : length (take count numbers) + length (map idOf (messagesFrom s at)) ≡ length (messages (tree 0 s)) =
-        sym (length-append (take count numbers) (map idOf (messagesFrom s at))) ∙ ap length (w .same) ∙ length-map (messages (tree 0 s)) idOf in
-        omega (arith, k .few, length-map (messagesFrom s at) idOf, ap length (next .split))
+    -- no slot is left
+    pub walk-full : count ≡ length slots → Collected s slots (count + 1)
+    walk-full full =
+        let front : length (take count slots) ≡ count = length-take-le count slots (w .counted) in
+        let all : length (take count slots) + length (map idOf (messagesFrom s at)) ≡ length (ids s) =
+        sym (length-append (take count slots) (map idOf (messagesFrom s at))) ∙ ap length (w .same) in
+        let more : length slots < length (ids s) = omega (arith, length-map (messagesFrom s at) idOf, ap length (next .split)) in
+        record { same = λ h. absurd (omega arith); more = λ h. more }
 
     -- the next message's number is collected
-    pub walk-more : (z : ℤ) → z ≡ idOf (next .message) → Walk s (set numbers count z) (readAt s at (length s) .end) (count + 1)
-    walk-more z is =
+    pub walk-more : count < length slots → (z : ℤ) → z ≡ idOf (next .message) → Walk s (set slots count z) (readAt s at (length s) .end) (count + 1)
+    walk-more room z is =
         let rest = messagesFrom s (readAt s at (length s) .end) in
-        let front = take count numbers in
-        let here : take (count + 1) (set numbers count z) ≡ front ++ (z ∷ []) =
-        rw add-one (take-suc-set numbers count z (omega (arith, walk-room, w .room))) in
+        let front = take count slots in
+        let here : take (count + 1) (set slots count z) ≡ front ++ (z ∷ []) = rw add-one (take-suc-set slots count z room) in
         record {
-          room = length-set numbers count z ∙ w .room;
-          counted = omega (arith, walk-room);
+          counted = omega (arith, length-set slots count z);
           same = ap (λ (l : List ℤ). l ++ map idOf rest) here
               ∙ append-assoc front (z ∷ []) (map idOf rest)
               ∙ ap (λ (y : ℤ). front ++ (y ∷ map idOf rest)) is
@@ -159,3 +155,8 @@ module _ (s : List ℕ) (numbers : List ℤ) (at count : ℕ) (k : Known s) (w :
               ∙ w .same;
           among = λ m n. w .among m (rw (next .split) (List·Memᴰ·tail n));
         }
+
+-- There are no more messages than the largest size has slots.
+pub accepted-few : (s : List ℕ) → Octets s → Accepted s → length (ids s) ≤ mostMessages
+unfolding ids ownIds
+accepted-few s octets a = omega (arith, accepted-known s octets a .few, length-map (messages (tree 0 s)) idOf)

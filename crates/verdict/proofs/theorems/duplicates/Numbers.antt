@@ -7,8 +7,9 @@ use lib.Dec.{eqb}
 use lib.IntN.{ℤ, pos, negsuc}
 use lib.Signed.{mag}
 use borrow.Author.Tests.{eqb-true, eqb-false, eq-eqb, ne-eqb}
+use mir.Facts.{toZ-ofZ}
 use mir.Syntax.{w64}
-use mir.Val.{ofZ}
+use mir.Val.{toZ, ofZ}
 use Rattle.verdict.specs.steps.SearchAnswer.{sameNumber}
 
 -- numbers that pass the test are equal
@@ -44,3 +45,7 @@ same-bits (negsuc m) (negsuc n) p q = by-test (eqb m n) refl
     by-test : (b : Bool) → eqb m n ≡ b → eqb (2 ^ 64 - suc m) (2 ^ 64 - suc n) ≡ eqb m n
     by-test true e = eq-eqb (2 ^ 64 - suc m) (2 ^ 64 - suc n) (ap (λ (k : ℕ). 2 ^ 64 - suc k) (eqb-true m n e)) ∙ sym e
     by-test false e = ne-eqb (2 ^ 64 - suc m) (2 ^ 64 - suc n) (λ f. eqb-false m n e (omega arith)) ∙ sym e
+
+-- what a comparison with a number of 64 bits says
+pub compared : (x y z : ℤ) (b : Bool) → mag x < 2 ^ 63 → z ≡ y → b ≡ sameNumber (toZ w64 (ofZ w64 x)) z → sameNumber x y ≡ b
+compared x y z b fits is test = sym (rw (toZ-ofZ {w = w64} {z = x} (record { sfits = fits }), is) at test)

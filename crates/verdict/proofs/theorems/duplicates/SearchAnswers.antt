@@ -15,12 +15,12 @@ use Rattle.editions.specs.steps.Reading.{answer}
 use Rattle.editions.proofs.Laws.{nest-read}
 use Rattle.verdict.specs.declared.duplicates.Duplicates.{Duplicates}
 use Rattle.verdict.specs.meaning.Duplicates.{ownIds, Equal, FirstEqual}
-use Rattle.verdict.specs.steps.SearchAnswer.{ids, pairOf, position, searched, duplicatesAnswer}
+use Rattle.verdict.specs.steps.SearchAnswer.{ids, pairOf, withoutPair, searched, duplicatesAnswer}
 use Rattle.verdict.proofs.theorems.duplicates.FirstPairs.{pair-found, pair-absent}
 
 -- a refusal is passed on
 pub answer-refused : (e : ℕ) (s : List ℕ) (a : Answer) → a ≡ answer e s → (a .number ≡ accepted → ⊥)
-    → _≡_ {A = Duplicates} (record { number = a .number; place = a .place; found = 0; earlier = position 0; later = position 0 }) (duplicatesAnswer e s)
+    → withoutPair (a .number) (a .place) ≡ duplicatesAnswer e s
 unfolding duplicatesAnswer
 answer-refused e s a is not = rw (is, duplicatesAnswer, ne-eqb (answer e s .number) 0 (rw is at not))
 

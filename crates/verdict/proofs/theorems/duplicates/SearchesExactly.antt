@@ -14,17 +14,13 @@ use Rattle.editions.specs.steps.Reading.{answer}
 use Rattle.editions.proofs.Laws.{answer-related, related-answer, accepted-related}
 use Rattle.verdict.specs.declared.duplicates.Duplicates.{Duplicates}
 use Rattle.verdict.specs.meaning.Searches.{Searches, refused, pair, none}
-use Rattle.verdict.specs.steps.SearchAnswer.{ids, pairOf, position, searched, duplicatesAnswer}
+use Rattle.verdict.specs.steps.SearchAnswer.{ids, pairOf, position, withoutPair, searched, duplicatesAnswer}
 use Rattle.verdict.proofs.theorems.duplicates.FirstPairs.{pair-found, pair-absent}
 use Rattle.verdict.proofs.theorems.duplicates.SearchAnswers.{answer-refused, answer-searched, nest-ids}
 
 -- an answer is related
 abbrev Related : ℕ → List ℕ → Duplicates → Type 0
 Related e s d = Searches e s (d .number) (d .place) (d .found) (d .earlier .0) (d .later .0)
-
--- a refusal
-abbrev refusal : ℕ → ℕ → Duplicates
-refusal n p = record { number = n; place = p; found = 0; earlier = position 0; later = position 0 }
 
 module _ (e : ℕ) (s : List ℕ) (octets : Octets s) where
   to-answer : (d : Duplicates) → d ≡ duplicatesAnswer e s → Related e s d → Related e s (duplicatesAnswer e s)
@@ -44,7 +40,7 @@ module _ (e : ℕ) (s : List ℕ) (octets : Octets s) where
   by-number true test = by-pair (eqb-true _ _ test) (pairOf (ids s)) refl
   by-number false test =
       let some-refusal = eqb-false _ _ test in
-      to-answer (refusal (answer e s .number) (answer e s .place)) (answer-refused e s (answer e s) refl some-refusal)
+      to-answer (withoutPair (answer e s .number) (answer e s .place)) (answer-refused e s (answer e s) refl some-refusal)
       (refused (answer-related e s octets) some-refusal)
 
   -- What is computed is related.
