@@ -1,153 +1,76 @@
-// Times reading, writing and accepting against copying, a plain walk of the nest and OpenSSL, on the same batches.
-#include "names.h"
-#include "phagundro.h"
+// The tables of accepted batches: a row for each call, a column for each batch.
+#include "calls.h"
+#include "inputs.h"
 #include "rounds.h"
-#include "subjects.h"
+#include "show.h"
 #include "tables.h"
 
 #include <stdio.h>
-#include <string.h>
 
-enum { NUMBERS = PHAGUNDRO_ROW_NUMBERS * PHAGUNDRO_MOST_ROWS, EDITION = PHAGUNDRO_RFC4211 };
-
-// An input, its rows, and room for what is written.
-static uint8_t batch[PHAGUNDRO_LONGEST + 1], copy[PHAGUNDRO_LONGEST];
-static size_t length, table[NUMBERS], draft[NUMBERS], numbers;
-
-static bool do_copy(void)
-{
-    memcpy(copy, batch, length);
-    __asm__ volatile("" : : "r"(copy) : "memory");
-    return true;
-}
-
-static bool do_floor(void)
-{
-    return floor_walk(batch, length);
-}
-
-static bool do_accept(void)
-{
-    return phagundro_accept(EDITION, batch, length) == PHAGUNDRO_ACCEPTED;
-}
-
-static bool do_read(void)
-{
-    return phagundro_read(EDITION, batch, length, table, NUMBERS).number == PHAGUNDRO_ACCEPTED;
-}
-
-static bool do_cleared_read(void)
-{
-    memset(table, 0, numbers * sizeof table[0]);
-    return do_read();
-}
-
-static bool do_write(void)
-{
-    return phagundro_write(EDITION, draft, numbers, batch, length, copy, sizeof copy).count == length;
-}
-
-static bool do_openssl(void)
-{
-    return openssl_decode(batch, length);
-}
-
-enum { COPY, FLOOR, ACCEPT, READ, CLEARED, WRITE, OPENSSL, SUBJECTS };
-
-static subject subjects[SUBJECTS] = {
-    [COPY] = {"memcpy", do_copy},
-    [FLOOR] = {"floor", do_floor},
-    [ACCEPT] = {"accept", do_accept},
-    [READ] = {"read", do_read},
-    [CLEARED] = {"read, rows cleared first", do_cleared_read},
-    [WRITE] = {"write", do_write},
-    [OPENSSL] = {"OpenSSL", do_openssl},
+static const struct {
+    const char *name;
+    int of, to;
+} ratios[] = {
+    {"write / read", WRITE, READ},
+    {"write, leaves elsewhere / read", MOVED, READ},
+    {"duplicates / accept", DUPLICATES, ACCEPT},
+    {"read / strict walk", READ, STRICT},
 };
 
-static void take_rows(const char *name)
+static figures inputs[MOST_INPUTS];
+
+static void show_inputs(int count)
 {
-    phagundro_answer answer = phagundro_read(EDITION, batch, length, draft, NUMBERS);
-    if (answer.number != PHAGUNDRO_ACCEPTED)
-        fail("is not accepted", name);
-    numbers = PHAGUNDRO_ROW_NUMBERS * answer.count;
+    begin_row("bytes");
+    for (int i = 0; i < count; i++)
+        show_number((double)inputs[i].length, 0);
+    end_row();
+    begin_row("rows");
+    for (int i = 0; i < count; i++)
+        show_number((double)inputs[i].rows, 0);
+    end_row();
+    begin_row("messages");
+    for (int i = 0; i < count; i++)
+        show_number((double)inputs[i].messages, 0);
+    end_row();
+    begin_row("duplicates found");
+    for (int i = 0; i < count; i++)
+        show_words(inputs[i].pair_found ? "yes" : "no");
+    end_row();
 }
 
-static void load(const char *path)
+static void show_times(int count)
 {
-    FILE *file = fopen(path, "rb");
-    if (file == NULL)
-        fail("cannot be opened", path);
-    length = fread(batch, 1, sizeof batch, file);
-    fclose(file);
+    for (int call = 0; call < CALLS; call++) {
+        begin_row(call_name(call));
+        for (int i = 0; i < count; i++)
+            show_number(inputs[i].best[call] * 1e9 / (double)inputs[i].length, 3);
+        end_row();
+    }
 }
 
-typedef struct {
-    const char *name;
-    size_t length, rows;
-    double best[SUBJECTS];
-} figures;
-
-static void show_head(bool ratio)
+static void show_ratio(const char *name, int count, int of, int to)
 {
-    if (ratio)
-        printf("\nTimes the floor:\n");
-    else
-        printf("\nNanoseconds a byte, best of %d rounds:\n", ROUNDS);
-    printf("\n| input | bytes | rows |");
-    for (int s = 0; s < SUBJECTS; s++)
-        printf(" %s |", subjects[s].name);
-    printf("\n|---|---|---|");
-    for (int s = 0; s < SUBJECTS; s++)
-        printf("---|");
-    printf("\n");
-}
-
-static void show_figures(const figures *input, bool ratio)
-{
-    printf("| %s | %zu | %zu |", input->name, input->length, input->rows);
-    for (int s = 0; s < SUBJECTS; s++)
-        if (input->best[s] == 0)
-            printf(" - |");
-        else if (ratio)
-            printf(" %.2f |", input->best[s] / input->best[FLOOR]);
-        else
-            printf(" %.3f |", input->best[s] * 1e9 / (double)input->length);
-    printf("\n");
-}
-
-static void measure_batch(const char *name, figures *input)
-{
-    take_rows(name);
-    best_times(subjects, SUBJECTS, name, input->best);
-    input->name = name;
-    input->length = length;
-    input->rows = numbers / PHAGUNDRO_ROW_NUMBERS;
-}
-
-static void measure_file(const char *path, figures *input)
-{
-    const char *folder = strrchr(path, '/');
-    load(path);
-    measure_batch(folder ? folder + 1 : path, input);
-}
-
-static void measure_names(figures *input)
-{
-    length = names_batch(batch);
-    measure_batch("three attributes in each RDN", input);
+    begin_row(name);
+    for (int i = 0; i < count; i++)
+        show_number(inputs[i].best[of] / inputs[i].best[to], 2);
+    end_row();
 }
 
 void measure_batches(int count, char **paths)
 {
-    static figures inputs[MOST_BATCHES + 1];
-    if (!openssl_there)
-        subjects[OPENSSL].run = NULL;
     for (int i = 0; i < count; i++)
-        measure_file(paths[i], &inputs[i]);
-    measure_names(&inputs[count]);
-    for (int ratio = 0; ratio < 2; ratio++) {
-        show_head(ratio);
-        for (int i = 0; i <= count; i++)
-            show_figures(&inputs[i], ratio);
-    }
+        measure_calls(paths[i], &inputs[i]);
+    printf("\nNanoseconds a byte, best of %d rounds:\n\n", ROUNDS);
+    show_head(count, paths);
+    show_inputs(count);
+    show_times(count);
+    printf("\nTimes the strict walk:\n\n");
+    show_head(count, paths);
+    for (int call = 0; call < CALLS; call++)
+        show_ratio(call_name(call), count, call, STRICT);
+    printf("\nRatios:\n\n");
+    show_head(count, paths);
+    for (size_t r = 0; r < sizeof ratios / sizeof ratios[0]; r++)
+        show_ratio(ratios[r].name, count, ratios[r].of, ratios[r].to);
 }

@@ -1,75 +1,50 @@
-// A batch of messages with an EC key and a signature. It is put together from its end, so that each length is known when it is written.
+// A batch of messages with an EC key and a signature.
 #include "names.h"
+#include "encoding.h"
 
 #include <stdio.h>
 #include <string.h>
 
 enum { KEY_OCTETS = 64, SIGNATURE_OCTETS = 70, MOST_AROUND = 4 };
 
-static uint8_t room[PHAGUNDRO_LONGEST];
-static size_t start; // of what is there so far
-
-static void put(const void *bytes, size_t length)
-{
-    start -= length;
-    memcpy(room + start, bytes, length);
-}
-
-static void put_octet(size_t octet)
-{
-    put(&(uint8_t){(uint8_t)octet}, 1);
-}
-
 #define PUT(...) put((const uint8_t[]){__VA_ARGS__}, sizeof((const uint8_t[]){__VA_ARGS__}))
-
-// The header of what was put since `end` was the start.
-static void put_header(uint8_t identifier, size_t end)
-{
-    size_t length = end - start;
-    put_octet(length);
-    if (length > 0xFF)
-        put_octet(length >> 8);
-    if (length > 0x7F)
-        put_octet(length > 0xFF ? 0x82 : 0x81);
-    put_octet(identifier);
-}
 
 // An attribute of the type 2.5.4.n.
 static void put_attribute(uint8_t n, uint8_t identifier, const char *value)
 {
-    size_t end = start;
+    size_t before = put_so_far();
     put(value, strlen(value));
-    put_header(identifier, end);
+    put_header(identifier, before);
     PUT(0x06, 0x03, 0x55, 0x04, n);
-    put_header(0x30, end);
+    put_header(0x30, before);
 }
 
-// The Name of one RDN around what was put since `end` was the start, and the template's field around it.
-static void put_name(uint8_t field, size_t end)
+// The Name of one RDN around what was put since there were so many bytes, and the template's field around it.
+static void put_name(uint8_t field, size_t before)
 {
-    put_header(0x31, end);
-    put_header(0x30, end);
-    put_header(field, end);
+    put_header(0x31, before);
+    put_header(0x30, before);
+    put_header(field, before);
 }
 
 static void put_issuer(void)
 {
-    size_t end = start;
+    size_t before = put_so_far();
     put_attribute(11, 0x0C, "Example unit 3"); // organizationalUnitName
     put_attribute(11, 0x0C, "Example unit 2");
     put_attribute(11, 0x0C, "Example unit 1");
-    put_name(0xA3, end);
+    put_name(0xA3, before);
 }
 
 static void put_subject(unsigned number)
 {
     char phone[20];
     snprintf(phone, sizeof phone, "phone %04u", number);
-    size_t end = start;
+    size_t before = put_so_far();
     put_attribute(10, 0x0C, "Example GmbH"); // organizationName
     put_attribute(3, 0x0C, phone);           // commonName
     put_attribute(6, 0x13, "DE");            // countryName
-    put_name(0xA5, end);
+    put_name(0xA5, before);
 }
 
 // A point of the curve P-256, its generator.
@@ -80,46 +55,45 @@ static void put_public_key(void)
         0x77, 0x03, 0x7D, 0x81, 0x2D, 0xEB, 0x33, 0xA0, 0xF4, 0xA1, 0x39, 0x45, 0xD8, 0x98, 0xC2, 0x96,
         0x4F, 0xE3, 0x42, 0xE2, 0xFE, 0x1A, 0x7F, 0x9B, 0x8E, 0xE7, 0xEB, 0x4A, 0x7C, 0x0F, 0x9E, 0x16,
         0x2B, 0xCE, 0x33, 0x57, 0x6B, 0x31, 0x5E, 0xCE, 0xCB, 0xB6, 0x40, 0x68, 0x37, 0xBF, 0x51, 0xF5};
-    size_t end = start;
+    size_t before = put_so_far();
     put(point, sizeof point);
     PUT(0x00, 0x04);
-    put_header(0x03, end);
+    put_header(0x03, before);
     PUT(0x30, 0x13, 0x06, 0x07, 0x2A, 0x86, 0x48, 0xCE, 0x3D, 0x02, 0x01, 0x06, 0x08, 0x2A, 0x86, 0x48, 0xCE, 0x3D, 0x03, 0x01, 0x07);
-    put_header(0xA6, end);
+    put_header(0xA6, before);
 }
 
 static void put_signature(void)
 {
     static const uint8_t octets[1 + SIGNATURE_OCTETS];
-    size_t end = start;
+    size_t before = put_so_far();
     put(octets, sizeof octets);
-    put_header(0x03, end);
+    put_header(0x03, before);
     PUT(0x30, 0x0A, 0x06, 0x08, 0x2A, 0x86, 0x48, 0xCE, 0x3D, 0x04, 0x03, 0x02);
-    put_header(0xA1, end);
+    put_header(0xA1, before);
 }
 
 static void put_message(unsigned number)
 {
-    size_t end = start;
+    size_t before = put_so_far();
     put_signature();
-    size_t request = start;
+    size_t request = put_so_far();
     put_public_key();
     put_subject(number);
     put_issuer();
     put_header(0x30, request);
     PUT(0x02, 0x02, (uint8_t)(1 + number / 256), (uint8_t)number); // a certReqId of two octets
     put_header(0x30, request);
-    put_header(0x30, end);
+    put_header(0x30, before);
 }
 
 size_t names_batch(uint8_t *batch)
 {
-    start = sizeof room;
+    begin_encoding();
     put_message(0);
-    size_t message = sizeof room - start;
-    for (unsigned number = 1; start >= message + MOST_AROUND; number++)
+    size_t message = put_so_far();
+    for (unsigned number = 1; put_so_far() + message + MOST_AROUND <= PHAGUNDRO_LONGEST; number++)
         put_message(number);
-    put_header(0x30, sizeof room);
-    memcpy(batch, room + start, sizeof room - start);
-    return sizeof room - start;
+    put_header(0x30, 0);
+    return take_encoding(batch);
 }

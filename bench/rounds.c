@@ -22,12 +22,18 @@ void fail(const char *what, const char *input)
     exit(2);
 }
 
+void fail_wrong(const subject *s, const char *input)
+{
+    fprintf(stderr, "bench: %s: %s gives a wrong answer\n", input, s->name);
+    exit(2);
+}
+
 static double time_of(const subject *s, long calls, const char *input)
 {
     double start = seconds();
     for (long i = 0; i < calls; i++)
         if (!s->run())
-            fail(s->name, input);
+            fail_wrong(s, input);
     return (seconds() - start) / (double)calls;
 }
 

@@ -18,4 +18,7 @@ void best_times(const subject *subjects, int count, const char *input, double *b
 // Ends the program with a message about an input.
 void fail(const char *what, const char *input);
 
+// Ends the program because a subject's answer on an input isn't the one that it has to give.
+void fail_wrong(const subject *s, const char *input);
+
 #endif

@@ -6,9 +6,13 @@
 #include <stddef.h>
 #include <stdint.h>
 
-// The floor: walks the nest of elements by identifiers and lengths alone, with no content rule, no grammar and no rows. Answers whether the
-// bytes are elements that each end in time.
+// The least walk: walks the nest of elements by identifiers and lengths alone, with no content rule, no grammar and no rows. Answers whether
+// the bytes are elements that each end in time.
 bool floor_walk(const uint8_t *bytes, size_t length);
+
+// The strict walk: checks all that the nest of a batch has to keep, that is allowed identifiers, shortest lengths, the depth, every content
+// rule and the order in SETs, but no grammar, and shows no rows. Answers whether the bytes are one element that keeps it, with nothing after.
+bool strict_walk(const uint8_t *bytes, size_t length);
 
 // Whether the program was built with OpenSSL.
 extern const bool openssl_there;

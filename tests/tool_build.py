@@ -5,14 +5,26 @@ import re
 
 import corpus
 import host
+import host_header
 import tool
 from layout import ROOT
 
 SANITIZED = 20  # corpus files that the tool built with AddressSanitizer runs on: the shortest, and a long one beside them
 WATCHED = 2  # those that it runs on under valgrind
 LONG_FILE = "openssl-batch-259-ec-sig-near-64k"
-MEASURED = {"openssl-minimal": "| 11 | 5 |", "openssl-sig-rsa2048": "| 651 | 10 |"}  # with the bytes and rows that the benchmarks show
-MADE = "three attributes in each RDN | 65452 | 2021 |"  # a batch that the benchmarks make
+MEASURED = ("openssl-minimal", "openssl-sig-rsa2048")
+COUNTED = {  # what the benchmarks show of these and of a batch that they make, and how often
+    ("", "openssl-minimal", "one RSA", "names"): 4,
+    ("bytes", "11", "651", "65452"): 1,
+    ("rows", "5", "10", "2021"): 1,
+    ("messages", "1", "1", "202"): 1,
+    ("duplicates found", "no", "no", "no"): 1,
+}
+TIMED = {  # rows of times, and how often
+    **dict.fromkeys(("memcpy", "least walk", "strict walk", "phagundro_read, rows cleared first", "phagundro_write, leaves elsewhere"), 2),
+    **dict.fromkeys(("write / read", "write, leaves elsewhere / read", "duplicates / accept", "read / strict walk"), 1),
+    **{f"phagundro_{call}, {fault}": 1 for call in ("accept", "read") for fault in ("accepted", "nest (3)", "grammar (8)", "other edition (9)")},
+}
 TEXTS = ("ASCII", *(f"ASCII, {which} another" for which in ("the last character", "every 100th character", "every 9th character")), "Cyrillic")
 
 
@@ -75,19 +87,26 @@ def other_demo():
     return [f"make demo doesn't show: {words}" for words in wanted if words not in shown]
 
 
+def cells(line):
+    return tuple(cell.strip() for cell in line.strip("|").split("|"))
+
+
 @tool.scratch
 def other_benchmarks(folder):
-    """Inputs of which the benchmarks show nothing. What they take is not looked at."""
+    """Inputs, calls and texts of which the benchmarks show nothing. What they take is not looked at."""
     tool.made(f"BUILD={folder}", f"{folder}/bench")
     shown = host.did([folder / "bench", *map(tool.path, MEASURED)])
-    wrong = [f"{name}: {shown[-500:]}" for name, numbers in MEASURED.items() if shown.count(f"{name}.der {numbers}") != 2]
-    wrong += [f"{MADE}: {shown[-500:]}"] if shown.count(f"\n| {MADE}") != 2 else []
-    return wrong + [f"text {name}: {shown[-500:]}" for name in TEXTS if shown.count(f"\n| {name} |") != 1]
+    rows = [cells(line) for line in shown.splitlines() if line.startswith("|")]
+    names = [row[0] for row in rows if all(re.fullmatch(r"\d+\.\d+", cell) for cell in row[1:])]
+    wanted = TIMED | dict.fromkeys(host_header.CALLS, 2) | dict.fromkeys(TEXTS, 1)
+    return [f"{row}: {shown[-500:]}" for row, times in COUNTED.items() if rows.count(row) != times] + [
+        f"{name}: {shown[-500:]}" for name, times in wanted.items() if names.count(name) != times
+    ]
 
 
 TESTS = [
     ("phagundro is sound under AddressSanitizer and valgrind", unsound_memory),
     ("make demo shows a sample batch", other_demo),
-    ("the benchmarks show each batch and each text, whatever time it takes", other_benchmarks),
+    ("the benchmarks show each call on each batch and each text, whatever time it takes", other_benchmarks),
     ("make installs under a package's root, cleans, tests, lists its targets, and builds an archive that isn't there", other_targets),
 ]

@@ -1,0 +1,21 @@
+// What is timed on a batch: every call of the library, and what it is compared with.
+#ifndef CALLS_H
+#define CALLS_H
+
+#include <stdbool.h>
+#include <stddef.h>
+
+enum { COPY, LEAST, STRICT, ACCEPT, READ, CLEARED, WRITE, MOVED, VERDICT, VERDICT_NUMBER, DUPLICATES, OPENSSL, CALLS };
+
+typedef struct {
+    size_t length, rows, messages;
+    bool pair_found;    // by phagundro_duplicates, which stops at the first pair
+    double best[CALLS]; // seconds; 0 for one that isn't in this build
+} figures;
+
+const char *call_name(int call);
+
+// Times all of them on a batch, taken by its path as take_input does.
+void measure_calls(const char *path, figures *taken);
+
+#endif
