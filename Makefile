@@ -14,8 +14,10 @@ SAMPLE = tests/corpus/crmf/openssl-sig-p256.der
 MEASURED = openssl-sig-rsa2048 openssl-batch-10-ec-sig bc-batch-100-rsa-sig-near-64k openssl-batch-259-ec-sig-near-64k \
 	pyasn1-batch-913-nokey-near-64k openssl-regToken-60000
 CRYPTO = $(shell pkg-config --libs libcrypto 2>/dev/null)
-# Where a short loop crosses a multiple of 64 it takes longer, so the linker doesn't choose the places of what the calls are compared with.
-PLACED = -falign-functions=64
+# What the calls are compared with is compiled as the archive is, by LLVM, if clang is there; the strict walk by CC too. Where a short loop
+# crosses a multiple of 64 it takes longer, so the linker doesn't choose the places.
+LLVM = $(shell command -v clang || echo $(CC))
+MEASURING = -std=c11 -Wall -Wextra -Werror $(CFLAGS) -falign-functions=64 -D_POSIX_C_SOURCE=199309L $(if $(CRYPTO),-DWITH_OPENSSL) -Iinclude
 INSTALLED = $(DESTDIR)$(PREFIX)
 
 .PHONY: all install demo bench test clean help
@@ -58,7 +60,8 @@ demo: all ## a sample batch, read and judged
 
 $(BUILD)/bench: $(wildcard bench/*) $(HEADER) $(ARCHIVE) Makefile
 	mkdir -p $(BUILD)
-	$(COMPILE) $(PLACED) -D_POSIX_C_SOURCE=199309L $(if $(CRYPTO),-DWITH_OPENSSL) -Iinclude -o $@ bench/*.c $(ARCHIVE) $(LDFLAGS) $(CRYPTO)
+	$(CC) $(MEASURING) -Dstrict_walk=strict_walk_by_cc -c -o $(BUILD)/strict.o bench/strict.c
+	$(LLVM) $(MEASURING) -o $@ bench/*.c $(BUILD)/strict.o $(ARCHIVE) $(LDFLAGS) $(CRYPTO)
 
 bench: $(BUILD)/bench ## the benchmarks, on this machine
 	$(BUILD)/bench $(MEASURED:%=tests/corpus/crmf/%.der)

@@ -28,6 +28,11 @@ static bool do_strict_walk(void)
     return strict_walk(now.bytes, now.length);
 }
 
+static bool do_strict_walk_by_cc(void)
+{
+    return strict_walk_by_cc(now.bytes, now.length);
+}
+
 static bool do_accept(void)
 {
     return phagundro_accept(EDITION, now.bytes, now.length) == PHAGUNDRO_ACCEPTED;
@@ -78,6 +83,7 @@ static subject subjects[CALLS] = {
     [COPY] = {"memcpy", do_copy},
     [LEAST] = {"least walk", do_least_walk},
     [STRICT] = {"strict walk", do_strict_walk},
+    [STRICT_BY_CC] = {"strict walk, compiled by gcc", do_strict_walk_by_cc},
     [ACCEPT] = {"phagundro_accept", do_accept},
     [READ] = {"phagundro_read", do_read},
     [CLEARED] = {"phagundro_read, rows cleared first", do_cleared_read},

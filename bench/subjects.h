@@ -14,6 +14,9 @@ bool floor_walk(const uint8_t *bytes, size_t length);
 // rule and the order in SETs, but no grammar, and shows no rows. Answers whether the bytes are one element that keeps it, with nothing after.
 bool strict_walk(const uint8_t *bytes, size_t length);
 
+// The same function, compiled by the Makefile's CC, while the others are compiled by LLVM if clang is there.
+bool strict_walk_by_cc(const uint8_t *bytes, size_t length);
+
 // Whether the program was built with OpenSSL.
 extern const bool openssl_there;
 

@@ -21,7 +21,8 @@ COUNTED = {  # what the benchmarks show of these and of a batch that they make, 
     ("duplicates found", "no", "no", "no"): 1,
 }
 TIMED = {  # rows of times, and how often
-    **dict.fromkeys(("memcpy", "least walk", "strict walk", "phagundro_read, rows cleared first", "phagundro_write, leaves elsewhere"), 2),
+    **dict.fromkeys(("memcpy", "least walk", "strict walk", "strict walk, compiled by gcc"), 2),
+    **dict.fromkeys(("phagundro_read, rows cleared first", "phagundro_write, leaves elsewhere"), 2),
     **dict.fromkeys(("write / read", "write, leaves elsewhere / read", "duplicates / accept", "read / strict walk"), 1),
     **{f"phagundro_{call}, {fault}": 1 for call in ("accept", "read") for fault in ("accepted", "nest (3)", "grammar (8)", "other edition (9)")},
 }

@@ -175,12 +175,12 @@ pub(crate) fn own_entry(fit: Fit, row: usize, around: Around) -> Entry
     requires { ⌜ fit .first ≤ fit .end ⌝ }
     ensures { λ r. ⌜ ((k : ℕ) → fit .word ≡ getD packed k 0 → rowOf r ≡ rowIf (line k .kind) (fitExtent fit) (parentIf (line k .item) row (around .up))) ⌝ }
 {
-    let whole = fit.end - fit.first;
+    let length = fit.end - fit.first;
     let parent = parent_if(table::item_of(fit.word), row, around.up);
     Entry {
         kind: table::kind_of(fit.word),
         first: fit.first,
-        whole,
+        whole: length,
         parent,
         content: fit.content,
     }

@@ -5,6 +5,7 @@ use crate::build::LARGEST;
 use crate::build::MOST_ROWS;
 use crate::build::Outcome;
 use crate::build::sized;
+use crate::draft::row_at;
 use crate::draft::rows;
 use crmf::recognise::agrees;
 use crmf::rows::WIDTH;
@@ -14,6 +15,8 @@ use editions::edition::RFC2511;
 use editions::edition::RFC4211;
 use editions::reader::Answer;
 ghost use mathlib.Core.Path.{_≡_};
+ghost use mathlib.Core.Bool.{true};
+ghost use Rattle.crmf.specs.steps.recognise.Count.{agreed};
 ghost use Rattle.writer.specs.meaning.Writes.{Writes};
 ghost use Rattle.writer.specs.steps.Writing as spec;
 
@@ -29,7 +32,7 @@ pub fn write(edition: usize, draft: &[usize], bytes: &[u8], output: &mut [u8]) -
     if !shaped(draft) {
         return refuse(NO_SUCH_BATCH);
     }
-    if agrees(edition, bytes, draft, true) {
+    if stands(edition, draft, bytes) {
         return deliver(bytes, output);
     }
     let outcome = sized(LARGEST, edition, draft, bytes, output);
@@ -37,6 +40,21 @@ pub fn write(edition: usize, draft: &[usize], bytes: &[u8], output: &mut [u8]) -
         return refuse(NO_SUCH_BATCH);
     };
     answer
+}
+
+// Whether the bytes are themselves a batch of the edition, and the draft's rows are its own. Only a draft whose first row is as long as the
+// bytes is compared with them.
+fn stands(edition: usize, draft: &[usize], bytes: &[u8]) -> bool
+    ensures { λ r. ⌜ (r ≡ true → agreed edition (now (bytes .entry)) (now (draft .entry)) true ≡ true) ⌝ }
+{
+    if rows(draft) == 0 {
+        return false;
+    }
+    let whole = row_at(draft, 0);
+    if (whole.first != 0) | (whole.whole != bytes.len()) {
+        return false;
+    }
+    agrees(edition, bytes, draft, true)
 }
 
 // Whether a draft has whole rows, and no more than a batch can have.

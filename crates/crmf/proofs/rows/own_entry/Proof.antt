@@ -11,8 +11,8 @@ use Rattle.crmf.proofs.theorems.lines.WordFields.{item-at, kind-at}
 use Rattle.crmf.proofs.rows.own_entry.Statement.{statement}
 use Rattle.crmf.proofs.rows.own_entry.Tie as tie
 
-sub-whole : tie.Need-sub-whole
-sub-whole c = search needs
+sub-length : tie.Need-sub-length
+sub-length c = search needs
 
 item-of-requires : tie.Need-item-of-requires
 item-of-requires c κs = search needs
@@ -34,4 +34,4 @@ returns c =
     ap₂ (λ (j q : ℕ). rowIf j (fitExtent (a .fit)) q) (c .kind-of .ensures ∙ ap kindField e ∙ kind-at k) parent
 
 pub own-entry-spec : {M : Type 1} → statement M
-own-entry-spec = tie.close (tie.spec sub-whole item-of-requires parent-if-requires kind-of-requires returns)
+own-entry-spec = tie.close (tie.spec sub-length item-of-requires parent-if-requires kind-of-requires returns)

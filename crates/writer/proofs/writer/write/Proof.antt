@@ -62,8 +62,8 @@ returns-2 c =
     (no-batch (a .edition) (a .draft .now) (a .bytes .now) (a .output .now) (known .if1 .left)
     (shapeless (a .edition) (a .draft .now) (a .bytes .now) no-shape) (c .refuse2 .result) (c .refuse2 .ensures))
 
-agrees-requires : tie.Need-agrees-requires
-agrees-requires c κs = search needs
+stands-requires : tie.Need-stands-requires
+stands-requires c κs = search needs
 
 -- the edition is known, and the draft has a batch's shape
 module _ (c : tie.Else2) where
@@ -89,7 +89,7 @@ returns-3 c =
     let e = a .edition in
     let shape = sym (d .before .shaped .ensures) ∙ not-false _ (d .if2 .left) in
     let ed = known-edition e (known d .if1 .left) in
-    let agreed = sym (judged .agrees .ensures) ∙ done .before .before .if3 .taken in
+    let agreed = judged .stands .ensures (done .before .before .if3 .taken) in
     answers b (done .deliver .result) _
     (delivered e (a .draft .now) (a .bytes .now) (a .output .now) (known d .if1 .left)
     (stands-described e ed (a .draft .now) (a .bytes .now) (octets b) shape agreed) (a .bytes .now)
@@ -158,7 +158,7 @@ write-spec =
     shaped-requires
     refuse-requires-2
     returns-2
-    agrees-requires
+    stands-requires
     deliver-requires
     same-length
     returns-3
