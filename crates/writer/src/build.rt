@@ -111,7 +111,8 @@ fn large(edition: usize, draft: &[usize], bytes: &[u8], output: &mut [u8]) -> Ou
     build(edition, draft, bytes, &mut sums, &mut scratch, output)
 }
 
-// Writes with the sums and the scratch that are lent, if the candidate has room in the scratch.
+// Writes with the sums and the scratch that are lent, if the candidate has room in the scratch. A candidate that has none in the longest is no
+// batch.
 fn build(
     edition: usize,
     draft: &[usize],
@@ -128,7 +129,10 @@ fn build(
     }
     let length = assemble(draft, bytes, sums, scratch);
     if scratch.len() < length {
-        return Outcome::TooSmall;
+        if scratch.len() < LONGEST {
+            return Outcome::TooSmall;
+        }
+        return Outcome::Answered(refuse(NO_SUCH_BATCH));
     }
     Outcome::Answered(judge(edition, draft, &scratch[..length], output))
 }

@@ -40,12 +40,12 @@ zeros-room e draft n m known rows octets =
       short = omega (arith, length-replicate {A = ℕ} m 0);
     }
 
--- a scratch of zeros as long as the longest batch
-pub zeros-longest : longest ≤ length (replicate {A = ℕ} longest 0)
+-- a scratch of zeros as long as the longest batch isn't shorter
+pub zeros-longest : length (replicate {A = ℕ} longest 0) < longest → ⊥
 zeros-longest = go longest
   where
-    go : (n : ℕ) → n ≤ length (replicate {A = ℕ} n 0)
-    go n = omega (arith, length-replicate {A = ℕ} n 0)
+    go : (n : ℕ) → length (replicate {A = ℕ} n 0) < n → ⊥
+    go n shorter = omega (arith, length-replicate {A = ℕ} n 0)
 
 -- neither test passes, as the code says it and as the definition does
 neither : (a b : Bool) → (not a && not b) ≡ true → (a || b) ≡ false
@@ -125,17 +125,17 @@ module _ (e : ℕ) (draft bytes old : List ℕ) where
                 subst (Computed e draft bytes old a) (sym after)
                 (no-batch nothing a (is ∙ ap (λ (b : Bool). elim b [ false ↦ refusal noSuchBatch 0 | true ↦ deliveredAnswer batch old ]) agrees))
 
--- What comes of a try with a scratch comes of the size that has it, if the largest has a scratch as long as the longest batch.
-pub tried : (size e : ℕ) (draft bytes old scratch : List ℕ) (r : Outcome) (new : List ℕ) → (largest ≤ size → longest ≤ length scratch)
+-- What comes of a try with a scratch comes of the size that has it, if a size with a scratch shorter than the longest batch isn't the largest.
+pub tried : (size e : ℕ) (draft bytes old scratch : List ℕ) (r : Outcome) (new : List ℕ) → (length scratch < longest → size < largest)
     → Built e draft bytes scratch old r new → Tried size e draft bytes old r new
-tried size e draft bytes old scratch (Answered a) new full built = built
-tried size e draft bytes old scratch TooSmall new full built = (built .0, λ last. built .1 (full last))
+tried size e draft bytes old scratch (Answered a) new lesser built = built
+tried size e draft bytes old scratch TooSmall new lesser built = (built .0, lesser (built .1))
 
--- What comes of a size comes of a further one that isn't the largest if that one isn't, after tries that wrote nothing.
-pub tried-after : (size k e : ℕ) (draft bytes old mid : List ℕ) (r : Outcome) (new : List ℕ) → mid ≡ old → (largest ≤ size → largest ≤ k)
+-- What comes of a size comes of another one too, after tries that wrote nothing, if the other isn't the largest if that one isn't.
+pub tried-after : (size k e : ℕ) (draft bytes old mid : List ℕ) (r : Outcome) (new : List ℕ) → mid ≡ old → (k < largest → size < largest)
     → Tried k e draft bytes mid r new → Tried size e draft bytes old r new
-tried-after size k e draft bytes old mid r new same last tried = by-outcome r (subst (λ (l : List ℕ). Tried k e draft bytes l r new) same tried)
+tried-after size k e draft bytes old mid r new same lesser tried = by-outcome r (subst (λ (l : List ℕ). Tried k e draft bytes l r new) same tried)
   where
     by-outcome : (r : Outcome) → Tried k e draft bytes old r new → Tried size e draft bytes old r new
     by-outcome (Answered a) t = t
-    by-outcome TooSmall t = (t .0, λ full. t .1 (last full))
+    by-outcome TooSmall t = (t .0, lesser (t .1))

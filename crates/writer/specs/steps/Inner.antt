@@ -17,7 +17,7 @@ use Rattle.writer.specs.declared.draft.Row.{Row as Given}
 use Rattle.writer.specs.declared.build.Outcome.{Outcome}
 use Rattle.writer.specs.declared.build.Outcome.the-variants.{Answered, TooSmall}
 use Rattle.writer.specs.meaning.Draft.{inside}
-use Rattle.writer.specs.steps.Writing.{mostRows, shaped, drafted, described, writeAnswer, outputAfter}
+use Rattle.writer.specs.steps.Writing.{mostRows, shaped, drafted, writeAnswer, outputAfter}
 
 -- a row as the code has it
 abbrev pub rowOf : Given → Row
@@ -92,16 +92,16 @@ pub record Room (e : ℕ) (draft sums scratch : List ℕ) : Type 0 where
 abbrev pub Computed : (e : ℕ) (draft bytes old : List ℕ) → Answer → List ℕ → Type 0
 Computed e draft bytes old a new = (a ≡ writeAnswer e draft bytes old) × (new ≡ outputAfter e draft bytes old)
 
--- A draft is answered; or the scratch is too small, and then nothing is written, and if it is as long as the longest batch the draft describes none.
+-- A draft is answered; or the scratch is too small, and then nothing is written, and it is shorter than the longest batch.
 abbrev pub Built : (e : ℕ) (draft bytes scratch old : List ℕ) → Outcome → List ℕ → Type 0
 Built e draft bytes scratch old (Answered a) new = Computed e draft bytes old a new
-Built e draft bytes scratch old TooSmall new = (new ≡ old) × (longest ≤ length scratch → described e draft bytes ≡ false)
+Built e draft bytes scratch old TooSmall new = (new ≡ old) × (length scratch < longest)
 
 -- the number of the largest size
 abbrev pub largest : ℕ
 largest = 3
 
--- A draft is answered; or the size is too small, and then nothing is written, and if it is the largest the draft describes no batch.
+-- A draft is answered; or the size is too small, and then nothing is written, and it isn't the largest.
 abbrev pub Tried : (size e : ℕ) (draft bytes old : List ℕ) → Outcome → List ℕ → Type 0
 Tried size e draft bytes old (Answered a) new = Computed e draft bytes old a new
-Tried size e draft bytes old TooSmall new = (new ≡ old) × (largest ≤ size → described e draft bytes ≡ false)
+Tried size e draft bytes old TooSmall new = (new ≡ old) × (size < largest)

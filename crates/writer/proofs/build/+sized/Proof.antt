@@ -44,7 +44,7 @@ module _ (t : ℕ) where
   returns c =
       let begun = c .before .before .before .before .before .before .before .before in
       let a = begun .args in
-      tried-after (a .size) 0 (a .edition) (a .draft .now) (a .bytes .now) (a .output .now) (a .output .now) (c .before .before .tiny .result) (c .before .before .tiny .last .1 .1 .1 .0) refl (λ full. omega (arith, full, c .before .before .before .before .if1 .taken)) (c .before .before .tiny .ensures)
+      tried-after (a .size) 0 (a .edition) (a .draft .now) (a .bytes .now) (a .output .now) (a .output .now) (c .before .before .tiny .result) (c .before .before .tiny .last .1 .1 .1 .0) refl (λ lesser. omega (arith, c .before .before .before .before .if1 .taken)) (c .before .before .tiny .ensures)
 
   sub-sized : sized-lts.Need-sub-sized calls sized-at sized.Post
   sub-sized c = search needs
@@ -88,7 +88,7 @@ module _ (t : ℕ) where
       let called = fails .before .before .before .before in
       let a = called .before .before .before .before .before .before .args in
       let nothing = subst (λ (r : Outcome). Tried (a .size - 1) (a .edition) (a .draft .now) (a .bytes .now) (a .output .now) r (called .sized .last .1 .1 .1 .1 .0)) (fails .enum-told .given .1) (called .sized .ensures) in
-      tried-after (a .size) 1 (a .edition) (a .draft .now) (a .bytes .now) (a .output .now) (called .sized .last .1 .1 .1 .1 .0) (c .before .before .small .result) (c .before .before .small .last .1 .1 .1 .0) (nothing .0) (λ full. omega (arith, full, c .before .before .before .before .match2 .keys1)) (c .before .before .small .ensures)
+      tried-after (a .size) 1 (a .edition) (a .draft .now) (a .bytes .now) (a .output .now) (called .sized .last .1 .1 .1 .1 .0) (c .before .before .small .result) (c .before .before .small .last .1 .1 .1 .0) (nothing .0) (λ lesser. omega (arith, c .before .before .before .before .match2 .keys1)) (c .before .before .small .ensures)
 
   same-length-4 : sized-lts.Need-same-length-4 calls sized-at sized.Post
   same-length-4 c = search needs
@@ -99,7 +99,7 @@ module _ (t : ℕ) where
       let called = fails .before .before .before .before in
       let a = called .before .before .before .before .before .before .args in
       let nothing = subst (λ (r : Outcome). Tried (a .size - 1) (a .edition) (a .draft .now) (a .bytes .now) (a .output .now) r (called .sized .last .1 .1 .1 .1 .0)) (fails .enum-told .given .1) (called .sized .ensures) in
-      tried-after (a .size) 2 (a .edition) (a .draft .now) (a .bytes .now) (a .output .now) (called .sized .last .1 .1 .1 .1 .0) (c .before .before .long .result) (c .before .before .long .last .1 .1 .1 .0) (nothing .0) (λ full. omega (arith, full, c .before .before .before .before .match2 .keys2)) (c .before .before .long .ensures)
+      tried-after (a .size) 2 (a .edition) (a .draft .now) (a .bytes .now) (a .output .now) (called .sized .last .1 .1 .1 .1 .0) (c .before .before .long .result) (c .before .before .long .last .1 .1 .1 .0) (nothing .0) (λ lesser. omega (arith, c .before .before .before .before .match2 .keys2)) (c .before .before .long .ensures)
 
   same-length-5 : sized-lts.Need-same-length-5 calls sized-at sized.Post
   same-length-5 c = search needs
@@ -110,7 +110,7 @@ module _ (t : ℕ) where
       let called = fails .before .before .before .before in
       let a = called .before .before .before .before .before .before .args in
       let nothing = subst (λ (r : Outcome). Tried (a .size - 1) (a .edition) (a .draft .now) (a .bytes .now) (a .output .now) r (called .sized .last .1 .1 .1 .1 .0)) (fails .enum-told .given .1) (called .sized .ensures) in
-      tried-after (a .size) largest (a .edition) (a .draft .now) (a .bytes .now) (a .output .now) (called .sized .last .1 .1 .1 .1 .0) (c .before .before .large .result) (c .before .before .large .last .1 .1 .1 .0) (nothing .0) (λ full. omega arith) (c .before .before .large .ensures)
+      tried-after (a .size) largest (a .edition) (a .draft .now) (a .bytes .now) (a .output .now) (called .sized .last .1 .1 .1 .1 .0) (c .before .before .large .result) (c .before .before .large .last .1 .1 .1 .0) (nothing .0) (λ lesser. absurd (omega (arith, lesser))) (c .before .before .large .ensures)
 
 pub +sized-spec : {M : Type 1} → statement M
 +sized-spec =

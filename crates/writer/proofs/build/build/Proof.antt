@@ -87,16 +87,28 @@ module _ (c : tie.After-slice-known5) where
   sized = put .assemble .kept .1 .1 .1 .0
 
 returns-2 : tie.Need-returns-2
-returns-2 c =
-    let d = c .before in
+returns-2 c = (refl, omega (arith, sized (c .before .before), c .if3 .taken))
+
+refuse-requires-2 : tie.Need-refuse-requires-2
+refuse-requires-2 c κs = search needs
+
+same-length-4 : tie.Need-same-length-4
+same-length-4 c = search needs
+
+same-length-5 : tie.Need-same-length-5
+same-length-5 c = search needs
+
+returns-3 : tie.Need-returns-3
+returns-3 c =
+    let full = c .before in
+    let d = full .before .before in
     let s = start d in
     let a = s .args in
-    let longer = put d .assemble .ensures .past (c .if2 .taken) in (
-      refl,
-      λ full.
-          too-long (a .edition) (a .draft .now) (a .bytes .now) (s .pre .known .shape) (sounds (sound-draft d))
-          (lt-leb (length (candidate (a .draft .now) (a .bytes .now))) longest (omega (arith, longer, sized d))),
-    )
+    let longer = put d .assemble .ensures .past (full .before .if2 .taken) in
+    no-batch (a .edition) (a .draft .now) (a .bytes .now) (a .output .now) (s .pre .known .edition)
+    (too-long (a .edition) (a .draft .now) (a .bytes .now) (s .pre .known .shape) (sounds (sound-draft d))
+    (lt-leb (length (candidate (a .draft .now) (a .bytes .now))) longest (omega (arith, longer, full .if3 .left))))
+    (c .refuse2 .result) (c .refuse2 .ensures)
 
 slice-reshare-prefix-judge : tie.Need-slice-reshare-prefix-judge
 slice-reshare-prefix-judge c = search needs
@@ -107,17 +119,17 @@ slice-aggregate-judge c = sym (length-take-le _ (scratch (c .before .before)) (o
 judge-requires : tie.Need-judge-requires
 judge-requires c κs = search needs
 
-same-length-4 : tie.Need-same-length-4
-same-length-4 c = search needs
-
-same-length-5 : tie.Need-same-length-5
-same-length-5 c = search needs
-
 same-length-6 : tie.Need-same-length-6
 same-length-6 c = search needs
 
-returns-3 : tie.Need-returns-3
-returns-3 c =
+same-length-7 : tie.Need-same-length-7
+same-length-7 c = search needs
+
+same-length-8 : tie.Need-same-length-8
+same-length-8 c = search needs
+
+returns-4 : tie.Need-returns-4
+returns-4 c =
     let done = c .before .before in
     let fits = done .before .before .before in
     let d = fits .before in
@@ -142,10 +154,14 @@ build-spec =
     same-length-2
     same-length-3
     returns-2
+    refuse-requires-2
+    same-length-4
+    same-length-5
+    returns-3
     slice-reshare-prefix-judge
     slice-aggregate-judge
     judge-requires
-    same-length-4
-    same-length-5
     same-length-6
-    returns-3)
+    same-length-7
+    same-length-8
+    returns-4)

@@ -30,7 +30,7 @@ returns c =
     let built = c .before .before .before .before in
     let a = built .before .before .before .before .before .before .before .args in
     tried largest (a .edition) (a .draft .now) (a .bytes .now) (a .output .now) (replicate {A = ℕ} longest 0) (built .build .result) (built .build .last .1 .1 .1 .1 .1 .0)
-    (λ full. zeros-longest) (built .build .ensures)
+    (λ shorter. absurd (zeros-longest shorter)) (built .build .ensures)
 
 pub large-spec : {M : Type 1} → statement M
 large-spec =

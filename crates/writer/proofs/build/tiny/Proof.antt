@@ -12,7 +12,7 @@ rows-requires : tie.Need-rows-requires
 rows-requires c κs = search needs
 
 returns : tie.Need-returns
-returns c = (refl, λ full. absurd (omega arith))
+returns c = (refl, omega arith)
 
 slice-aggregate-build : tie.Need-slice-aggregate-build
 slice-aggregate-build c = search needs
@@ -34,7 +34,7 @@ returns-2 c =
     let built = c .before .before .before .before in
     let a = built .before .before .before .before .before .before .before .before .before .args in
     tried 0 (a .edition) (a .draft .now) (a .bytes .now) (a .output .now) (replicate {A = ℕ} 1024 0) (built .build .result) (built .build .last .1 .1 .1 .1 .1 .0)
-    (λ full. absurd {0} (omega arith)) (built .build .ensures)
+    (λ shorter. omega arith) (built .build .ensures)
 
 pub tiny-spec : {M : Type 1} → statement M
 tiny-spec =

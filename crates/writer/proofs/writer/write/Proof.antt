@@ -128,14 +128,7 @@ module _ (c : tie.After-slice-known3) where
       subst (λ (o : Outcome). Tried largest (a .edition) (a .draft .now) (a .bytes .now) (a .output .now) o output) is (called .sized .ensures)
 
 returns-4 : tie.Need-returns-4
-returns-4 c =
-    let d = c .before .before .before in
-    let b = begun (tested d) in
-    let a = entry b .args in
-    let (kept, nothing) = tried d TooSmall (c .before .enum-told .given .1) in
-    answers b (c .refuse3 .result) (output d)
-    (subst (Computed (a .edition) (a .draft .now) (a .bytes .now) (a .output .now) (c .refuse3 .result)) (sym kept)
-    (no-batch (a .edition) (a .draft .now) (a .bytes .now) (a .output .now) (known (tested d) .if1 .left) (nothing (omega arith)) (c .refuse3 .result) (c .refuse3 .ensures)))
+returns-4 c = absurd (omega (arith, tried (c .before .before .before) TooSmall (c .before .enum-told .given .1) .1))
 
 same-length-2 : tie.Need-same-length-2
 same-length-2 c = search needs
