@@ -37,12 +37,22 @@ extern "C" {
 
 /* Limits. */
 enum {
-    PHAGUNDRO_LONGEST          = 65535,                 /* bytes of a batch, at most */
-    PHAGUNDRO_DEEPEST          = 20,                    /* the depth of an element, at most; the batch is at depth 1 */
-    PHAGUNDRO_MOST_ROWS        = PHAGUNDRO_LONGEST / 2, /* rows of a batch: no batch has more */
-    PHAGUNDRO_STACK            = 16000,                 /* bytes of stack for each call but the next two */
-    PHAGUNDRO_STACK_DUPLICATES = 80000,                 /* for phagundro_duplicates */
-    PHAGUNDRO_STACK_WRITE      = 1500000                /* for phagundro_write */
+    PHAGUNDRO_LONGEST   = 65535,                /* bytes of a batch, at most */
+    PHAGUNDRO_DEEPEST   = 20,                   /* the depth of an element, at most; the batch is at depth 1 */
+    PHAGUNDRO_MOST_ROWS = PHAGUNDRO_LONGEST / 2 /* rows of a batch: no batch has more */
+};
+
+/* Bytes of stack that a call needs. A thread with 128 KB, say, can make every call on a batch of few messages, and write any draft of few
+ * rows. */
+enum {
+    PHAGUNDRO_STACK                = 16000,  /* each call but the next ones */
+    PHAGUNDRO_STACK_DUPLICATES     = 80000,  /* phagundro_duplicates, if the batch has more than PHAGUNDRO_FEW_MESSAGES messages */
+    PHAGUNDRO_STACK_WRITE_SMALL    = 32000,  /* phagundro_write, if it writes at most PHAGUNDRO_SMALL_BATCH bytes or has no room for these */
+    PHAGUNDRO_STACK_WRITE_FEW_ROWS = 120000, /* phagundro_write of any other draft of at most PHAGUNDRO_FEW_ROWS rows */
+    PHAGUNDRO_STACK_WRITE          = 400000, /* phagundro_write of any other draft */
+    PHAGUNDRO_SMALL_BATCH          = 4096,
+    PHAGUNDRO_FEW_ROWS             = 4096,
+    PHAGUNDRO_FEW_MESSAGES         = 1024
 };
 
 /* An edition: the grammar that a batch is read or written in. Any other number is refused with PHAGUNDRO_UNKNOWN_EDITION. */

@@ -90,7 +90,8 @@ def more_stack():
         print(f"bytes of stack within {name}: {took}")
         if not 0 < int(took) <= int(enumerators()[name]):
             wrong.append(f"{took} bytes of stack are taken within {name}")
-    return wrong if len(taken.splitlines()) == 3 else wrong + [f"not three lines: {taken}"]
+    missing = {name for name in enumerators() if name.startswith("PHAGUNDRO_STACK")} - set(re.findall(r"^\w+", taken, re.MULTILINE))
+    return wrong + [f"no stack is measured for {name}" for name in sorted(missing)]
 
 
 TESTS = [

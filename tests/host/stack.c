@@ -3,7 +3,8 @@
  *     stack COUNT SEED FILE...
  *
  * Takes COUNT of the comparison's inputs, the first of which are the files and the longest, deepest and most numerous. Each call runs in a
- * thread whose stack is marked beforehand: it took what is no longer marked. The rows of each accepted input are written over it. */
+ * thread whose stack is marked beforehand: it took what is no longer marked. The rows of each accepted input are written over it where it
+ * stands and where it is one byte further on, so that a scratch is needed; and a draft is tried that is far too long for any batch. */
 #define _DEFAULT_SOURCE
 #include "comparison.h"
 #include "inputs.h"
@@ -16,9 +17,12 @@
 
 enum { STACK = 1 << 21, MARK = 0xA5 };
 
-static uint8_t output[INPUT_ROOM];
-static size_t edition, rows, table[TABLE];
+static uint8_t output[INPUT_ROOM], further[1 + INPUT_ROOM];
+static size_t edition, rows, table[TABLE], draft[TABLE], drafted;
 static uint8_t *stack;
+
+/* Bytes taken: by the calls that need the least, by the search in many messages, and by writing. */
+static size_t others, searching, writing_small, writing_few_rows, writing;
 
 static void *nothing(void *unused)
 {
@@ -40,6 +44,12 @@ static void *read_it(void *unused)
 static void *write_it(void *unused)
 {
     phagundro_write(edition, table, PHAGUNDRO_ROW_NUMBERS * rows, input, length, output, sizeof output);
+    return unused;
+}
+
+static void *write_draft(void *unused)
+{
+    phagundro_write(edition, draft, PHAGUNDRO_ROW_NUMBERS * drafted, further, 1 + length, output, sizeof output);
     return unused;
 }
 
@@ -73,9 +83,54 @@ static size_t taken(void *(*run)(void *))
     return STACK - left;
 }
 
+/* The rows over the input one byte further on. */
+static void draft_further(void)
+{
+    memcpy(further + 1, input, length);
+    memcpy(draft, table, PHAGUNDRO_ROW_NUMBERS * rows * sizeof *draft);
+    drafted = rows;
+    for (size_t i = 0; i < PHAGUNDRO_ROW_NUMBERS * rows; i += PHAGUNDRO_ROW_NUMBERS) {
+        draft[i + PHAGUNDRO_ROW_FIRST]++;
+        draft[i + PHAGUNDRO_ROW_CONTENT]++;
+    }
+}
+
+/* As many rows as are few, each the whole input and no child of another, so that none alone is too long. */
+static void draft_too_long(void)
+{
+    drafted = PHAGUNDRO_FEW_ROWS;
+    for (size_t i = 0; i < drafted; i++) {
+        size_t *row = draft + PHAGUNDRO_ROW_NUMBERS * i;
+        row[PHAGUNDRO_ROW_KIND] = PHAGUNDRO_KIND_CERT_REQ_ID;
+        row[PHAGUNDRO_ROW_FIRST] = 1;
+        row[PHAGUNDRO_ROW_LENGTH] = length;
+        row[PHAGUNDRO_ROW_PARENT] = i;
+        row[PHAGUNDRO_ROW_CONTENT] = 1;
+    }
+}
+
+static void measure_writing(void)
+{
+    size_t *most = length <= PHAGUNDRO_SMALL_BATCH ? &writing_small : rows <= PHAGUNDRO_FEW_ROWS ? &writing_few_rows : &writing;
+    keep_most(most, taken(write_it));
+    draft_further();
+    keep_most(most, taken(write_draft));
+    draft_too_long();
+    keep_most(&writing_few_rows, taken(write_draft));
+}
+
+static void measure(void)
+{
+    keep_most(&others, taken(accept_it));
+    keep_most(&others, taken(read_it));
+    keep_most(&others, taken(judge_it));
+    keep_most(messages_of(table, rows) <= PHAGUNDRO_FEW_MESSAGES ? &others : &searching, taken(search_it));
+    if (rows > 0)
+        measure_writing();
+}
+
 int main(int count, char **words)
 {
-    size_t others = 0, writing = 0, searching = 0;
     if (count < 3 || !inputs_start(strtoull(words[2], NULL, 10), count - 3, words + 3))
         return 2;
     stack = mmap(NULL, STACK, PROT_READ | PROT_WRITE, MAP_PRIVATE | MAP_ANONYMOUS, -1, 0);
@@ -83,18 +138,14 @@ int main(int count, char **words)
         return 2;
     for (size_t left = strtoull(words[1], NULL, 10); left > 0; left--) {
         length = inputs_next(input);
-        for (edition = PHAGUNDRO_RFC2511; edition <= PHAGUNDRO_RFC4211; edition++) {
-            keep_most(&others, taken(accept_it));
-            keep_most(&others, taken(read_it));
-            keep_most(&others, taken(judge_it));
-            keep_most(&searching, taken(search_it));
-            if (rows > 0)
-                keep_most(&writing, taken(write_it));
-        }
+        for (edition = PHAGUNDRO_RFC2511; edition <= PHAGUNDRO_RFC4211; edition++)
+            measure();
     }
     size_t thread = taken(nothing); /* takes some itself */
     printf("PHAGUNDRO_STACK %zu\n", others - thread);
     printf("PHAGUNDRO_STACK_DUPLICATES %zu\n", searching - thread);
+    printf("PHAGUNDRO_STACK_WRITE_SMALL %zu\n", writing_small - thread);
+    printf("PHAGUNDRO_STACK_WRITE_FEW_ROWS %zu\n", writing_few_rows - thread);
     printf("PHAGUNDRO_STACK_WRITE %zu\n", writing - thread);
     return 0;
 }

@@ -53,7 +53,7 @@
 --     row-ends            the rows of a batch lie within it, and so do its leaves (`rows-within`)
 --     rows-by-width       a draft has as many rows (`draftRows`) as their width goes into its numbers, and the numbers of each (`rows-room`,
 --                         `row-cut`); the numbers of rows are a draft with these rows (`rows-back`, `numbers-once`, `numbers-back`)
---     agree-in-place      rows that agree in place are the same
+--     agree-in-place      rows that agree in place are the same; conversely, rows agree with themselves (`agree-itself`)
 --     agreed-pieces       rows that agree, wherever their leaves stand, show the same pieces if the pieces' assemblies are the same; then the leaves
 --                         of one are right if the rows of the other are (`agreed-right`); conversely, rows that show the same pieces agree, if all
 --                         are right (`pieces-agree`)
@@ -140,7 +140,7 @@ pub use Rattle.crmf.proofs.theorems.messages.FieldSteps.{fieldAt, Begin
 pub use Rattle.crmf.proofs.theorems.messages.FieldsMatch.{Holding}
 pub use Rattle.crmf.proofs.theorems.messages.MessageLaws.{ProofMatches, raVerified, signature, keyEncipherment, keyAgreement, MessageMatches, MessageParts, BatchContent, MessageStands}
 pub use Rattle.crmf.proofs.theorems.messages.MessageLaws.{batch-content, message-parts, messages-match, messages-formed, messages-stand, messages-moved, batch-of-matches, batch-of-formed, at-position}
-pub use Rattle.crmf.proofs.theorems.pieces.Agreeing.{agree-in-place, Within, agreed-pieces, agreed-right, pieces-agree}
+pub use Rattle.crmf.proofs.theorems.pieces.Agreeing.{agree-in-place, agree-itself, Within, agreed-pieces, agreed-right, pieces-agree}
 pub use Rattle.crmf.proofs.theorems.pieces.Assembly.{assembly, rows-few, pieces-short}
 pub use Rattle.crmf.proofs.theorems.pieces.AssembledOctets.{pieces-octets, row-ends, rows-within}
 pub use Rattle.crmf.proofs.theorems.rows.Writing.{over-parts, numbers-length}

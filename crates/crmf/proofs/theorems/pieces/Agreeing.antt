@@ -56,6 +56,20 @@ agree-in-place (r ∷ rs) (q ∷ qs) is =
     let both = and-eq-true-iff (agrees true r q) (agree true rs qs) .0 is in
     ap₂ (λ (x : Row) (l : List Row). x ∷ l) (same-row r q (both .0)) (agree-in-place rs qs (both .1))
 
+-- Conversely, rows agree with themselves in place.
+row-itself : (r : Row) → agrees true r r ≡ true
+row-itself r =
+    let same : (n : ℕ) → eqb n n ≡ true = λ n. eq-eqb n n refl in
+    and-eq-true-iff (eqb (r .kind) (r .kind)) _ .1
+    (same (r .kind), and-eq-true-iff (eqb (r .parent) (r .parent)) (samePlace r r) .1
+    (same (r .parent), and-eq-true-iff (eqb (r .first) (r .first) && eqb (r .whole) (r .whole)) (eqb (r .content) (r .content)) .1
+    (and-eq-true-iff (eqb (r .first) (r .first)) (eqb (r .whole) (r .whole)) .1 (same (r .first), same (r .whole)), same (r .content))))
+
+pub agree-itself : (rs : List Row) → agree true rs rs ≡ true
+unfolding agree
+agree-itself [] = refl
+agree-itself (r ∷ rs) = and-eq-true-iff (agrees true r r) (agree true rs rs) .1 (row-itself r, agree-itself rs)
+
 -- the octets that a leaf shows, and those of a container, which shows none
 leaf-octets : (t : List ℕ) (p : Row) → container (p .kind) ≡ false → pieceOf t p .octets ≡ slice (p .first) (p .first + p .whole) t
 leaf-octets t p leaf = ap (λ (b : Bool). elim b [ true ↦ [] | false ↦ slice (p .first) (p .first + p .whole) t ]) leaf
