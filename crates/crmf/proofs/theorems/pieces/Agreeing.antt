@@ -60,10 +60,14 @@ agree-in-place (r ∷ rs) (q ∷ qs) is =
 row-itself : (r : Row) → agrees true r r ≡ true
 row-itself r =
     let same : (n : ℕ) → eqb n n ≡ true = λ n. eq-eqb n n refl in
-    and-eq-true-iff (eqb (r .kind) (r .kind)) _ .1
-    (same (r .kind), and-eq-true-iff (eqb (r .parent) (r .parent)) (samePlace r r) .1
-    (same (r .parent), and-eq-true-iff (eqb (r .first) (r .first) && eqb (r .whole) (r .whole)) (eqb (r .content) (r .content)) .1
-    (and-eq-true-iff (eqb (r .first) (r .first)) (eqb (r .whole) (r .whole)) .1 (same (r .first), same (r .whole)), same (r .content))))
+    and-eq-true-iff (eqb (r .kind) (r .kind)) _ .1 (
+      same (r .kind),
+      and-eq-true-iff (eqb (r .parent) (r .parent)) (samePlace r r) .1 (
+        same (r .parent),
+        and-eq-true-iff (eqb (r .first) (r .first) && eqb (r .whole) (r .whole)) (eqb (r .content) (r .content)) .1
+            (and-eq-true-iff (eqb (r .first) (r .first)) (eqb (r .whole) (r .whole)) .1 (same (r .first), same (r .whole)), same (r .content)),
+      ),
+    )
 
 pub agree-itself : (rs : List Row) → agree true rs rs ≡ true
 unfolding agree
