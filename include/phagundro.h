@@ -42,14 +42,13 @@ enum {
     PHAGUNDRO_MOST_ROWS = PHAGUNDRO_LONGEST / 2 /* rows of a batch: no batch has more */
 };
 
-/* Bytes of stack that a call needs. A thread with 128 KB, say, can make every call on a batch of few messages, and write any draft of few
- * rows. */
+/* Bytes of stack that a call needs. A thread with 128 KB can make every call, if it writes only drafts of at most PHAGUNDRO_FEW_ROWS rows. */
 enum {
-    PHAGUNDRO_STACK                = 16000,  /* each call but the next ones */
-    PHAGUNDRO_STACK_DUPLICATES     = 80000,  /* phagundro_duplicates, if the batch has more than PHAGUNDRO_FEW_MESSAGES messages */
-    PHAGUNDRO_STACK_WRITE_SMALL    = 32000,  /* phagundro_write, if it writes at most PHAGUNDRO_SMALL_BATCH bytes or has no room for these */
+    PHAGUNDRO_STACK                = 16000,  /* each call but those of the next lines */
+    PHAGUNDRO_STACK_DUPLICATES     = 80000,  /* phagundro_duplicates on a batch of more than PHAGUNDRO_FEW_MESSAGES messages */
+    PHAGUNDRO_STACK_WRITE_SMALL    = 32000,  /* phagundro_write of a draft that describes a batch of at most PHAGUNDRO_SMALL_BATCH bytes */
     PHAGUNDRO_STACK_WRITE_FEW_ROWS = 120000, /* phagundro_write of any other draft of at most PHAGUNDRO_FEW_ROWS rows */
-    PHAGUNDRO_STACK_WRITE          = 400000, /* phagundro_write of any other draft */
+    PHAGUNDRO_STACK_WRITE          = 400000, /* phagundro_write of any draft */
     PHAGUNDRO_SMALL_BATCH          = 4096,
     PHAGUNDRO_FEW_ROWS             = 4096,
     PHAGUNDRO_FEW_MESSAGES         = 1024
