@@ -20,7 +20,7 @@
  *   - the stack has as many free bytes as PHAGUNDRO_STACK and the names after it say.
  * Several threads may call at once, on tables and outputs that do not overlap.
  *
- * Link with libphagundro.a, as it is named once installed, built for x86-64, which calls nothing outside itself but memcpy and memset.
+ * Link with libphagundro.a, as it is named once installed, built for x86-64, which calls nothing outside itself but memset.
  * C11 and C++17.
  */
 #ifndef PHAGUNDRO_H

@@ -74,7 +74,7 @@ def other_symbols():
     the header doesn't tell of, or a state."""
     header = host.HEADER.read_text()
     declared = {("T", name) for name in re.findall(r"^\w+ (phagundro_\w+)\(", header, re.MULTILINE)}
-    wanted = {("U", name) for name in re.search(r"calls nothing outside itself but (\w+) and (\w+)", header).groups()}
+    wanted = {("U", name) for name in re.search(r"calls nothing outside itself but ([\w ]+)\.", header)[1].split(" and ")}
     symbols = set(re.findall(r"(\w) (\S+)$", host.did(["nm", host.archive()]), re.MULTILINE))
     outward = {(kind, name) for kind, name in symbols if kind not in "tr"}
     return [f"the header has {name}, which the archive lacks" for _, name in sorted((declared | wanted) - outward)] + [
