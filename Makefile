@@ -61,7 +61,7 @@ demo: all ## a sample batch, read and judged
 $(BUILD)/bench: $(wildcard bench/*) $(HEADER) $(ARCHIVE) Makefile
 	mkdir -p $(BUILD)
 	$(CC) $(MEASURING) -Dstrict_walk=strict_walk_by_cc -c -o $(BUILD)/strict.o bench/strict.c
-	$(LLVM) $(MEASURING) -o $@ bench/*.c $(BUILD)/strict.o $(ARCHIVE) $(LDFLAGS) $(CRYPTO)
+	$(LLVM) $(MEASURING) -DCC_NAME='"$(notdir $(CC))"' -o $@ bench/*.c $(BUILD)/strict.o $(ARCHIVE) $(LDFLAGS) $(CRYPTO)
 
 bench: $(BUILD)/bench ## the benchmarks, on this machine
 	$(BUILD)/bench $(MEASURED:%=tests/corpus/crmf/%.der)
