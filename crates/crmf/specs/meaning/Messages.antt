@@ -1,7 +1,7 @@
 -- The messages of a batch, on its element tree alone: what a message is, and which ones a batch holds (SPECIFICATION 3.2 and 7). Assumes
 -- nothing.
 use Prim.Native.Nat.{ℕ}
-use mathlib.Core.List.{List, [], _∷_, _++_, map, flatMap}
+use mathlib.Core.List.{List, [], _∷_, _++_, map, flatMap, flatten}
 use mathlib.Core.Option.{Option, Option·map}
 use lib.ListN.{length, getD, drop}
 use Rattle.der.specs.meaning.Tree.{Tree, none, element, header}
@@ -43,6 +43,14 @@ batch t = getD (fields t) 0 (record { identifier = 0; place = 0; whole = 0; cont
 -- "Batch 30: message+": its messages, in order
 unfoldable pub messages : Tree → List Message
 messages t = map messageOf (fields (batch t .inside))
+
+-- each message's octets, in order
+unfoldable pub messageOctets : Tree → List (List ℕ)
+messageOctets t = map (λ (m : Message). octets (m .own)) (messages t)
+
+-- "Batch 30: message+": the octets of the batch of some messages, by each message's octets
+unfoldable pub batchOctets : List (List ℕ) → List ℕ
+batchOctets ms = let content = flatten ms in header 0x30 content ++ content
 
 -- a batch around some fields, from the first byte on
 unfoldable pub batchOf : List Field → Tree

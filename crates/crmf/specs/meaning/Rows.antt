@@ -1,6 +1,6 @@
 -- Rows: the fields of an accepted element tree, by document 01's section "Rows" and document 02's A11, SPECIFICATION 5. They are defined on the
 -- meaning of the grammar alone. Assumes nothing.
-use Prim.Native.Nat.{ℕ, _+_, _-_, _*_, _≤_, _<_}
+use Prim.Native.Nat.{ℕ, zero, suc, _+_, _-_, _*_, _≤_, _<_}
 use mathlib.Core.Path.{_≡_}
 use mathlib.Core.Bool.{Bool, true, false, _&&_, not}
 use mathlib.Core.List.{List, [], _∷_, _++_, List·Memᴰ}
@@ -86,6 +86,20 @@ unfoldable mutual
 -- the rows of a batch: "the batch is row 0, its own parent"
 unfoldable pub batchRows : {R : ℕ → Bool} {t : Tree} → Matches R (content Top) t → List Row
 batchRows m = rows m 0 0 noExtent
+
+-- a row, d bytes further on: "places move", and content starts with them
+abbrev pub movedRow : ℕ → Row → Row
+movedRow d r = record { kind = r .kind; first = d + r .first; whole = r .whole; parent = r .parent; content = d + r .content }
+
+-- a row's number, k rows further down: "row numbers [move] (parent 0 stays)"
+abbrev pub numberedFurther : ℕ → ℕ → ℕ
+numberedFurther k zero = zero
+numberedFurther k (suc n) = k + suc n
+
+-- a row of rows that are k rows further down
+abbrev pub renumberedRow : ℕ → Row → Row
+renumberedRow k r =
+    record { kind = r .kind; first = r .first; whole = r .whole; parent = numberedFurther k (r .parent); content = r .content }
 
 -- the numbers of rows, one after the other
 unfoldable pub numbers : List Row → List ℕ

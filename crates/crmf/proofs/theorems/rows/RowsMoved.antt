@@ -15,13 +15,9 @@ use Rattle.crmf.specs.meaning.Grammar.{content}
 use Rattle.crmf.specs.meaning.Language.{Matches, end, pass, take, choose, Within, unseen, parts}
 use Rattle.crmf.specs.steps.grammar.Lines.{start}
 use Rattle.crmf.specs.steps.explain.Walk.{line, findLine}
-use Rattle.crmf.specs.meaning.Rows.{Row, Extent, headerLength, extentOf, rowIf, rows}
+use Rattle.crmf.specs.meaning.Rows.{Row, Extent, headerLength, extentOf, rowIf, rows, movedRow}
 use Rattle.crmf.specs.steps.rows.Fill.{goes, rowsFrom}
 use Rattle.crmf.proofs.theorems.rows.RowsOfLines.{rowsOne, rowsWithin, inner-no-rows, inner-rows, rows-nowhere, rows-found, row-none, row-own, rows-lines}
-
--- a row moved by some bytes
-abbrev pub shift : ℕ → Row → Row
-shift d r = record { kind = r .kind; first = d + r .first; whole = r .whole; parent = r .parent; content = d + r .content }
 
 -- an extent moved so
 abbrev pub shifted : ℕ → Extent → Extent
@@ -32,50 +28,50 @@ extent-moved : (d p w : ℕ) (c : List ℕ) → extentOf (d + p) w c ≡ shifted
 extent-moved d p w c = ap (λ (n : ℕ). record { first = d + p; whole = w; content = n }) (add-assoc d p (headerLength w c))
 
 -- and so does its own row
-row-moved : (d kind : ℕ) (here : Extent) (up : ℕ) → rowIf kind (shifted d here) up ≡ map (shift d) (rowIf kind here up)
+row-moved : (d kind : ℕ) (here : Extent) (up : ℕ) → rowIf kind (shifted d here) up ≡ map (movedRow d) (rowIf kind here up)
 row-moved d kind here up = go (eqb kind 0) refl
   where
-    go : (b : Bool) → eqb kind 0 ≡ b → rowIf kind (shifted d here) up ≡ map (shift d) (rowIf kind here up)
-    go true e = row-none kind (shifted d here) up e ∙ sym (ap (map (shift d)) (row-none kind here up e))
-    go false e = row-own kind (shifted d here) up e ∙ sym (ap (map (shift d)) (row-own kind here up e))
+    go : (b : Bool) → eqb kind 0 ≡ b → rowIf kind (shifted d here) up ≡ map (movedRow d) (rowIf kind here up)
+    go true e = row-none kind (shifted d here) up e ∙ sym (ap (map (movedRow d)) (row-none kind here up e))
+    go false e = row-own kind (shifted d here) up e ∙ sym (ap (map (movedRow d)) (row-own kind here up e))
 
 -- an element's rows move with those inside it and after it
 rows-one-moved : (d kind item : ℕ) (here : Extent) (f g : ℕ → ℕ → List Row) (h i : ℕ → List Row) (n up : ℕ) (extent : Extent)
-    → ((j u : ℕ) → g j u ≡ map (shift d) (f j u)) → ((j : ℕ) → i j ≡ map (shift d) (h j))
-    → rowsOne kind item (shifted d here) g i n up (shifted d extent) ≡ map (shift d) (rowsOne kind item here f h n up extent)
+    → ((j u : ℕ) → g j u ≡ map (movedRow d) (f j u)) → ((j : ℕ) → i j ≡ map (movedRow d) (h j))
+    → rowsOne kind item (shifted d here) g i n up (shifted d extent) ≡ map (movedRow d) (rowsOne kind item here f h n up extent)
 unfolding rowsOne
 rows-one-moved d kind item here f g h i n up extent inner later =
     simp (row-moved d, length-map, inner, later, map-append)
 
 -- the rows inside an element move with it
 inner-moved : (d i : ℕ) (inside : Tree) (n up : ℕ) (extent : Extent)
-    → rowsFrom i (moved d inside) n up (shifted d extent) ≡ map (shift d) (rowsFrom i inside n up extent)
-    → rowsWithin i (moved d inside) n up (shifted d extent) ≡ map (shift d) (rowsWithin i inside n up extent)
+    → rowsFrom i (moved d inside) n up (shifted d extent) ≡ map (movedRow d) (rowsFrom i inside n up extent)
+    → rowsWithin i (moved d inside) n up (shifted d extent) ≡ map (movedRow d) (rowsWithin i inside n up extent)
 inner-moved d i inside n up extent each = go (eqb i 0) refl
   where
-    go : (b : Bool) → eqb i 0 ≡ b → rowsWithin i (moved d inside) n up (shifted d extent) ≡ map (shift d) (rowsWithin i inside n up extent)
+    go : (b : Bool) → eqb i 0 ≡ b → rowsWithin i (moved d inside) n up (shifted d extent) ≡ map (movedRow d) (rowsWithin i inside n up extent)
     go true e =
-        inner-no-rows i (moved d inside) n up (shifted d extent) e ∙ sym (ap (map (shift d)) (inner-no-rows i inside n up extent e))
+        inner-no-rows i (moved d inside) n up (shifted d extent) e ∙ sym (ap (map (movedRow d)) (inner-no-rows i inside n up extent e))
     go false e =
-        inner-rows i (moved d inside) n up (shifted d extent) e ∙ each ∙ sym (ap (map (shift d)) (inner-rows i inside n up extent e))
+        inner-rows i (moved d inside) n up (shifted d extent) e ∙ each ∙ sym (ap (map (movedRow d)) (inner-rows i inside n up extent e))
 
 -- The rows from a line on of elements moved by some bytes are their rows, moved.
 pub rows-from-moved : (d : ℕ) (t : Tree) (k n up : ℕ) (extent : Extent)
-    → rowsFrom k (moved d t) n up (shifted d extent) ≡ map (shift d) (rowsFrom k t n up extent)
+    → rowsFrom k (moved d t) n up (shifted d extent) ≡ map (movedRow d) (rowsFrom k t n up extent)
 unfolding rowsFrom
 rows-from-moved d none k n up extent = ap (λ (t : Tree). rowsFrom k t n up (shifted d extent)) (moved-none d)
 rows-from-moved d (element id p w c inside rest) k n up extent =
     ap (λ (t : Tree). rowsFrom k t n up (shifted d extent)) (moved-element d id p w c inside rest)
     ∙ go (λ i j u. rows-from-moved d inside i j u (extentOf p w c)) (λ i j. rows-from-moved d rest i j up extent) (findLine k id) refl
   where
-    go : ((i j u : ℕ) → rowsFrom i (moved d inside) j u (shifted d (extentOf p w c)) ≡ map (shift d) (rowsFrom i inside j u (extentOf p w c)))
-        → ((i j : ℕ) → rowsFrom i (moved d rest) j up (shifted d extent) ≡ map (shift d) (rowsFrom i rest j up extent))
+    go : ((i j u : ℕ) → rowsFrom i (moved d inside) j u (shifted d (extentOf p w c)) ≡ map (movedRow d) (rowsFrom i inside j u (extentOf p w c)))
+        → ((i j : ℕ) → rowsFrom i (moved d rest) j up (shifted d extent) ≡ map (movedRow d) (rowsFrom i rest j up extent))
         → (f : FoundLine) → findLine k id ≡ f
         → rowsFrom k (element id (d + p) w c (moved d inside) (moved d rest)) n up (shifted d extent)
-        ≡ map (shift d) (rowsFrom k (element id p w c inside rest) n up extent)
+        ≡ map (movedRow d) (rowsFrom k (element id p w c inside rest) n up extent)
     go each further Nowhere e =
         rows-nowhere k id (d + p) w c (moved d inside) (moved d rest) n up (shifted d extent) e
-        ∙ sym (ap (map (shift d)) (rows-nowhere k id p w c inside rest n up extent e))
+        ∙ sym (ap (map (movedRow d)) (rows-nowhere k id p w c inside rest n up extent e))
     go each further (At m) e =
         let x = line m in
         let o = goes (x .judge) (x .next) c in
@@ -88,7 +84,7 @@ rows-from-moved d (element id p w c inside rest) k n up extent =
         (λ j. rowsFrom o (moved d rest) j up (shifted d extent)) n up extent
         (λ j u. inner-moved d (x .inside) inside j u here (each (x .inside) j u))
         (further o)
-        ∙ sym (ap (map (shift d)) (rows-found k id p w c inside rest n up extent m e))
+        ∙ sym (ap (map (movedRow d)) (rows-found k id p w c inside rest n up extent m e))
 
 mutual
   -- Some parts describe elements that are moved by some bytes, if they describe the elements.
@@ -108,8 +104,8 @@ mutual
 
 -- Rows move with the bytes: a derivation of the moved elements has the rows of a derivation of the elements, moved.
 pub rows-moved : {R Q : ℕ → Bool} (name : Name) (d : ℕ) (t : Tree) (m : Matches R (content name) t) (e : Matches Q (content name) (moved d t))
-    (n up : ℕ) (extent : Extent) → rows e n up (shifted d extent) ≡ map (shift d) (rows m n up extent)
+    (n up : ℕ) (extent : Extent) → rows e n up (shifted d extent) ≡ map (movedRow d) (rows m n up extent)
 rows-moved name d t m e n up extent =
     sym (rows-lines name e n up (shifted d extent))
     ∙ rows-from-moved d t (start name) n up extent
-    ∙ ap (map (shift d)) (rows-lines name m n up extent)
+    ∙ ap (map (movedRow d)) (rows-lines name m n up extent)
