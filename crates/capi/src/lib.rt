@@ -1,8 +1,8 @@
 // The C calls; their manual is include/phagundro.h. A slice comes as a pointer and a length.
+use crmf::messages::Position;
 use der::refusal::ACCEPTED;
 use editions::reader::Answer;
 use verdict::duplicates::Duplicates;
-use verdict::verdict::Position;
 use verdict::verdict::Verdict;
 ghost use Rattle.editions.specs.meaning.Reads.{Reads};
 ghost use Rattle.writer.specs.meaning.Writes.{Writes};

@@ -77,6 +77,9 @@
 --     proof-cases         a proof's identifier is one of the four
 --     sequence-read       inside a SEQUENCE that is read (`fieldRead`) the fields are those of its content
 --     batch-read          so the messages of a batch are those of the fields that are read from its content on
+--     position-there      from the place of the message at a position (`messagePlace`) on, the fields that are read begin with that message
+--                         (`StandsThere`); there is none if that place is the input's end (`position-missing`)
+--     next-fields         what is read from a place on lies in order: `content-places`, `after-places`, `read-forward`, `next-in-order`
 --     id-read             and a message's certReqId is what is read first inside what is read first inside it (`IdRead`, `first-read`)
 --     ids-some            a message's certReqId has at least one octet of content, and at most 8 if no row is a long one (`ids-eight`)
 --     messages-few        a batch has at least two octets, and 9 more for each of its messages
@@ -145,6 +148,7 @@ pub use Rattle.crmf.proofs.theorems.pieces.Assembly.{assembly, rows-few
 pub use Rattle.crmf.proofs.theorems.pieces.AssembledOctets.{pieces-octets, row-ends, rows-within}
 pub use Rattle.crmf.proofs.theorems.rows.Writing.{over-parts, numbers-length}
 pub use Rattle.crmf.proofs.theorems.messages.MessageSteps.{fieldRead, sequence-read, first-read, IdRead, id-read, batch-read}
+pub use Rattle.crmf.proofs.theorems.messages.Positions.{read-forward, content-places, after-places, next-in-order, next-fields, StandsThere, position-missing, position-there}
 pub use Rattle.crmf.proofs.theorems.messages.MessageSizes.{ids-some, ids-eight, messages-few}
 pub use Rattle.crmf.proofs.theorems.explain.LongIds.{rows-long, walk-long, long-none}
 pub use Rattle.crmf.proofs.theorems.explain.FirstLongIds.{long-exactly, short-none}

@@ -4,3 +4,4 @@ pub mod explain
 pub mod rows
 pub mod recognise
 pub mod Fields
+pub mod Positions

@@ -10,5 +10,6 @@
 pub mod explain;
 mod grammar;
 pub mod kinds;
+pub mod messages;
 pub mod recognise;
 pub mod rows;

@@ -1,5 +1,5 @@
 // The search for two messages with the same certReqId (SPECIFICATION 8).
-use crate::verdict::Position;
+use crmf::messages::Position;
 use der::element::reading;
 use der::refusal::ACCEPTED;
 ghost use Prim.Native.Nat.{_≤_};

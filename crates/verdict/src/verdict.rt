@@ -1,4 +1,6 @@
 // The verdict on a message's proof, and the part that its signature covers (SPECIFICATION 7).
+use crmf::messages::Position;
+use crmf::messages::message_at;
 use der::element::reading::Element;
 use der::element::reading::read_at;
 use der::refusal::ACCEPTED;
@@ -7,15 +9,14 @@ use editions::reader::accept;
 ghost use mathlib.Core.Path.{_≡_};
 ghost use mathlib.Core.List.{List, [], _∷_};
 ghost use mathlib.Core.Option.{Option};
-ghost use lib.ListN.{drop};
 ghost use Rattle.crmf.specs.meaning.Fields.{Field, firstWith};
-ghost use Rattle.crmf.specs.steps.Fields.{fieldsBetween};
+ghost use Rattle.crmf.specs.steps.Fields.{fieldsBetween, Places};
 ghost use Rattle.crmf.specs.meaning.Messages.{Message};
 ghost use Rattle.crmf.proofs.Laws.{MessageParts};
 ghost use Rattle.verdict.specs.meaning.Verdict.{hasSubjectAndKey, enciphermentVerdict, agreementVerdict};
 ghost use Rattle.verdict.specs.meaning.Judges.{Judges, SignedPart};
 ghost use Rattle.verdict.specs.steps.JudgeAnswer.{refused, verdictOn};
-ghost use Rattle.verdict.specs.steps.Judging.{Places, holds, FieldFound, told, bare, signatureAnswer, proofAnswer};
+ghost use Rattle.verdict.specs.steps.Judging.{holds, FieldFound, told, bare, signatureAnswer, proofAnswer};
 
 // The verdicts.
 
@@ -43,10 +44,6 @@ pub const KEY_AGREEMENT: usize = 6;
 // Choice 82 under keyEncipherment, or without both subject and publicKey.
 pub const MISPLACED_DH_MAC: usize = 7;
 
-// A message's position in its batch, from 0. It is never a certReqId.
-#[repr(C)]
-pub struct Position(pub usize);
-
 // What `judge` answers: document 01's number (`der::refusal`; ACCEPTED with a verdict), the place, the verdict, and the signed part's place and
 // length.
 #[repr(C)]
@@ -73,9 +70,8 @@ pub fn judge(edition: usize, bytes: &[u8], position: Position) -> Verdict
     if found.number != ACCEPTED {
         return refuse(found.number, found.place);
     }
-    let batch = read_at(bytes, 0, bytes.len());
-    let end = batch.end;
-    let at = skip(bytes, batch.content, end, position.0);
+    let end = bytes.len();
+    let at = message_at(bytes, position);
     if end <= at {
         return refuse(NO_SUCH_MESSAGE, 0);
     }
@@ -91,24 +87,6 @@ pub fn signed_part(edition: usize, bytes: &[u8], position: Position) -> &[u8]
     let from = found.from;
     let end = from + found.length;
     &bytes[from..end]
-}
-
-// The place of the element after the first `count` of those from `at` to `end`; the end if there is none.
-fn skip(bytes: &[u8], at: usize, end: usize, count: usize) -> usize
-    requires { ⌜ Places (now bytes) at end ⌝ }
-    ensures { λ r. ⌜ Places (now (bytes .entry)) r end × (fieldsBetween (now (bytes .entry)) r end ≡ drop count (fieldsBetween (now (bytes .entry)) at end)) ⌝ }
-{
-    let mut place = at;
-    let mut left = count;
-    while 0 < left {
-        if end <= place {
-            return place;
-        }
-        let x = read_at(bytes, place, end);
-        place = x.end;
-        left -= 1;
-    }
-    place
 }
 
 // The first element with the identifier `id`, of those from `at` to `end`, as a part of the bytes; 0 and 0 if there is none.

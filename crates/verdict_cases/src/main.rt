@@ -13,6 +13,7 @@ use cases::case::ROOM;
 use cases::case::octets;
 use cases::input::TEXT;
 use cases::table::NUMBERS;
+use crmf::messages::Position;
 use editions::edition::RFC2511;
 use editions::edition::RFC4211;
 use format::page::character;
@@ -21,7 +22,6 @@ use format::page::text;
 use libc::STDOUT_FILENO;
 use lines::line::Line;
 use verdict::duplicates::Duplicates;
-use verdict::verdict::Position;
 use verdict::verdict::Verdict;
 
 // The octets of the page on which a line is written.

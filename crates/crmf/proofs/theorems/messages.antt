@@ -6,4 +6,5 @@ pub mod MessageLaws
 pub mod MessageSizes
 pub mod MessageSteps
 pub mod MessageVectors
+pub mod Positions
 pub mod ShortIds

@@ -1,23 +1,15 @@
 -- The verdict step by step, on places of any bytes and on the fields that are read there. Assumes nothing.
-use Prim.Native.Nat.{ℕ, _≤_}
+use Prim.Native.Nat.{ℕ}
 use mathlib.Core.Bool.{Bool, true, false}
 use mathlib.Core.List.{List, [], _∷_}
 use mathlib.Core.Option.{Option, some, none as absent}
 use mathlib.Core.Path.{_≡_}
 use lib.Dec.{eqb}
-use lib.ListN.{length}
 use Rattle.der.specs.meaning.Refusal.{accepted}
-use Rattle.der.specs.meaning.Bounds.{longest}
 use Rattle.crmf.specs.meaning.Fields.{Field, firstWith}
 use Rattle.verdict.specs.declared.verdict.Extent.{Extent}
 use Rattle.verdict.specs.declared.verdict.Verdict.{Verdict}
 use Rattle.verdict.specs.meaning.Verdict.{noProof, raVerified, signedCertReq, signedPoposkInput, otherSignature, enciphermentVerdict, agreementVerdict}
-
--- Two places of an input that is not too long, in order.
-pub record Places (s : List ℕ) (at end : ℕ) : Type 0 where
-  pub order : at ≤ end
-  pub within : end ≤ length s
-  pub short : length s ≤ longest
 
 -- the place and length of a field; 0 and 0 if there is none
 abbrev pub partOf : Option Field → Extent

@@ -9,10 +9,10 @@ use lib.IntN.{ℤ, pos, negsuc}
 use lib.ListN.{length, getD, take}
 use Rattle.der.specs.meaning.Refusal.{accepted}
 use Rattle.der.specs.steps.Reading.{tree}
+use Rattle.crmf.specs.declared.messages.Position.{Position}
 use Rattle.crmf.specs.meaning.Messages.{messages}
 use Rattle.editions.specs.steps.Reading.{answer}
 use Rattle.verdict.specs.declared.duplicates.Duplicates.{Duplicates}
-use Rattle.verdict.specs.declared.verdict.Position.{Position}
 use Rattle.verdict.specs.meaning.Duplicates.{ownIds}
 
 -- an octet's part in the magnitude of a negative number is its complement

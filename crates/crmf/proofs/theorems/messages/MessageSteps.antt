@@ -3,17 +3,18 @@
 use Prim.Native.Nat.{ℕ, _≤_, _<_}
 use native.Mathlib.Nat.{lt-of-not-le}
 use native.Mathlib.Omega.{arith}
-use mathlib.Core.Path.{_≡_, sym, ap, _∙_}
+use mathlib.Core.Path.{_≡_, refl, sym, ap, _∙_}
 use mathlib.Core.List.{List, _∷_, map}
 use lib.ListN.{length}
 use Rattle.der.specs.meaning.Identifier.{constructed}
-use Rattle.der.specs.meaning.Tree.{encode}
+use Rattle.der.specs.meaning.Tree.{Tree, encode}
 use Rattle.der.specs.meaning.Bounds.{longest}
 use Rattle.der.specs.steps.Reading.{readAt, tree}
 use Rattle.der.proofs.Laws.{read-at-in-order, sequence-constructed}
 use Rattle.crmf.specs.meaning.Grammar.{content}
 use Rattle.crmf.specs.meaning.Fields.{Field, fields}
 use Rattle.crmf.specs.steps.Fields.{fieldsBetween}
+use Rattle.crmf.specs.steps.Positions.{elementsRead}
 use Rattle.crmf.specs.meaning.Messages.{messageOf, batch, messages}
 use Rattle.crmf.proofs.theorems.messages.FieldSteps.{fieldAt, fields-end, fields-at, inside-fields, batch-at}
 use Rattle.crmf.proofs.theorems.messages.MessageLaws.{MessageParts, BatchContent}
@@ -63,16 +64,20 @@ id-read s p e some fits high k =
     (ap (λ (f : Field). fields (f .inside)) (sym request) ∙ k .request .held) in
     record { there = (inner, ends); same = same }
 
--- If a whole input is read as a batch, its messages are those of the fields from the batch's content to the input's end.
+-- If a whole input is read as a batch, the elements inside it are those from the batch's content to the input's end.
+pub batch-elements : (s : List ℕ) (t : Tree) → tree 0 s ≡ t → length s ≤ longest → encode t ≡ s → BatchContent t
+    → fields (batch t .inside) ≡ elementsRead s
+batch-elements s t read high encoded b =
+    let n = length s in
+    let x = readAt s 0 n in
+    let some : 0 < n = omega (arith, octets-two (batch t), ap length (b .all), ap length encoded) in
+    let own : batch t ≡ fieldRead s 0 n = ap batch (sym read) ∙ batch-at s some high in
+    let ends : x .end ≡ n = omega (arith, ap (λ (f : Field). f .whole) (sym own) ∙ b .size ∙ ap length encoded) in
+    let thirty = ap (λ (f : Field). f .identifier) (sym own) ∙ b .thirty in
+    ap (λ (f : Field). fields (f .inside)) own ∙ sequence-read s 0 n thirty ∙ ap (λ (e : ℕ). fieldsBetween s (x .content) e) ends
+
+-- So its messages are those of these elements.
 pub batch-read : (s : List ℕ) → length s ≤ longest → encode (tree 0 s) ≡ s → BatchContent (tree 0 s)
     → let p = readAt s 0 (length s) .content in messages (tree 0 s) ≡ map messageOf (fieldsBetween s p (length s))
 unfolding messages
-batch-read s high encoded b =
-    let n = length s in
-    let x = readAt s 0 n in
-    let some : 0 < n = omega (arith, octets-two (batch (tree 0 s)), ap length (b .all), ap length encoded) in
-    let own : batch (tree 0 s) ≡ fieldRead s 0 n = batch-at s some high in
-    let ends : x .end ≡ n = omega (arith, ap (λ (f : Field). f .whole) (sym own) ∙ b .size ∙ ap length encoded) in
-    let thirty = ap (λ (f : Field). f .identifier) (sym own) ∙ b .thirty in
-    let inside = ap (λ (f : Field). fields (f .inside)) own ∙ sequence-read s 0 n thirty in
-    ap (map messageOf) (inside ∙ ap (λ (e : ℕ). fieldsBetween s (x .content) e) ends)
+batch-read s high encoded b = ap (map messageOf) (batch-elements s (tree 0 s) refl high encoded b)

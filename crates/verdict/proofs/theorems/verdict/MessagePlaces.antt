@@ -13,15 +13,14 @@ use Rattle.der.specs.meaning.Identifier.{constructed}
 use Rattle.der.specs.steps.Reading.{readAt}
 use Rattle.der.proofs.Laws.{read-at-end, sequence-constructed, nothing-identifier}
 use Rattle.crmf.specs.meaning.Fields.{Field, fields, listed}
-use Rattle.crmf.specs.steps.Fields.{fieldsBetween}
+use Rattle.crmf.specs.steps.Fields.{fieldsBetween, Places}
 use Rattle.crmf.specs.meaning.Notation.{among}
 use Rattle.crmf.specs.meaning.Messages.{proofs, Message}
-use Rattle.crmf.proofs.Laws.{fieldAt, fields-at, fields-begin, inside-fields, IfAny, MessageParts, listed-none, listed-some}
+use Rattle.crmf.proofs.Laws.{fieldAt, fields-at, fields-begin, inside-fields, IfAny, MessageParts, listed-none, listed-some, content-places, after-places}
 use Rattle.verdict.specs.declared.verdict.Verdict.{Verdict}
 use Rattle.verdict.specs.meaning.Verdict.{hasSubjectAndKey}
 use Rattle.verdict.specs.steps.JudgeAnswer.{verdictOn}
-use Rattle.verdict.specs.steps.Judging.{Places, partOf, proofAnswer}
-use Rattle.verdict.proofs.theorems.verdict.Elements.{content-places, after-places}
+use Rattle.verdict.specs.steps.Judging.{partOf, proofAnswer}
 use Rattle.verdict.proofs.theorems.verdict.Judging.{judged-none, judged-proof}
 
 -- the fields inside the constructed one that is read at a place

@@ -7,9 +7,9 @@ use mathlib.Core.List.{[], _∷_}
 use borrow.Author.Needs.{needs}
 use Rattle.der.proofs.Laws.{InOrder}
 use Rattle.crmf.specs.meaning.Fields.{firstWith}
-use Rattle.crmf.specs.steps.Fields.{fieldsBetween}
-use Rattle.verdict.specs.steps.Judging.{Places}
-use Rattle.verdict.proofs.theorems.verdict.Elements.{found-as, find-end, next-in-order, after-places, find-here, find-next}
+use Rattle.crmf.specs.steps.Fields.{fieldsBetween, Places}
+use Rattle.crmf.proofs.Laws.{next-in-order, after-places}
+use Rattle.verdict.proofs.theorems.verdict.Elements.{found-as, find-end, find-here, find-next}
 use Rattle.verdict.proofs.verdict.find.Statement.{statement}
 use Rattle.verdict.proofs.verdict.find.Tie as tie
 

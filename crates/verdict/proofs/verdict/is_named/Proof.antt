@@ -2,8 +2,9 @@
 use borrow.Author.Needs.{needs}
 use mathlib.Core.Path.{sym, ap, ap₂, _∙_}
 use mathlib.Core.Bool.{_&&_}
-use Rattle.verdict.specs.steps.Judging.{Places, holds}
-use Rattle.verdict.proofs.theorems.verdict.Elements.{content-places, after-places}
+use Rattle.crmf.specs.steps.Fields.{Places}
+use Rattle.crmf.proofs.Laws.{content-places, after-places}
+use Rattle.verdict.specs.steps.Judging.{holds}
 use Rattle.verdict.proofs.theorems.verdict.Judging.{has-first}
 use Rattle.verdict.proofs.theorems.verdict.MessagePlaces.{template-held}
 use Rattle.verdict.proofs.verdict.is_named.Statement.{statement}

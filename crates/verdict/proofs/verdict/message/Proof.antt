@@ -3,9 +3,9 @@ use borrow.Author.Needs.{needs}
 use mathlib.Core.Path.{ap, ap₂, _∙_}
 use mathlib.Core.Option.{some}
 use Rattle.crmf.specs.meaning.Fields.{Field, listed}
-use Rattle.crmf.specs.steps.Fields.{fieldsBetween}
-use Rattle.verdict.specs.steps.Judging.{Places, partOf, proofAnswer}
-use Rattle.verdict.proofs.theorems.verdict.Elements.{read-forward, content-places, after-places}
+use Rattle.crmf.specs.steps.Fields.{fieldsBetween, Places}
+use Rattle.crmf.proofs.Laws.{read-forward, content-places, after-places}
+use Rattle.verdict.specs.steps.Judging.{partOf, proofAnswer}
 use Rattle.verdict.proofs.theorems.verdict.MessagePlaces.{request-read, request-held, proof-read}
 use Rattle.verdict.proofs.verdict.message.Statement.{statement}
 use Rattle.verdict.proofs.verdict.message.Tie as tie

@@ -1,15 +1,17 @@
--- `verdict::verdict::skip` meets its contract. The loop's invariant: skipping the elements that are left from its place gives what skipping all
+-- `crmf::messages::skip` meets its contract. The loop's invariant: skipping the elements that are left from its place gives what skipping all
 -- of them from the first place does. Assumes nothing.
 use Prim.Native.Nat.{ℕ, suc, _-_}
 use native.Mathlib.Omega.{arith}
 use mathlib.Core.Path.{_≡_, refl, sym, ap, _∙_}
+use mathlib.Core.List.{List}
 use borrow.Author.Needs.{needs}
 use lib.ListN.{drop}
-use Rattle.crmf.specs.steps.Fields.{fieldsBetween}
-use Rattle.verdict.specs.steps.Judging.{Places}
-use Rattle.verdict.proofs.theorems.verdict.Elements.{skip-end, after-places, skip-next}
-use Rattle.verdict.proofs.verdict.skip.Statement.{statement}
-use Rattle.verdict.proofs.verdict.skip.Tie as tie
+use Rattle.crmf.specs.meaning.Fields.{Field}
+use Rattle.crmf.specs.steps.Fields.{fieldsBetween, Places}
+use Rattle.crmf.specs.steps.Positions.{firstPlace}
+use Rattle.crmf.proofs.theorems.messages.Positions.{first-place, skip-end, after-places, skip-next}
+use Rattle.crmf.proofs.messages.skip.Statement.{statement}
+use Rattle.crmf.proofs.messages.skip.Tie as tie
 
 abbrev Inv-loop : tie.InvT-loop
 Inv-loop bytes at end count place₀ left₀ place left =
@@ -25,7 +27,8 @@ returns : tie.Need-returns Inv-loop μ-loop
 returns c =
     let a = c .before .before .before .before .args in
     let l = c .before .before .loop in
-    (l .inv .0, skip-end (a .bytes .now) (l .place) (a .end) (l .inv .0) (l .left) (c .if1 .taken) ∙ l .inv .1)
+    sym (first-place (a .bytes .now) (l .place) (a .end) (l .inv .0))
+    ∙ ap (firstPlace (a .end)) (sym (skip-end (a .bytes .now) (l .place) (a .end) (l .inv .0) (l .left) (c .if1 .taken)) ∙ l .inv .1)
 
 read-at-requires : tie.Need-read-at-requires Inv-loop μ-loop
 read-at-requires c κs = search needs
@@ -53,7 +56,9 @@ returns-2 c =
     let a = c .before .before .before .args in
     let l = c .before .loop in
     let none : l .left ≡ 0 = omega arith in
-    (l .inv .0, ap (λ (n : ℕ). drop n (fieldsBetween (a .bytes .now) (l .place) (a .end))) (sym none) ∙ l .inv .1)
+    let whole : List Field = fieldsBetween (a .bytes .now) (l .place) (a .end) in
+    sym (first-place (a .bytes .now) (l .place) (a .end) (l .inv .0))
+    ∙ ap (firstPlace (a .end)) (ap (λ (n : ℕ). drop n whole) (sym none) ∙ l .inv .1)
 
 pub skip-spec : {M : Type 1} → statement M
 skip-spec =
