@@ -38,7 +38,9 @@
 --     row-within          each row's bytes lie within its parent's (`Inner`)
 --     row-content         each row's fifth number is right (`RightContent`); where two rows point at the same octets and one is right, the other is
 --                         exactly if both contents are equally far from the rows' first bytes (`content-same`, `content-right`)
---     rows-moved          elements that are moved by some bytes (`matches-moved`) have the same rows, moved (`movedRow`)
+--     matches-alike       some parts describe elements if they describe alike ones, at whatever places; so it is with elements that are moved by
+--                         some bytes (`matches-moved`)
+--     rows-moved          elements that are moved by some bytes have the same rows, moved (`movedRow`)
 --     rows-pieces         the rows of elements that stand in some octets show the derivation's pieces (`pieces`) of them, one each (`pieces-length`)
 --     batch-pieces        and so do the rows of a batch of its own octets
 --     rows-of             filling finds the rows of any derivation of an accepted input, as many as counting answers (`rows-counted`)
@@ -133,7 +135,8 @@ pub use Rattle.crmf.proofs.theorems.rows.RowsInPlace.{noRow}
 pub use Rattle.crmf.proofs.theorems.rows.RowsOfLines.{rows-lines, rows-same, rows-count, walk-counts}
 pub use Rattle.crmf.proofs.theorems.rows.RowLaws.{Inner, firstHeader, row-zero, rows-some, rows-ascend, row-parent, parent-container, row-within}
 pub use Rattle.crmf.proofs.theorems.rows.RowContents.{row-content, content-same, content-right}
-pub use Rattle.crmf.proofs.theorems.rows.RowsMoved.{matches-moved, rows-moved}
+pub use Rattle.crmf.proofs.theorems.grammar.AlikeMatches.{matches-alike, matches-moved}
+pub use Rattle.crmf.proofs.theorems.rows.RowsMoved.{rows-moved}
 pub use Rattle.crmf.proofs.theorems.pieces.PiecesOf.{pieceIf, pieces, piecesIn}
 pub use Rattle.crmf.proofs.theorems.pieces.ShownPieces.{pieces-length, rows-pieces, batch-pieces}
 pub use Rattle.crmf.proofs.theorems.rows.DraftRows.{rows-by-width, rows-room, row-cut, rows-back, numbers-once, numbers-back}

@@ -27,11 +27,18 @@
 --     tree-encoded        the encoding of an element, and octets after it, are read as that element and those octets
 --     tree-encode         the encoding of well-formed elements is read as them
 --     tree-moved          octets further on are read as the same elements, further on (`moved`)
---     encode-moved        elements further on have the same encoding
---     members-moved       and are the same members
---     well-formed-moved   well-formed elements are well-formed further on
+--     alike-moved         elements further on are alike (`Alike`), the same but for their places; alike elements have the same encoding
+--                         (`encode-alike`)
+--     encode-moved        so elements further on have the same encoding
+--     alike-placed        elements that are placed anywhere, one after the other (`placed`, `placed-none`, `placed-element`), are alike
+--     well-formed-placed  well-formed elements are well-formed at any place, and so is an element (`formed-placed`)
+--     placed-further      elements that are placed and moved are placed further on
+--     placed-there        well-formed elements that are placed where they stand stay as they are; `inside-there` of what is inside one
+--     placed-moved        so well-formed elements that are placed further on are moved
+--     well-formed-moved   and well-formed further on
 --     header-some         a header has at least one octet, and even two (`header-two`): the identifier and the shortest length (`header-octets`,
 --                         `length-some`)
+--     header-grows        a longer content has no shorter header
 --     header-same         an element's octets determine how long its header is
 --     encode-none, encode-element, encode-length    the encoding of no elements, and of an element and those after it, with its length
 --     moved-none, moved-element      no elements further on, and an element and those after it
@@ -84,8 +91,9 @@ pub use Rattle.der.proofs.theorems.content.ContentRules.{integer-some}
 pub use Rattle.der.proofs.theorems.element.Identifiers.{constructed-octet, constructed-bit, sequence-constructed, integer-primitive, known, known-allowed, sequence-allowed}
 pub use Rattle.der.proofs.theorems.element.Headers.{passed, head-fits, head-encoded, head-octets}
 pub use Rattle.der.proofs.theorems.reading.Readings.{InOrder, read-in-order, read-at, read-at-end, nothing-identifier, read-at-in-order, read-at-within, further, read-moved, tree-end, tree-enough}
-pub use Rattle.der.proofs.theorems.reading.Readings.{elementAt, tree-step, tree-parts, tree-at, tree-encoded, tree-encode, tree-moved, encode-moved, members-moved, well-formed-moved}
-pub use Rattle.der.proofs.theorems.reading.Trees.{header-some, header-two, header-octets, header-same, length-some, encode-none, encode-element, encode-length, moved-none, moved-element}
+pub use Rattle.der.proofs.theorems.reading.Readings.{elementAt, tree-step, tree-parts, tree-at, tree-encoded, tree-encode, tree-moved}
+pub use Rattle.der.proofs.theorems.reading.Placing.{Alike, alike-none, alike-element, encode-alike, alike-moved, encode-moved, placed, placed-none, placed-element, alike-placed, formed-placed, well-formed-placed, placed-further, inside-there, placed-there, placed-moved, well-formed-moved}
+pub use Rattle.der.proofs.theorems.reading.Trees.{header-some, header-two, header-octets, header-grows, header-same, length-some, encode-none, encode-element, encode-length, moved-none, moved-element}
 pub use Rattle.der.proofs.theorems.reading.Trees.{well-formed-none, well-formed-deep, well-formed-element, single-none, single-element}
 pub use Rattle.der.proofs.theorems.explain.Exact.{Encoded, exact, Checked, walk-tree}
 pub use Rattle.der.proofs.theorems.explain.FirstFault.{number-zero, fault-number, number-place, walk-fault}

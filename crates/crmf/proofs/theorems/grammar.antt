@@ -1,4 +1,5 @@
 -- The grammar's meaning, an element at a time, and that it is deterministic.
+pub mod AlikeMatches
 pub mod Choices
 pub mod ChoicesMatch
 pub mod Containers

@@ -11,9 +11,8 @@ use mathlib.Core.Option.{Option, some, none as absent, Option·map, Option·none
 use lib.ListN.{length, length-append, length-take, length-drop, take, drop, getD, List·getD-map}
 use lib.Seq.{take-append-seam, take-take, take-add, drop-drop}
 use Rattle.der.specs.meaning.Identifier.{constructed}
-use Rattle.der.specs.meaning.Order.{Closing}
 use Rattle.der.specs.meaning.Tree.{Tree, none, element, header, encode, Formed, WellFormed, moved}
-use Rattle.der.proofs.Laws.{encode-none, encode-element, encode-length, encode-moved, members-moved, moved-none, moved-element, well-formed-moved, well-formed-none, well-formed-deep, well-formed-element, append-parts}
+use Rattle.der.proofs.Laws.{encode-none, encode-element, encode-length, moved-none, moved-element, well-formed-none, well-formed-deep, well-formed-element, append-parts}
 use Rattle.crmf.specs.meaning.Notation.{among}
 use Rattle.crmf.specs.meaning.Fields.{Field, fields, chain, octets, contentStart, fieldEnd, Runs, Consists, StandsAt, missing, nth, firstWith, child, listed, movedField}
 
@@ -293,23 +292,6 @@ drop-moved d (suc n) (f ∷ fs) = drop-moved d n fs
 pub octets-moved : (d : ℕ) (f : Field) → octets (movedField d f) ≡ octets f
 unfolding octets movedField
 octets-moved d f = refl
-
--- a well-formed field is well-formed further on
-pub formed-moved : (d left : ℕ) (f : Field) → FormedField left f → FormedField left (movedField d f)
-unfolding movedField
-formed-moved d zero f formed = absurd formed
-formed-moved d (suc left) f formed =
-    record {
-      placed = refl;
-      sized = formed .sized;
-      identified = formed .identified;
-      filled = λ e. (
-        formed .filled e .0 ∙ sym (encode-moved d (f .inside)),
-        rw (add-assoc d (f .place) (length (header (f .identifier) (f .content)))) (well-formed-moved d left (contentStart f) (f .inside) (formed .filled e .1)),
-      );
-      closing = subst (Closing (f .identifier)) (sym (members-moved d (f .inside))) (formed .closing);
-      valued = λ e. (ap (moved d) (formed .valued e .0) ∙ moved-none d, formed .valued e .1);
-    }
 
 -- fields that stand one after the other do so further on
 pub runs-moved : (d from to : ℕ) (fs : List Field) → Runs from to fs → Runs (d + from) (d + to) (map (movedField d) fs)

@@ -1,7 +1,7 @@
 -- Rows move with the bytes: the same elements at another place have the same rows, moved. Assumes nothing.
 use Prim.Native.Nat.{ℕ, _+_}
 use native.Mathlib.Nat.{add-assoc}
-use mathlib.Core.Path.{_≡_, refl, sym, _∙_, ap, subst}
+use mathlib.Core.Path.{_≡_, refl, sym, _∙_, ap}
 use mathlib.Core.Bool.{Bool, true, false}
 use mathlib.Core.List.{List, map, map-append}
 use lib.Dec.{eqb}
@@ -10,9 +10,9 @@ use Rattle.der.specs.meaning.Tree.{Tree, none, element, moved}
 use Rattle.der.proofs.Laws.{moved-none, moved-element}
 use Rattle.crmf.specs.declared.grammar.table.FoundLine.{FoundLine}
 use Rattle.crmf.specs.declared.grammar.table.FoundLine.the-variants.{At, Nowhere}
-use Rattle.crmf.specs.meaning.Notation.{Name, Inside, part, Parts, done, _then_, select}
+use Rattle.crmf.specs.meaning.Notation.{Name}
 use Rattle.crmf.specs.meaning.Grammar.{content}
-use Rattle.crmf.specs.meaning.Language.{Matches, end, pass, take, choose, Within, unseen, parts}
+use Rattle.crmf.specs.meaning.Language.{Matches}
 use Rattle.crmf.specs.steps.grammar.Lines.{start}
 use Rattle.crmf.specs.steps.explain.Walk.{line, findLine}
 use Rattle.crmf.specs.meaning.Rows.{Row, Extent, headerLength, extentOf, rowIf, rows, movedRow}
@@ -85,22 +85,6 @@ rows-from-moved d (element id p w c inside rest) k n up extent =
         (λ j u. inner-moved d (x .inside) inside j u here (each (x .inside) j u))
         (further o)
         ∙ sym (ap (map (movedRow d)) (rows-found k id p w c inside rest n up extent m e))
-
-mutual
-  -- Some parts describe elements that are moved by some bytes, if they describe the elements.
-  pub matches-moved : {R : ℕ → Bool} {ps : Parts} {t : Tree} (m : Matches R ps t) (d : ℕ) → Matches R ps (moved d t)
-  matches-moved {R} end d = subst (Matches R done) (sym (moved-none d)) end
-  matches-moved (pass ok m) d = pass ok (matches-moved m d)
-  matches-moved {R} (take {o} {fs} {ps} {id} {first = p} {whole = w} {c} {inside} {rest} f among fits read kept within m) d =
-      subst (Matches R (part o fs then ps)) (sym (moved-element d id p w c inside rest))
-      (take f among fits read kept (within-moved within d) (matches-moved m d))
-  matches-moved {R} (choose {s} {names} {id} {first = p} {whole = w} {c} {inside} {rest} name way m) d =
-      subst (Matches R (select id s names)) (sym (moved-element d id p w c inside rest)) (choose name way (matches-moved m d))
-
-  -- so it is with the elements inside an element
-  pub within-moved : {R : ℕ → Bool} {i : Inside} {t : Tree} (w : Within R i t) (d : ℕ) → Within R i (moved d t)
-  within-moved unseen d = unseen
-  within-moved (parts m) d = parts (matches-moved m d)
 
 -- Rows move with the bytes: a derivation of the moved elements has the rows of a derivation of the elements, moved.
 pub rows-moved : {R Q : ℕ → Bool} (name : Name) (d : ℕ) (t : Tree) (m : Matches R (content name) t) (e : Matches Q (content name) (moved d t))

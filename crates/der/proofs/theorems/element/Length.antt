@@ -6,7 +6,7 @@ use mathlib.Core.List.{List, [], _∷_, _++_}
 use native.Mathlib.Nat.{mul-assoc, mul-le-mul-right, pow-succ', lt-of-lt-of-le}
 use native.Mathlib.Omega.{arith}
 use lib.Dec.{leb, ltb}
-use lib.ListN.{length, take}
+use lib.ListN.{length, take, length-append}
 use lib.Seq.{length-take-le}
 use borrow.Author.Tests.{ltb-true, ltb-false, leb-true, lt-ltb, le-ltb, le-leb, ne-eqb}
 use Rattle.der.specs.meaning.Octets.{Octets}
@@ -19,21 +19,24 @@ unfolding base256
 base-zero zero = refl
 base-zero (suc k) = refl
 
+-- the last octet of a number is its remainder by 256
+base-step : (k n : ℕ) → 0 < n → base256 (suc k) n ≡ base256 k (n / 256) ++ (n % 256 ∷ [])
+unfolding base256
+base-step k n low = rw (base256, ne-eqb n 0 (λ e. omega arith))
+
 -- one octet gives what is below 256
 base-one : (k n : ℕ) → 0 < n → n < 256 → base256 (suc k) n ≡ n ∷ []
-unfolding base256
 base-one k n low high =
     let z : n / 256 ≡ 0 = omega arith in
     let m : n % 256 ≡ n = omega arith in
-    rw (base256, ne-eqb n 0 (λ e. omega arith), z, base-zero k, m)
+    rw (base-step k n low, z, base-zero k, m)
 
 -- two octets give what is below 65,536
 base-two : (k n : ℕ) → 256 ≤ n → n ≤ 65535 → base256 (suc (suc k)) n ≡ n / 256 ∷ n % 256 ∷ []
-unfolding base256
 base-two k n low high =
     let q : 0 < n / 256 = omega arith in
     let r : n / 256 < 256 = omega arith in
-    rw (base256, ne-eqb n 0 (λ e. omega arith), base-one k (n / 256) q r)
+    rw (base-step (suc k) n (omega arith), base-one k (n / 256) q r)
 
 -- a number below 128 is its own length octet
 pub shortest-small : (n : ℕ) → n < 128 → lengthOctets n ≡ n ∷ []
@@ -55,6 +58,33 @@ pub shortest-two : (n : ℕ) → 256 ≤ n → n ≤ 65535 → lengthOctets n �
 shortest-two zero low high = absurd (omega arith)
 shortest-two (suc zero) low high = absurd (omega arith)
 shortest-two (suc (suc k)) low high = long-octets (suc (suc k)) _ (omega arith) (base-two k (suc (suc k)) low high)
+
+-- a larger number has no fewer octets to the base 256
+base-grows : (j k m n : ℕ) → j ≤ k → m ≤ n → length (base256 j m) ≤ length (base256 k n)
+unfolding base256
+base-grows zero k m n few low = omega arith
+base-grows (suc j) zero m n few low = absurd (omega arith)
+base-grows (suc j) (suc k) zero n few low = omega arith
+base-grows (suc j) (suc k) (suc m) n few low =
+    let a = base256 j (suc m / 256) in
+    let b = base256 k (n / 256) in
+    let more : length a ≤ length b = base-grows j k (suc m / 256) (n / 256) (omega arith) (omega arith) in
+    rw (base-step j (suc m) (omega arith), base-step k n (omega arith))
+    (omega (arith, length-append a (suc m % 256 ∷ []), length-append b (n % 256 ∷ [])))
+
+-- and no fewer length octets
+pub lengths-grow : (m n : ℕ) → m ≤ n → length (lengthOctets m) ≤ length (lengthOctets n)
+unfolding lengthOctets
+lengths-grow m n low = by-tests (ltb m 128) (ltb n 128) refl refl
+  where
+    octetsBy : Bool → ℕ → List ℕ
+    octetsBy b k = elim b [ true ↦ k ∷ [] | false ↦ (0x80 + length (base256 k k)) ∷ base256 k k ]
+
+    by-tests : (a b : Bool) → ltb m 128 ≡ a → ltb n 128 ≡ b → length (octetsBy a m) ≤ length (octetsBy b n)
+    by-tests true true p q = omega arith
+    by-tests true false p q = omega arith
+    by-tests false true p q = absurd (omega (arith, ltb-false m 128 p, ltb-true n 128 q))
+    by-tests false false p q = omega (arith, base-grows m n m n low low)
 
 -- no octets give the number before them
 pub value-none : (n : ℕ) → valueFrom n [] ≡ n

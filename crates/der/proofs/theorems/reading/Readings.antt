@@ -1,7 +1,7 @@
 -- The laws of the tree that octets are read as: it is read element by element up to the end, an encoding is read back, and octets at another
 -- place are read as the same tree there. Assumes nothing.
 use Prim.Native.Nat.{ℕ, zero, suc, _+_, _-_, _≤_, _<_}
-use mathlib.Core.Path.{_≡_, refl, sym, ap, ap₂, subst, _∙_}
+use mathlib.Core.Path.{_≡_, refl, sym, ap, ap₂, _∙_}
 use mathlib.Core.Logic.{_⊎_, inl, inr}
 use mathlib.Core.Bool.{Bool, true, false}
 use mathlib.Core.List.{List, [], _∷_, _++_}
@@ -17,8 +17,7 @@ use Rattle.der.specs.declared.element.header.Head.the-variants.{Stands, 
 use Rattle.der.specs.declared.element.reading.Element.{Element}
 use Rattle.der.specs.meaning.Identifier.{allowed, constructed}
 use Rattle.der.specs.steps.Header.{headOf}
-use Rattle.der.specs.meaning.Order.{Closing}
-use Rattle.der.specs.meaning.Tree.{Tree, none, element, header, encode, members, Formed, WellFormed, moved}
+use Rattle.der.specs.meaning.Tree.{Tree, none, element, header, encode, Formed, WellFormed, moved}
 use Rattle.der.specs.meaning.Bounds.{longest}
 use Rattle.der.specs.steps.Reading.{nothingAt, given, read, readAt, treeOf, tree}
 use Rattle.der.proofs.theorems.lists.Parts.{slice-slice, drop-slice, slice-middle, slice-none}
@@ -266,34 +265,3 @@ tree-of-moved (suc n) d p (b ∷ bs) =
 pub tree-moved : (d p : ℕ) (bs : List ℕ) → tree (d + p) bs ≡ moved d (tree p bs)
 unfolding tree
 tree-moved d p bs = tree-of-moved (length bs) d p bs
-
--- elements further on have the same encoding
-pub encode-moved : (d : ℕ) (t : Tree) → encode (moved d t) ≡ encode t
-unfolding encode moved
-encode-moved d none = refl
-encode-moved d (element id first whole content inside rest) = rw (encode-moved d rest)
-
--- elements further on are the same members
-pub members-moved : (d : ℕ) (t : Tree) → members (moved d t) ≡ members t
-unfolding members moved
-members-moved d none = refl
-members-moved d (element id first whole content inside rest) = rw (members-moved d rest)
-
--- well-formed elements are well-formed further on
-pub well-formed-moved : (d left p : ℕ) (t : Tree) → WellFormed left p t → WellFormed left (d + p) (moved d t)
-unfolding moved WellFormed
-well-formed-moved d left p none w = tt
-well-formed-moved d zero p (element id first whole content inside rest) w = absurd w
-well-formed-moved d (suc left) p (element id first whole content inside rest) w =
-    let f = w .0 in
-    let h : ℕ = length (header id content) in (
-      record {
-        placed = rw (f .placed);
-        sized = f .sized;
-        identified = f .identified;
-        filled = λ e. (rw (encode-moved d inside) (f .filled e .0), rw (add-assoc d p h) (well-formed-moved d left (p + h) inside (f .filled e .1)));
-        closing = subst (Closing id) (sym (members-moved d inside)) (f .closing);
-        valued = λ e. (ap (moved d) (f .valued e .0), f .valued e .1);
-      },
-      rw (add-assoc d p whole) (well-formed-moved d (suc left) (p + whole) rest (w .1)),
-    )

@@ -10,7 +10,7 @@ use lib.Dec.{ltb}
 use lib.ListN.{length, drop, length-append}
 use Rattle.der.specs.meaning.Bounds.{longest}
 use Rattle.der.specs.meaning.Length.{base256, lengthOctets, octets, lengthOf}
-use Rattle.der.proofs.theorems.element.Length.{length-encoded}
+use Rattle.der.proofs.theorems.element.Length.{lengths-grow, length-encoded}
 use Rattle.der.specs.meaning.Tree.{Tree, none, element, header, encode, Formed, WellFormed, Single, moved}
 
 -- a header has at least one octet
@@ -35,6 +35,11 @@ length-some n = go (ltb n 0x80)
 -- so a header has at least two octets
 pub header-two : (id : ℕ) (c : List ℕ) → 2 ≤ length (header id c)
 header-two id c = omega (arith, ap length (header-octets id c), length-some (length c))
+
+-- A longer content has no shorter header.
+pub header-grows : (id : ℕ) (c d : List ℕ) → length c ≤ length d → length (header id c) ≤ length (header id d)
+unfolding header
+header-grows id c d longer = omega (arith, lengths-grow (length c) (length d) longer)
 
 -- An element's octets determine how long its header is.
 pub header-same : (id j : ℕ) (c d : List ℕ) → header id c ++ c ≡ header j d ++ d → length c ≤ longest → length d ≤ longest
