@@ -9,5 +9,7 @@ pub mod Rowless
 pub mod RowsInPlace
 pub mod RowsMoved
 pub mod RowsOfLines
+pub mod RowsRenumbered
+pub mod ShortRows
 pub mod Showing
 pub mod Writing

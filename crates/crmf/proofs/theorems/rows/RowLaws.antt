@@ -156,7 +156,7 @@ pub only-form : {f g : Form} → OneOf f (g ∷ []) → f ≡ g
 only-form first = refl
 
 -- no parts describe no elements, which have no rows
-nothing-left : {R : ℕ → Bool} {t : Tree} (m : Matches R done t) (n up : ℕ) (extent : Extent) → (t ≡ none) × (rows m n up extent ≡ [])
+pub nothing-left : {R : ℕ → Bool} {t : Tree} (m : Matches R done t) (n up : ℕ) (extent : Extent) → (t ≡ none) × (rows m n up extent ≡ [])
 unfolding rows
 nothing-left end n up extent = (refl, refl)
 

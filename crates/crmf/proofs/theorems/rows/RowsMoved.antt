@@ -17,23 +17,19 @@ use Rattle.crmf.specs.steps.grammar.Lines.{start}
 use Rattle.crmf.specs.steps.explain.Walk.{line, findLine}
 use Rattle.crmf.specs.meaning.Rows.{Row, Extent, headerLength, extentOf, rowIf, rows, movedRow}
 use Rattle.crmf.specs.steps.rows.Fill.{goes, rowsFrom}
-use Rattle.crmf.proofs.theorems.rows.RowsOfLines.{rowsOne, rowsWithin, inner-no-rows, inner-rows, rows-nowhere, rows-found, row-none, row-own, rows-lines}
+use Rattle.crmf.proofs.theorems.rows.RowsOfLines.{rowsOne, rowsWithin, inner-no-rows, inner-rows, rows-nowhere, rows-found, row-mapped, rows-lines}
 
 -- an extent moved so
 abbrev pub shifted : ℕ → Extent → Extent
 shifted d x = record { first = d + x .first; whole = x .whole; content = d + x .content }
 
 -- an element's extent moves with it
-extent-moved : (d p w : ℕ) (c : List ℕ) → extentOf (d + p) w c ≡ shifted d (extentOf p w c)
+pub extent-moved : (d p w : ℕ) (c : List ℕ) → extentOf (d + p) w c ≡ shifted d (extentOf p w c)
 extent-moved d p w c = ap (λ (n : ℕ). record { first = d + p; whole = w; content = n }) (add-assoc d p (headerLength w c))
 
 -- and so does its own row
 row-moved : (d kind : ℕ) (here : Extent) (up : ℕ) → rowIf kind (shifted d here) up ≡ map (movedRow d) (rowIf kind here up)
-row-moved d kind here up = go (eqb kind 0) refl
-  where
-    go : (b : Bool) → eqb kind 0 ≡ b → rowIf kind (shifted d here) up ≡ map (movedRow d) (rowIf kind here up)
-    go true e = row-none kind (shifted d here) up e ∙ sym (ap (map (movedRow d)) (row-none kind here up e))
-    go false e = row-own kind (shifted d here) up e ∙ sym (ap (map (movedRow d)) (row-own kind here up e))
+row-moved d kind here up = row-mapped (movedRow d) kind here (shifted d here) up up refl
 
 -- an element's rows move with those inside it and after it
 rows-one-moved : (d kind item : ℕ) (here : Extent) (f g : ℕ → ℕ → List Row) (h i : ℕ → List Row) (n up : ℕ) (extent : Extent)

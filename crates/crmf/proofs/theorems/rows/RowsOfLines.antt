@@ -5,7 +5,7 @@ use Prim.Native.Nat.{ℕ, _+_}
 use native.Mathlib.Omega.{arith}
 use mathlib.Core.Path.{_≡_, refl, sym, _∙_, ap, ap₂, subst, fun-ext}
 use mathlib.Core.Bool.{Bool, true, false, _&&_}
-use mathlib.Core.List.{List, [], _∷_, _++_}
+use mathlib.Core.List.{List, [], _∷_, _++_, map}
 use mathlib.Core.Option.{Option}
 use lib.Dec.{T, eqb}
 use lib.ListN.{length, length-append}
@@ -207,6 +207,15 @@ parent-none kind n up e = rw (e, parentIf)
 pub row-own : (kind : ℕ) (extent : Extent) (parent : ℕ) → eqb kind 0 ≡ false
     → rowIf kind extent parent ≡ rowWith kind extent parent ∷ []
 row-own kind extent parent e = rw (e, rowIf)
+
+-- so an element's own row is another row mapped, if its row would be
+pub row-mapped : (f : Row → Row) (kind : ℕ) (here there : Extent) (up below : ℕ) → rowWith kind there below ≡ f (rowWith kind here up)
+    → rowIf kind there below ≡ map f (rowIf kind here up)
+row-mapped f kind here there up below same = go (eqb kind 0) refl
+  where
+    go : (b : Bool) → eqb kind 0 ≡ b → rowIf kind there below ≡ map f (rowIf kind here up)
+    go true e = row-none kind there below e ∙ sym (ap (map f) (row-none kind here up e))
+    go false e = row-own kind there below e ∙ ap (λ (r : Row). r ∷ []) same ∙ sym (ap (map f) (row-own kind here up e))
 
 -- which is the parent of the rows inside
 pub parent-own : (kind n up : ℕ) → eqb kind 0 ≡ false → parentIf kind n up ≡ n
