@@ -3,6 +3,7 @@ pub mod FieldLaws
 pub mod FieldSteps
 pub mod FieldsMatch
 pub mod MessageLaws
+pub mod MessageRows
 pub mod MessageSizes
 pub mod MessageSteps
 pub mod MessageVectors

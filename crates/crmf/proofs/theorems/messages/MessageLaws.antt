@@ -281,14 +281,25 @@ message-own t m n =
     let (f, here, e) = Memᴰ·of-map messageOf (fields (batch t .inside)) n in
     subst (λ (x : Message). List·Memᴰ (x .own) (fields (batch t .inside)) × (messageOf (x .own) ≡ x)) e (here, refl)
 
--- the messages' own fields are the fields inside the batch
-pub messages-own : (t : Tree) → map (λ (m : Message). m .own) (messages t) ≡ fields (batch t .inside)
-unfolding messages messageOf
-messages-own t = each (fields (batch t .inside))
-  where
-    each : (fs : List Field) → map (λ (m : Message). m .own) (map messageOf fs) ≡ fs
-    each [] = refl
-    each (f ∷ fs) = ap (λ (gs : List Field). f ∷ gs) (each fs)
+-- the own fields of the messages of some fields are those fields
+pub own-fields : (fs : List Field) → map (λ (m : Message). m .own) (map messageOf fs) ≡ fs
+unfolding messageOf
+own-fields [] = refl
+own-fields (f ∷ fs) = ap (λ (gs : List Field). f ∷ gs) (own-fields fs)
+
+-- The own fields of a batch's messages.
+abbrev pub ownFields : Tree → List Field
+ownFields t = map (λ (m : Message). m .own) (messages t)
+
+-- they are the fields inside the batch
+pub messages-own : (t : Tree) → ownFields t ≡ fields (batch t .inside)
+unfolding messages
+messages-own t = own-fields (fields (batch t .inside))
+
+-- and the messages are those of them
+pub own-messages : (t : Tree) → map messageOf (ownFields t) ≡ messages t
+unfolding messages
+own-messages t = ap (map messageOf) (messages-own t)
 
 -- the encoding of a single element is its header and its content
 alone-octets : (id first whole : ℕ) (c : List ℕ) (inside : Tree) → encode (element id first whole c inside none) ≡ header id c ++ c
@@ -321,7 +332,7 @@ pub record BatchContent (t : Tree) : Type 0 where
   pub first : batch t .place ≡ 0
   pub all : encode t ≡ octets (batch t)
   pub size : batch t .whole ≡ length (encode t)
-  pub whole : Consists (batch t) (map (λ (m : Message). m .own) (messages t))
+  pub whole : Consists (batch t) (ownFields t)
   pub some : 1 ≤ length (messages t)
 
 -- The content of a batch is its messages' octets, one after the other, and the places run on.
@@ -390,7 +401,7 @@ messages-stand t top w one m n =
     let s = encode t in
     let b = batch-content t top w one in
     let k = message-parts t top w one m n in
-    let own = consists-stand s (batch t) (map (λ (x : Message). x .own) (messages t)) (b .whole) (batch-stands t b) (m .own) (Memᴰ·map (λ (x : Message). x .own) n) in
+    let own = consists-stand s (batch t) (ownFields t) (b .whole) (batch-stands t b) (m .own) (Memᴰ·map (λ (x : Message). x .own) n) in
     let part = consists-stand s (m .own) (m .certReq ∷ (listed (m .proof) ++ listed (m .regInfo))) (k .whole) own in
     let certReq = part (m .certReq) (List·Memᴰ·head refl) in
     let inner = consists-stand s (m .certReq) (m .certReqId ∷ m .template ∷ listed (m .controls)) (k .request) certReq in
@@ -454,12 +465,12 @@ unfolding batchOf
 batch-of-octets fs = let c = flatMap octets fs in alone-octets 0x30 0 (length (header 0x30 c ++ c)) c (chain fs)
 
 -- an element that is a batch is the batch around its messages
-again : (t : Tree) → BatchContent t → Single t → batchOf (map (λ (m : Message). m .own) (messages t)) ≡ t
+again : (t : Tree) → BatchContent t → Single t → batchOf (ownFields t) ≡ t
 unfolding batchOf batch fields octets
 again none b one = absurd (single-none one)
 again (element id first whole c inside rest) b one =
     let t = element id first whole c inside rest in
-    let fs = map (λ (m : Message). m .own) (messages t) in
+    let fs = ownFields t in
     let e : id ≡ 0x30 = b .thirty in
     let f : first ≡ 0 = b .first in
     let w : whole ≡ length (header id c ++ c) = b .size ∙ ap length (b .all) in
@@ -469,7 +480,7 @@ again (element id first whole c inside rest) b one =
 
 -- A batch is the batch around its messages.
 pub batch-again : {R : ℕ → Bool} (t : Tree) → Matches R (content Top) t → WellFormed depth 0 t → Single t
-    → batchOf (map (λ (m : Message). m .own) (messages t)) ≡ t
+    → batchOf (ownFields t) ≡ t
 batch-again t top w one = again t (batch-content t top w one) one
 
 -- a message further on
@@ -477,13 +488,14 @@ pub message-moved : (d : ℕ) (f : Field) → messageOf (movedField d f) ≡ mov
 unfolding messageOf movedMessage
 message-moved d f = simp (nth-moved, inside-moved, drop-moved, first-with-moved)
 
+-- the messages of fields further on
+pub messages-of-moved : (d : ℕ) (fs : List Field) → map messageOf (map (movedField d) fs) ≡ map (movedMessage d) (map messageOf fs)
+messages-of-moved d [] = refl
+messages-of-moved d (f ∷ fs) = rw (message-moved d f, messages-of-moved d fs)
+
 -- The messages of a tree further on are the messages further on.
 pub messages-moved : (d : ℕ) (t : Tree) → messages (moved d t) ≡ map (movedMessage d) (messages t)
 unfolding messages batch fields
 messages-moved d none = ap messages (moved-none d)
 messages-moved d (element id first whole c inside rest) =
-    ap messages (moved-element d id first whole c inside rest) ∙ rw (fields-moved d inside) (each (fields inside))
-  where
-    each : (fs : List Field) → map messageOf (map (movedField d) fs) ≡ map (movedMessage d) (map messageOf fs)
-    each [] = refl
-    each (f ∷ fs) = rw (message-moved d f, each fs)
+    ap messages (moved-element d id first whole c inside rest) ∙ rw (fields-moved d inside) (messages-of-moved d (fields inside))

@@ -1,10 +1,9 @@
 -- If no row of a batch is a certReqId "of more than 8 content octets", no message's certReqId is one: each is a row of the batch.
 -- Assumes nothing.
 use Prim.Native.Nat.{ℕ, _+_, _≤_}
-use native.Mathlib.Omega.{arith}
 use mathlib.Core.Path.{_≡_, refl, ap, _∙_, subst}
 use mathlib.Core.Logic.{_⊎_, inl, inr}
-use mathlib.Core.Bool.{Bool, true, false, not, _&&_}
+use mathlib.Core.Bool.{Bool, true, not, and-eq-true-iff}
 use mathlib.Core.List.{List, [], _∷_, _++_, List·Memᴰ, List·Memᴰ·head, List·Memᴰ·tail, List·Memᴰ·not-nil, List·Memᴰ·cases-cons}
 use lib.Dec.{ltb}
 use lib.ListN.{length}
@@ -15,29 +14,17 @@ use Rattle.crmf.specs.meaning.Notation
 use Rattle.crmf.specs.meaning.Notation.{Name, Top, Batch, CertReq, holds, Form, once, repeated, part, Parts, done, _then_, holding, row}
 use Rattle.crmf.specs.meaning.Grammar.{content}
 use Rattle.crmf.specs.meaning.Language.{OneOf, Matches, end, pass, take, Within, parts}
-use Rattle.crmf.specs.meaning.Rows.{Row, Extent, extentOf, noExtent, rowIf, parentIf, rows, rowsIn, batchRows, longId, allShort}
+use Rattle.crmf.specs.meaning.Rows.{Extent, noExtent, rowIf, parentIf, rows, rowsIn, batchRows, allShort}
 use Rattle.crmf.specs.meaning.Fields.{Field, fields, nth}
 use Rattle.crmf.specs.meaning.Messages.{Message, messageOf, batch, messages}
+use Rattle.crmf.proofs.theorems.rows.ShortRows.{short-both}
 use Rattle.crmf.proofs.theorems.messages.MessageLaws.{message-own}
-
--- both of two tests
-both : (a b : Bool) → (a && b) ≡ true → (a ≡ true) × (b ≡ true)
-both true b e = (refl, e)
-both false b e = let z : _≡_ {A = ℕ} 0 1 = cc in absurd (omega arith)
-
--- if no row of two lists is long, no row of either is
-short-append : (a b : List Row) → allShort (a ++ b) ≡ true → (allShort a ≡ true) × (allShort b ≡ true)
-unfolding allShort
-short-append [] b short = (refl, short)
-short-append (r ∷ a) b short =
-    let (own, rest) = both (not (longId (r .kind) (r .whole))) (allShort (a ++ b)) short in
-    let (front, after) = short-append a b rest in
-    (rw (own, front), after)
+use Rattle.crmf.proofs.theorems.messages.MessageRows.{fieldExtent}
 
 -- a row of a certReqId that is not long
 short-own : (kind : ℕ) (here : Extent) (up : ℕ) → allShort (rowIf kind here up) ≡ true → kind ≡ kinds.certReqId → here .whole ≤ 10
 unfolding allShort
-short-own kind here up short id = ltb-false 10 (here .whole) (not-true (ltb 10 (here .whole)) (both (not (ltb 10 (here .whole))) true (rw id at short) .0))
+short-own kind here up short id = ltb-false 10 (here .whole) (not-true (ltb 10 (here .whole)) (and-eq-true-iff (not (ltb 10 (here .whole))) true .0 (rw id at short) .0))
 
 -- The rows of a derivation, from some numbers on, have no long certReqId.
 record NoLong {R : ℕ → Bool} {ps : Parts} {t : Tree} (m : Matches R ps t) : Type 0 where
@@ -45,10 +32,6 @@ record NoLong {R : ℕ → Bool} {ps : Parts} {t : Tree} (m : Matches R ps t) : 
   up : ℕ
   extent : Extent
   short : allShort (rows m n up extent) ≡ true
-
--- the extent of a field
-abbrev fieldExtent : Field → Extent
-fieldExtent f = extentOf (f .place) (f .whole) (f .content)
 
 -- A field of a form: it is no long certReqId, and there is none inside it.
 record ShortField (R : ℕ → Bool) (form : Form) (f : Field) : Type 0 where
@@ -97,9 +80,9 @@ taken-short f g within m n up extent short =
     let next = n + length item in
     let inner = rowsIn within (next + length own) (parentIf (f .kind) next above) (fieldExtent g) in
     let after = rows m (next + length own + length inner) up extent in
-    let a = short-append item (own ++ (inner ++ after)) short in
-    let b = short-append own (inner ++ after) (a .1) in
-    let c = short-append inner after (b .1) in (
+    let a = short-both item (own ++ (inner ++ after)) short in
+    let b = short-both own (inner ++ after) (a .1) in
+    let c = short-both inner after (b .1) in (
       record {
         own = short-own (f .kind) (fieldExtent g) above (b .0);
         within = within;
