@@ -41,6 +41,13 @@
 --     matches-alike       some parts describe elements if they describe alike ones, at whatever places; so it is with elements that are moved by
 --                         some bytes (`matches-moved`)
 --     rows-moved          elements that are moved by some bytes have the same rows, moved (`movedRow`)
+--     rows-renumbered     rows that come further down are the same rows, renumbered (`renumberedRow`)
+--     short-append        rows after others have no long certReqId exactly if both have none (`short-both`); rows that are moved (`short-moved`) or
+--                         renumbered (`short-renumbered`) have none exactly if the rows have none
+--     batch-rows-of-messages    the rows of a batch are row 0 (`batchRow`) and the rows of its messages' own fields (`ownFields`), one after the
+--                         other (`rowsOfMessages`, `rows-below`): of each its own row and the rows inside it (`messageRows`, `message-rows`)
+--     messages-rows-append    messages after others have their rows after theirs; moved ones have them moved (`messages-rows-moved`), and those
+--                         that come further down have them renumbered (`messages-rows-renumbered`)
 --     rows-pieces         the rows of elements that stand in some octets show the derivation's pieces (`pieces`) of them, one each (`pieces-length`)
 --     batch-pieces        and so do the rows of a batch of its own octets
 --     rows-of             filling finds the rows of any derivation of an accepted input, as many as counting answers (`rows-counted`)
@@ -67,6 +74,16 @@
 --     messages-formed     each message is well-formed, one level of depth below the batch (`FormedField`)
 --     messages-stand      each message and each of its fields stands at its place in the batch's octets (`MessageStands`)
 --     messages-moved      the messages of elements that are moved by some bytes are the messages, moved
+--     batch-octets        the octets of a batch (`BatchTree`) are those of the batch of its messages, its content is theirs (`content-octets`), and
+--                         they are as many as its header (`batchHeader`) and its content have (`batch-length`)
+--     batch-octets-left   the batch of some messages is no longer than one with others after them or before them (`batch-octets-right`)
+--     batch-from          any fields, at least one, that match as messages and are well-formed make a batch of them (`batchFrom`, `BatchWith`)
+--     joined-tree         the messages of two batches make a batch (`joinedTree`); its messages (`joined-messages`) and the rows below its own
+--                         (`joined-rows`) are those of the two, the first's moved by the growth of the header (`firstMove`), the second's by the
+--                         header and the first's content less their own header (`secondMove`), their rows also renumbered; none of its rows is a
+--                         long certReqId if none of theirs is (`joined-short`)
+--     cut-tree            a message of a batch makes a batch (`cutTree`); its one message, moved forward (`cutMove`), is the message
+--                         (`cut-message`), and none of its rows is a long certReqId if none of the batch's is (`cut-short`)
 --     at-position         what is found at a position of a list is one of its entries
 --     proof-child-stands  a field inside a message's proof stands at its place too
 --     stands-part         a field that stands at its place lies within the bytes, and its octets are that part of them
@@ -133,10 +150,12 @@ pub use Rattle.crmf.specs.meaning.Kinds.{rowKinds}
 pub use Rattle.crmf.proofs.theorems.lines.TableChecks.{Lives, WayLines, inside-starts, start-lives, onward-lives, ways-lines, kind-known, item-known, kind-given}
 pub use Rattle.crmf.proofs.theorems.rows.RowsInPlace.{noRow}
 pub use Rattle.crmf.proofs.theorems.rows.RowsOfLines.{rows-lines, rows-same, rows-count, walk-counts}
-pub use Rattle.crmf.proofs.theorems.rows.RowLaws.{Inner, firstHeader, row-zero, rows-some, rows-ascend, row-parent, parent-container, row-within}
+pub use Rattle.crmf.proofs.theorems.rows.RowLaws.{Inner, firstHeader, batchRow, row-zero, rows-some, rows-ascend, row-parent, parent-container, row-within}
 pub use Rattle.crmf.proofs.theorems.rows.RowContents.{row-content, content-same, content-right}
 pub use Rattle.crmf.proofs.theorems.grammar.AlikeMatches.{matches-alike, matches-moved}
 pub use Rattle.crmf.proofs.theorems.rows.RowsMoved.{rows-moved}
+pub use Rattle.crmf.proofs.theorems.rows.RowsRenumbered.{rows-renumbered}
+pub use Rattle.crmf.proofs.theorems.rows.ShortRows.{short-append, short-both, short-mapped, short-moved, short-renumbered}
 pub use Rattle.crmf.proofs.theorems.pieces.PiecesOf.{pieceIf, pieces, piecesIn}
 pub use Rattle.crmf.proofs.theorems.pieces.ShownPieces.{pieces-length, rows-pieces, batch-pieces}
 pub use Rattle.crmf.proofs.theorems.rows.DraftRows.{rows-by-width, rows-room, row-cut, rows-back, numbers-once, numbers-back}
@@ -146,6 +165,11 @@ pub use Rattle.crmf.proofs.theorems.messages.FieldSteps.{fieldAt, Begin
 pub use Rattle.crmf.proofs.theorems.messages.FieldsMatch.{Holding}
 pub use Rattle.crmf.proofs.theorems.messages.MessageLaws.{ProofMatches, raVerified, signature, keyEncipherment, keyAgreement, MessageMatches, MessageParts, BatchContent, MessageStands}
 pub use Rattle.crmf.proofs.theorems.messages.MessageLaws.{batch-content, message-parts, messages-match, messages-formed, messages-stand, messages-moved, batch-of-matches, batch-of-formed, at-position}
+pub use Rattle.crmf.proofs.theorems.messages.MessageLaws.{ownFields}
+pub use Rattle.crmf.proofs.theorems.messages.MessageRows.{messageRows, rowsOfMessages, message-rows, batch-rows-of-messages, rows-below, messages-rows-append, messages-rows-moved, messages-rows-renumbered}
+pub use Rattle.crmf.proofs.theorems.messages.BatchesOfMessages.{BatchTree, BatchWith, batchHeader, content-octets, batch-octets, batch-length, batch-octets-left, batch-octets-right, batchFrom, batch-from}
+pub use Rattle.crmf.proofs.theorems.messages.JoinedBatches.{joinedTree, firstMove, secondMove, joined-tree, joined-messages, joined-rows, joined-short}
+pub use Rattle.crmf.proofs.theorems.messages.CutBatches.{cutTree, cutMove, cut-tree, cut-message, cut-short}
 pub use Rattle.crmf.proofs.theorems.pieces.Agreeing.{agree-in-place, agree-itself, Within, agreed-pieces, agreed-right, pieces-agree}
 pub use Rattle.crmf.proofs.theorems.pieces.Assembly.{assembly, rows-few, pieces-short}
 pub use Rattle.crmf.proofs.theorems.pieces.AssembledOctets.{pieces-octets, row-ends, rows-within}
