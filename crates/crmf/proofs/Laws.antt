@@ -97,8 +97,9 @@
 --     sequence-read       inside a SEQUENCE that is read (`fieldRead`) the fields are those of its content
 --     batch-read          so the messages of a batch are those of the fields that are read from its content on
 --     position-there      from the place of the message at a position (`messagePlace`) on, the fields that are read begin with that message
---                         (`StandsThere`); there is none if that place is the input's end (`position-missing`)
+--                         (`StandsThere`), whose octets they are (`message-read`); there is none if that place is the input's end (`position-missing`)
 --     next-fields         what is read from a place on lies in order: `content-places`, `after-places`, `read-forward`, `next-in-order`
+--     content-read        the octets that are read from a batch's content on are its content
 --     id-read             and a message's certReqId is what is read first inside what is read first inside it (`IdRead`, `first-read`)
 --     ids-some            a message's certReqId has at least one octet of content, and at most 8 if no row is a long one (`ids-eight`)
 --     messages-few        a batch has at least two octets, and 9 more for each of its messages
@@ -167,15 +168,15 @@ pub use Rattle.crmf.proofs.theorems.messages.MessageLaws.{ProofMatches,
 pub use Rattle.crmf.proofs.theorems.messages.MessageLaws.{batch-content, message-parts, messages-match, messages-formed, messages-stand, messages-moved, batch-of-matches, batch-of-formed, at-position}
 pub use Rattle.crmf.proofs.theorems.messages.MessageLaws.{ownFields}
 pub use Rattle.crmf.proofs.theorems.messages.MessageRows.{messageRows, rowsOfMessages, message-rows, batch-rows-of-messages, rows-below, messages-rows-append, messages-rows-moved, messages-rows-renumbered}
-pub use Rattle.crmf.proofs.theorems.messages.BatchesOfMessages.{BatchTree, BatchWith, batchHeader, content-octets, batch-octets, batch-length, batch-octets-left, batch-octets-right, batchFrom, batch-from}
+pub use Rattle.crmf.proofs.theorems.messages.BatchesOfMessages.{BatchTree, BatchWith, batch-octets-parts, messages-octets, flatten-append, content-octets, batch-octets, batch-length, batch-octets-left, batch-octets-right, batchFrom, batch-from}
 pub use Rattle.crmf.proofs.theorems.messages.JoinedBatches.{joinedTree, firstMove, secondMove, joined-tree, joined-messages, joined-rows, joined-short}
 pub use Rattle.crmf.proofs.theorems.messages.CutBatches.{cutTree, cutMove, cut-tree, cut-message, cut-short}
 pub use Rattle.crmf.proofs.theorems.pieces.Agreeing.{agree-in-place, agree-itself, Within, agreed-pieces, agreed-right, pieces-agree}
 pub use Rattle.crmf.proofs.theorems.pieces.Assembly.{assembly, rows-few, pieces-short}
 pub use Rattle.crmf.proofs.theorems.pieces.AssembledOctets.{pieces-octets, row-ends, rows-within}
 pub use Rattle.crmf.proofs.theorems.rows.Writing.{over-parts, numbers-length}
-pub use Rattle.crmf.proofs.theorems.messages.MessageSteps.{fieldRead, sequence-read, first-read, IdRead, id-read, batch-read}
-pub use Rattle.crmf.proofs.theorems.messages.Positions.{read-forward, content-places, after-places, next-in-order, next-fields, StandsThere, position-missing, position-there}
+pub use Rattle.crmf.proofs.theorems.messages.MessageSteps.{fieldRead, sequence-read, first-read, IdRead, id-read, batch-read, content-read}
+pub use Rattle.crmf.proofs.theorems.messages.Positions.{read-forward, content-places, after-places, next-in-order, next-fields, StandsThere, position-missing, position-there, message-read}
 pub use Rattle.crmf.proofs.theorems.messages.MessageSizes.{ids-some, ids-eight, messages-few}
 pub use Rattle.crmf.proofs.theorems.explain.LongIds.{rows-long, walk-long, long-none}
 pub use Rattle.crmf.proofs.theorems.explain.FirstLongIds.{long-exactly, short-none}

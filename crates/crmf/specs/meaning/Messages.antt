@@ -44,6 +44,10 @@ batch t = getD (fields t) 0 (record { identifier = 0; place = 0; whole = 0; cont
 unfoldable pub messages : Tree → List Message
 messages t = map messageOf (fields (batch t .inside))
 
+-- the length of a batch's header: its identifier and length octets
+abbrev pub batchHeader : Tree → ℕ
+batchHeader t = length (header 0x30 (batch t .content))
+
 -- each message's octets, in order
 unfoldable pub messageOctets : Tree → List (List ℕ)
 messageOctets t = map (λ (m : Message). octets (m .own)) (messages t)

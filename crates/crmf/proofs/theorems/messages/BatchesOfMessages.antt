@@ -15,11 +15,20 @@ use Rattle.crmf.specs.meaning.Notation.{Top}
 use Rattle.crmf.specs.meaning.Grammar.{content}
 use Rattle.crmf.specs.meaning.Language.{Matches}
 use Rattle.crmf.specs.meaning.Fields.{Field, fields, octets, Runs}
-use Rattle.crmf.specs.meaning.Messages.{Message, messageOf, batch, messages, messageOctets, batchOctets, batchOf}
+use Rattle.crmf.specs.meaning.Messages.{Message, messageOf, batch, messages, batchHeader, messageOctets, batchOctets, batchOf}
 use Rattle.crmf.proofs.theorems.messages.FieldLaws.{FormedField}
 use Rattle.crmf.proofs.theorems.messages.FieldsMatch.{Holding}
 use Rattle.crmf.proofs.theorems.messages.MessageLaws.{BatchContent, batch-content, messages-match, messages-formed, own-fields, ownFields, batch-of-matches, batch-of-formed, batch-of-messages, batch-of-octets}
 use Rattle.crmf.proofs.theorems.messages.SettledFields.{settled, settled-length, settled-octets, settled-each, settled-run, field-formed, field-holding}
+
+-- the definitions of a batch's octets and of its messages', one step at a time
+pub batch-octets-parts : (ms : List (List ℕ)) → batchOctets ms ≡ header 0x30 (flatten ms) ++ flatten ms
+unfolding batchOctets
+batch-octets-parts ms = refl
+
+pub messages-octets : (t : Tree) → messageOctets t ≡ map (λ (m : Message). octets (m .own)) (messages t)
+unfolding messageOctets
+messages-octets t = refl
 
 -- A tree is a batch: it is in the grammar, well-formed and a single element.
 pub record BatchTree (R : ℕ → Bool) (t : Tree) : Type 0 where
@@ -43,10 +52,6 @@ flat-octets (f ∷ fs) = ap (λ (bs : List ℕ). octets f ++ bs) (flat-octets fs
 pub octets-own : (t : Tree) → messageOctets t ≡ map octets (ownFields t)
 unfolding messageOctets
 octets-own t = sym (map-map octets (λ (m : Message). m .own) (messages t))
-
--- the length of a batch's header
-abbrev pub batchHeader : Tree → ℕ
-batchHeader t = length (header 0x30 (batch t .content))
 
 module _ {R : ℕ → Bool} {t : Tree} (b : BatchTree R t) where
   -- what the batch is
@@ -98,7 +103,7 @@ longer-element : (c d : List ℕ) → length c ≤ length d → length (header 0
 longer-element c d longer = omega (arith, length-append (header 0x30 c) c, length-append (header 0x30 d) d, header-grows 0x30 c d longer)
 
 -- lists after others, joined
-flatten-append : (a b : List (List ℕ)) → flatten (a ++ b) ≡ flatten a ++ flatten b
+pub flatten-append : (a b : List (List ℕ)) → flatten (a ++ b) ≡ flatten a ++ flatten b
 unfolding flatten
 flatten-append [] b = refl
 flatten-append (x ∷ a) b = ap (λ (bs : List ℕ). x ++ bs) (flatten-append a b) ∙ sym (append-assoc x (flatten a) (flatten b))

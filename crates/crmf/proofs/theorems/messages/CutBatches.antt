@@ -15,14 +15,14 @@ use Rattle.crmf.specs.meaning.Grammar.{content}
 use Rattle.crmf.specs.meaning.Language.{Matches}
 use Rattle.crmf.specs.meaning.Rows.{batchRows, allShort}
 use Rattle.crmf.specs.meaning.Fields.{Field, octets, movedField}
-use Rattle.crmf.specs.meaning.Messages.{Message, messageOf, batch, messages, movedMessage}
+use Rattle.crmf.specs.meaning.Messages.{Message, messageOf, batch, messages, batchHeader, movedMessage}
 use Rattle.crmf.proofs.theorems.rows.ShortRows.{short-both, short-moved, short-renumbered}
 use Rattle.crmf.proofs.theorems.messages.FieldsMatch.{Holding}
 use Rattle.crmf.proofs.theorems.messages.FieldLaws.{runs-within}
 use Rattle.crmf.proofs.theorems.messages.MessageLaws.{ownFields, message-own, message-moved}
 use Rattle.crmf.proofs.theorems.messages.SettledFields.{placedField, field-further, field-there, settled}
 use Rattle.crmf.proofs.theorems.messages.MessageRows.{messageRows, rowsOfMessages, message-rows-moved, message-rows-renumbered, rows-below, short-below}
-use Rattle.crmf.proofs.theorems.messages.BatchesOfMessages.{BatchTree, BatchWith, batchHeader, own-holding, own-formed, own-run, own-written, batchFrom, headerBefore, batch-from, batch-from-messages, batch-from-fields, batch-from-header}
+use Rattle.crmf.proofs.theorems.messages.BatchesOfMessages.{BatchTree, BatchWith, own-holding, own-formed, own-run, own-written, batchFrom, headerBefore, batch-from, batch-from-messages, batch-from-fields, batch-from-header}
 
 -- the batch of one message
 unfoldable pub cutTree : Message → Tree

@@ -16,13 +16,13 @@ use Rattle.crmf.specs.meaning.Grammar.{content}
 use Rattle.crmf.specs.meaning.Language.{Matches}
 use Rattle.crmf.specs.meaning.Rows.{Row, batchRows, movedRow, renumberedRow, allShort}
 use Rattle.crmf.specs.meaning.Fields.{Field, octets, movedField}
-use Rattle.crmf.specs.meaning.Messages.{Message, messageOf, batch, messages, messageOctets, movedMessage}
+use Rattle.crmf.specs.meaning.Messages.{Message, messageOf, batch, messages, batchHeader, messageOctets, movedMessage}
 use Rattle.crmf.proofs.theorems.rows.ShortRows.{short-append, short-mapped, short-moved}
 use Rattle.crmf.proofs.theorems.messages.FieldLaws.{octets-append}
 use Rattle.crmf.proofs.theorems.messages.MessageLaws.{ownFields, own-messages, messages-of-moved}
 use Rattle.crmf.proofs.theorems.messages.SettledFields.{settled, settled-append, settled-moved}
 use Rattle.crmf.proofs.theorems.messages.MessageRows.{rowsOfMessages, messages-rows-append, messages-rows-moved, messages-rows-renumbered, rows-below, below-count, short-below}
-use Rattle.crmf.proofs.theorems.messages.BatchesOfMessages.{BatchTree, BatchWith, batchHeader, octets-own, own-holding, own-formed, own-run, own-some, own-written, batchFrom, headerBefore, batch-from, batch-from-fields, batch-from-header}
+use Rattle.crmf.proofs.theorems.messages.BatchesOfMessages.{BatchTree, BatchWith, octets-own, own-holding, own-formed, own-run, own-some, own-written, batchFrom, headerBefore, batch-from, batch-from-fields, batch-from-header}
 
 -- the batch of the messages of two batches: those of the first and then those of the second
 unfoldable pub joinedTree : Tree → Tree → Tree

@@ -5,7 +5,8 @@ use native.Mathlib.Nat.{lt-of-not-le}
 use native.Mathlib.Omega.{arith}
 use mathlib.Core.Path.{_≡_, refl, sym, ap, _∙_}
 use mathlib.Core.List.{List, _∷_, map}
-use lib.ListN.{length}
+use lib.ListN.{length, drop}
+use lib.Seq.{slice, take-length}
 use Rattle.der.specs.meaning.Identifier.{constructed}
 use Rattle.der.specs.meaning.Tree.{Tree, encode}
 use Rattle.der.specs.meaning.Bounds.{longest}
@@ -64,17 +65,35 @@ id-read s p e some fits high k =
     (ap (λ (f : Field). fields (f .inside)) (sym request) ∙ k .request .held) in
     record { there = (inner, ends); same = same }
 
+-- a whole input that is read as a batch is the element that is read first, and ends with it
+read-whole : (s : List ℕ) (t : Tree) → tree 0 s ≡ t → length s ≤ longest → encode t ≡ s → BatchContent t
+    → (batch t ≡ fieldRead s 0 (length s)) × (readAt s 0 (length s) .end ≡ length s)
+read-whole s t read high encoded b =
+    let n = length s in
+    let some : 0 < n = omega (arith, octets-two (batch t), ap length (b .all), ap length encoded) in
+    let own : batch t ≡ fieldRead s 0 n = ap batch (sym read) ∙ batch-at s some high in
+    (own, omega (arith, ap (λ (f : Field). f .whole) (sym own) ∙ b .size ∙ ap length encoded))
+
 -- If a whole input is read as a batch, the elements inside it are those from the batch's content to the input's end.
 pub batch-elements : (s : List ℕ) (t : Tree) → tree 0 s ≡ t → length s ≤ longest → encode t ≡ s → BatchContent t
     → fields (batch t .inside) ≡ elementsRead s
 batch-elements s t read high encoded b =
     let n = length s in
     let x = readAt s 0 n in
-    let some : 0 < n = omega (arith, octets-two (batch t), ap length (b .all), ap length encoded) in
-    let own : batch t ≡ fieldRead s 0 n = ap batch (sym read) ∙ batch-at s some high in
-    let ends : x .end ≡ n = omega (arith, ap (λ (f : Field). f .whole) (sym own) ∙ b .size ∙ ap length encoded) in
+    let (own, ends) = read-whole s t read high encoded b in
     let thirty = ap (λ (f : Field). f .identifier) (sym own) ∙ b .thirty in
     ap (λ (f : Field). fields (f .inside)) own ∙ sequence-read s 0 n thirty ∙ ap (λ (e : ℕ). fieldsBetween s (x .content) e) ends
+
+-- The octets from its content on are its content.
+pub content-read : (s : List ℕ) (t : Tree) → tree 0 s ≡ t → length s ≤ longest → encode t ≡ s → BatchContent t
+    → drop (readAt s 0 (length s) .content) s ≡ batch t .content
+content-read s t read high encoded b =
+    let n = length s in
+    let x = readAt s 0 n in
+    let (own, ends) = read-whole s t read high encoded b in
+    let all : drop (x .content) s ≡ slice (x .content) (x .end) s =
+    sym (ap (λ (e : ℕ). slice (x .content) e s) ends ∙ ap (drop (x .content)) (take-length s)) in
+    all ∙ ap (λ (f : Field). f .content) (sym own)
 
 -- So its messages are those of these elements.
 pub batch-read : (s : List ℕ) → length s ≤ longest → encode (tree 0 s) ≡ s → BatchContent (tree 0 s)

@@ -1,26 +1,30 @@
 -- Elements between two places, one by one, and the message at a position: skipping as many elements as the position says gives the fields of
 -- the messages from there on. Assumes nothing.
-use Prim.Native.Nat.{ℕ, zero, suc, _≤_, _<_}
+use Prim.Native.Nat.{ℕ, zero, suc, _+_, _≤_, _<_}
 use native.Mathlib.Nat.{eq-or-lt-of-le}
 use native.Mathlib.Omega.{arith}
-use mathlib.Core.Path.{_≡_, refl, sym, ap, subst, _∙_}
+use mathlib.Core.Path.{_≡_, refl, sym, ap, ap₂, subst, _∙_}
 use mathlib.Core.Logic.{_⊎_, inl, inr}
+use mathlib.Core.Bool.{Bool}
 use mathlib.Core.List.{List, [], _∷_, map}
 use mathlib.Core.Option.{some}
 use lib.ListN.{length, drop, getD, getElem?, length-drop, length-map}
-use lib.Seq.{drop-nil}
+use lib.Seq.{slice, drop-nil}
 use borrow.Author.Tests.{le-leb, lt-leb}
 use Rattle.der.specs.declared.element.reading.Element.{Element}
-use Rattle.der.specs.meaning.Bounds.{longest}
-use Rattle.der.specs.meaning.Tree.{Tree, encode}
+use Rattle.der.specs.meaning.Bounds.{depth, longest}
+use Rattle.der.specs.meaning.Tree.{Tree, encode, WellFormed, Single}
 use Rattle.der.specs.steps.Reading.{readAt, tree}
 use Rattle.der.proofs.Laws.{InOrder, read-at-in-order, read-at-within}
-use Rattle.crmf.specs.meaning.Fields.{Field}
+use Rattle.crmf.specs.meaning.Notation.{Top}
+use Rattle.crmf.specs.meaning.Grammar.{content}
+use Rattle.crmf.specs.meaning.Language.{Matches}
+use Rattle.crmf.specs.meaning.Fields.{Field, octets, StandsAt}
 use Rattle.crmf.specs.meaning.Messages.{Message, messages}
 use Rattle.crmf.specs.steps.Fields.{fieldsBetween, Places}
 use Rattle.crmf.specs.steps.Positions.{firstPlace, elementsRead, messagePlace}
-use Rattle.crmf.proofs.theorems.messages.FieldSteps.{fieldAt, fields-end, fields-at}
-use Rattle.crmf.proofs.theorems.messages.MessageLaws.{BatchContent, messages-own}
+use Rattle.crmf.proofs.theorems.messages.FieldSteps.{fieldAt, fields-end, fields-at, stands-part}
+use Rattle.crmf.proofs.theorems.messages.MessageLaws.{BatchContent, messages-own, messages-formed, messages-stand, at-position}
 use Rattle.crmf.proofs.theorems.messages.MessageSteps.{batch-elements}
 
 module _ (s : List ℕ) (at end : ℕ) (lent : Places s at end) where
@@ -103,6 +107,7 @@ pub record StandsThere (s : List ℕ) (t : Tree) (n p : ℕ) : Type 0 where
   pub message : Message
   pub more : List Field
   pub there : getElem? (messages t) n ≡ some message
+  pub own : message .own ≡ fieldAt s p (readAt s p (length s))
   pub first : fieldsBetween s p (length s) ≡ message .own ∷ more
   pub lies : Places s p (length s)
 
@@ -145,6 +150,23 @@ module _ (s : List ℕ) (t : Tree) (read : tree 0 s ≡ t) (short : length s ≤
         message = m;
         more = fieldsBetween s (readAt s p (length s) .end) (length s);
         there = here;
+        own = own;
         first = first ∙ ap (λ (f : Field). f ∷ fieldsBetween s (readAt s p (length s) .end) (length s)) (sym own);
         lies = lies;
       }
+
+-- The octets from the place of the message at a position to the end of what is read there are the message's.
+pub message-read : {R : ℕ → Bool} (s : List ℕ) (t : Tree) → encode t ≡ s → Matches R (content Top) t → WellFormed depth 0 t → Single t
+    → (n p : ℕ) (found : StandsThere s t n p) → let x = readAt s p (length s) in
+    (p ≤ x .end) × (x .end ≤ length s) × (slice p (x .end) s ≡ octets (found .message .own))
+unfolding octets
+message-read s t encoded top formed one n p found =
+    let x = readAt s p (length s) in
+    let m = found .message in
+    let member = at-position (messages t) n m (found .there) in
+    let stands = subst (λ (bs : List ℕ). StandsAt bs (m .own .place) (octets (m .own))) encoded (messages-stand t top formed one m member .own) in
+    let part = stands-part s (m .own) stands (messages-formed t top formed one m member .sized) in
+    let begin : m .own .place ≡ p = ap (λ (f : Field). f .place) (found .own) in
+    let forward : p ≤ x .end = read-forward s p (length s) (found .lies) x refl in
+    let end : m .own .place + m .own .whole ≡ x .end = omega (arith, ap (λ (f : Field). f .whole) (found .own)) in
+    (forward, omega (arith, part .0), ap₂ (λ (i j : ℕ). slice i j s) (sym begin) (sym end) ∙ part .1)
