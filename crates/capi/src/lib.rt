@@ -4,8 +4,11 @@ use der::refusal::ACCEPTED;
 use editions::reader::Answer;
 use verdict::duplicates::Duplicates;
 use verdict::verdict::Verdict;
+use writer::join::PairAnswer;
 ghost use Rattle.editions.specs.meaning.Reads.{Reads};
 ghost use Rattle.writer.specs.meaning.Writes.{Writes};
+ghost use Rattle.writer.specs.meaning.Joins.{Joins};
+ghost use Rattle.writer.specs.meaning.Cuts.{Cuts};
 ghost use Rattle.verdict.specs.meaning.Judges.{Judges};
 ghost use Rattle.verdict.specs.meaning.Searches.{Searches};
 ghost use Rattle.capi.specs.OneNumber.{AcceptsBy, JudgesBy};
@@ -71,4 +74,32 @@ pub extern "C" fn phagundro_duplicates(edition: usize, bytes: &[u8]) -> Duplicat
     ensures { λ r. ⌜ Searches edition (now (bytes .entry)) (r .number) (r .place) (r .found) (r .earlier .0) (r .later .0) ⌝ }
 {
     verdict::duplicates::search(edition, bytes)
+}
+
+// Joins two batches of an edition and answers the join's length as the count; or answers the refusal and whose it is, and leaves the output as
+// it was.
+#[no_mangle]
+pub extern "C" fn phagundro_join(
+    edition: usize,
+    first: &[u8],
+    second: &[u8],
+    output: &mut [u8],
+) -> PairAnswer
+    ensures { λ r. ⌜ Joins edition (now (first .entry)) (now (second .entry)) (now (output .entry)) (r .number) (r .place) (r .file) (r .count) (now (output .exit)) ⌝ }
+{
+    writer::join::join(edition, first, second, output)
+}
+
+// Cuts the message at a position out of a batch and answers the length of its batch as the count; or answers the refusal, and leaves the output
+// as it was.
+#[no_mangle]
+pub extern "C" fn phagundro_cut(
+    edition: usize,
+    bytes: &[u8],
+    position: usize,
+    output: &mut [u8],
+) -> Answer
+    ensures { λ r. ⌜ Cuts edition (now (bytes .entry)) position (now (output .entry)) (r .number) (r .place) (r .count) (now (output .exit)) ⌝ }
+{
+    writer::cut::cut(edition, bytes, Position(position), output)
 }

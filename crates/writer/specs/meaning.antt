@@ -1,3 +1,6 @@
--- What a reader has to believe (SPECIFICATION 6): what it means that a batch has a draft's rows, and what writing answers and leaves.
+-- What a reader has to believe (SPECIFICATION 6 and 10): what it means that a batch has a draft's rows, what the join of two batches is and what is
+-- cut out of one, and what writing, joining and cutting answer and leave.
+pub mod Cuts
 pub mod Draft
+pub mod Joins
 pub mod Writes

@@ -32,7 +32,7 @@ pub(crate) fn whole_of(row: Row, bytes: &[u8], inner: usize) -> usize
 }
 
 // The whole length of a container whose children have `inner` octets together; more than LONGEST if it is too long.
-fn whole_around(kind: usize, inner: usize) -> usize
+pub(crate) fn whole_around(kind: usize, inner: usize) -> usize
     requires { ⌜ inner ≤ longest * mostRows ⌝ }
     ensures { λ r. ⌜ Stands r (suc (length (lengthOctets (length (implied kind) + inner)) + (length (implied kind) + inner))) ⌝ }
 {

@@ -27,7 +27,7 @@ pub(crate) fn put(row: Row, inner: usize, bytes: &[u8], at: usize, scratch: &mut
 }
 
 // Writes a container's identifier, shortest length and implied type.
-fn put_header(kind: usize, inner: usize, at: usize, scratch: &mut [u8]) -> usize
+pub(crate) fn put_header(kind: usize, inner: usize, at: usize, scratch: &mut [u8]) -> usize
     requires { ⌜ (suc (length (lengthOctets (length (implied kind) + inner)) + (length (implied kind) + inner)) ≤ longest) × (at ≤ longest) ⌝ }
     ensures { λ r. ⌜ Appended (now (scratch .entry)) at (identifierOf kind ∷ (lengthOctets (length (implied kind) + inner) ++ implied kind)) r (now (scratch .exit)) ⌝ }
 {
@@ -104,7 +104,7 @@ fn push(octet: u8, at: usize, scratch: &mut [u8]) -> usize
 }
 
 // Writes octets, if there is room for them.
-fn append(octets: &[u8], at: usize, scratch: &mut [u8]) -> usize
+pub(crate) fn append(octets: &[u8], at: usize, scratch: &mut [u8]) -> usize
     requires { ⌜ at ≤ 2 * longest ⌝ }
     ensures { λ r. ⌜ Appended (now (scratch .entry)) at (now (octets .entry)) r (now (scratch .exit)) ⌝ }
 {

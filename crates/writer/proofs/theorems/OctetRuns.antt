@@ -1,12 +1,12 @@
 -- Octets written after the first of a scratch: none, one, a copy, and two runs. Assumes nothing.
-use Prim.Native.Nat.{ℕ, _+_, _-_, _≤_, _<_}
+use Prim.Native.Nat.{ℕ, suc, _+_, _-_, _≤_, _<_}
 use native.Mathlib.Nat.{add-zero}
 use native.Mathlib.Numerals.{add-one}
 use native.Mathlib.Omega.{arith}
 use mathlib.Core.Path.{_≡_, refl, sym, ap, ap₂, _∙_}
 use mathlib.Core.List.{List, [], _∷_, _++_, append-assoc, append-nil}
-use lib.ListN.{length, take, drop, set, length-append, length-take, drop-of-length-le}
-use lib.Seq.{take-all, take-at, take-suc-set, length-take-le}
+use lib.ListN.{length, take, drop, set, length-append, length-take, drop-of-length-le, take-append-drop}
+use lib.Seq.{take-all, take-at, drop-at, drop-drop, take-suc-set, length-take-le, set-split, append-snoc}
 use borrow.Rule.Slice.PartMut.{putMid, post-is}
 use Rattle.crmf.specs.meaning.Lists.{over}
 use Rattle.crmf.proofs.Laws.{over-parts}
@@ -27,24 +27,33 @@ copied old at octets part fits is =
 module _ (old : List ℕ) (at : ℕ) where
   -- with no room nothing is said of the scratch
   pub runs-out : (octets new : List ℕ) → length old < at + length octets → Appended old at octets (at + length octets) new
-  runs-out octets new long = record { place = refl; kept = λ fits. absurd (omega arith) }
+  runs-out octets new long = record { place = refl; kept = λ fits. absurd (omega arith); after = λ fits. absurd (omega arith) }
 
   pub append-none : Appended old at [] at old
-  append-none = record { place = sym (add-zero at); kept = λ fits. sym (append-nil (take at old)) }
+  append-none = record { place = sym (add-zero at); kept = λ fits. sym (append-nil (take at old)); after = λ fits. refl }
 
   pub append-one : (octet : ℕ) → at < length old → Appended old at (octet ∷ []) (at + 1) (set old at octet)
-  append-one octet room = record { place = refl; kept = λ fits. rw add-one (take-suc-set old at octet room) }
+  append-one octet room =
+      let size : length (take at old) ≡ at = length-take-le at old (omega arith) in
+      record {
+        place = refl;
+        kept = λ fits. rw add-one (take-suc-set old at octet room);
+        after = λ fits.
+            ap (drop (at + 1)) (set-split old at octet room ∙ sym (append-snoc (take at old) octet (drop (suc at) old)))
+            ∙ drop-at (take at old ++ (octet ∷ [])) (drop (suc at) old) (at + 1) (length-append (take at old) (octet ∷ []) ∙ ap (λ (n : ℕ). n + 1) size)
+            ∙ ap (λ (n : ℕ). drop n old) (sym (add-one at));
+      }
 
   pub append-copy : (octets new : List ℕ) → at + length octets ≤ length old → new ≡ over old at octets → Appended old at octets (at + length octets) new
   append-copy octets new room is =
       let rest = drop (at + length octets) old in
       let size : length (take at old ++ octets) ≡ at + length octets =
       length-append (take at old) octets ∙ ap (λ (n : ℕ). n + length octets) (length-take-le at old (omega arith)) in
+      let parts = is ∙ over-parts old at octets ∙ sym (append-assoc (take at old) octets rest) in
       record {
         place = refl;
-        kept = λ fits.
-            ap (take (at + length octets)) (is ∙ over-parts old at octets ∙ sym (append-assoc (take at old) octets rest))
-            ∙ take-at (take at old ++ octets) rest (at + length octets) size;
+        kept = λ fits. ap (take (at + length octets)) parts ∙ take-at (take at old ++ octets) rest (at + length octets) size;
+        after = λ fits. ap (drop (at + length octets)) parts ∙ drop-at (take at old ++ octets) rest (at + length octets) size;
       }
 
   -- two runs, the second after the first
@@ -56,4 +65,17 @@ module _ (old : List ℕ) (at : ℕ) where
         kept = λ fits.
             two .kept (omega arith) ∙ ap (λ (l : List ℕ). l ++ q) (one .kept (omega (arith, two .place)))
             ∙ append-assoc (take at old) p q;
+        after = λ fits.
+            two .after (omega arith)
+            ∙ ap (λ (n : ℕ). drop n mid) (two .place) ∙ sym (drop-drop (length q) next mid)
+            ∙ ap (drop (length q)) (one .after (omega (arith, two .place)))
+            ∙ drop-drop (length q) next old ∙ ap (λ (n : ℕ). drop n old) (sym (two .place));
       }
+
+-- octets that are written from the first place on are written over the first ones
+pub appended-over : (old octets new : List ℕ) (next : ℕ) → Appended old 0 octets next new → next ≤ length old → new ≡ over old 0 octets
+appended-over old octets new next a fits =
+    let size : next ≡ 0 + length octets = a .place in
+    sym (take-append-drop next new)
+    ∙ ap₂ (λ (x y : List ℕ). x ++ y) (a .kept fits) (a .after fits ∙ ap (λ (n : ℕ). drop n old) size)
+    ∙ sym (over-parts old 0 octets)

@@ -49,10 +49,11 @@ children bytes rs k = childrenOf k (suc k) (piecesOf bytes (drop (suc k) rs))
 abbrev pub Summed : List ℕ → List Row → List ℕ → Type 0
 Summed bytes rs table = (k : ℕ) → k < length rs → getD table k 0 ≡ children bytes rs k
 
--- Octets are written after the first `at` of a scratch, if there is room for them, and `next` is the place after them.
+-- Octets are written after the first `at` of a scratch, if there is room for them, and `next` is the place after them. What comes after stays.
 pub record Appended (old : List ℕ) (at : ℕ) (octets : List ℕ) (next : ℕ) (new : List ℕ) : Type 0 where
   pub place : next ≡ at + length octets
   pub kept : next ≤ length old → take next new ≡ take at old ++ octets
+  pub after : next ≤ length old → drop next new ≡ drop next old
 
 -- a table that is lent for the sums has a zero for each row, and there are no more rows than a batch can have
 pub record Blank (rs : List Row) (table : List ℕ) : Type 0 where
