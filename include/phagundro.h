@@ -1,4 +1,4 @@
-/* Phagundro reads, writes and judges batches of certificate requests: CertReqMessages in DER, in one of two editions.
+/* Phagundro reads, writes, judges, joins and cuts batches of certificate requests: CertReqMessages in DER, in one of two editions.
  *
  * This file is the manual of the C calls. The library keeps no state, allocates no memory and opens no file: a call looks at the bytes and
  * numbers that it is lent and returns its answer. Any bytes and any numbers may be given.
@@ -68,13 +68,15 @@ enum {
  *     writing     UNKNOWN_EDITION; NO_SUCH_BATCH; NO_ROOM
  *     verdict     those of reading without NO_ROOM; NO_SUCH_MESSAGE
  *     duplicates  those of reading without NO_ROOM
+ *     joining     those of reading without NO_ROOM, for the first batch; the same for the second; TOO_LONG, for the join; NO_ROOM
+ *     cutting     those of reading without NO_ROOM; NO_SUCH_MESSAGE; NO_ROOM
  * Of several faults from TRUNCATED to TOO_DEEP the answer is the one that is decided first. A fault is decided at its element's first byte;
  * only the order of a SET's members is decided at the SET's last byte, after every fault inside it and before every fault after it. Of two
  * SETs that end together the inner one is decided first. Within one element the order is TOO_DEEP; TRUNCATED, if the identifier is missing;
  * BAD_IDENTIFIER; TRUNCATED, if length octets are missing; BAD_LENGTH; TRUNCATED, if the content goes past the end; BAD_CONTENT. */
 enum {
     PHAGUNDRO_ACCEPTED         = 0,  /* accepted; place 0 */
-    PHAGUNDRO_TOO_LONG         = 1,  /* the input is longer than 65,535 bytes; place 0 */
+    PHAGUNDRO_TOO_LONG         = 1,  /* the input is longer than 65,535 bytes, or a join would be; place 0 */
     PHAGUNDRO_TRUNCATED        = 2,  /* an element is cut short or goes past its parent's end; its first byte */
     PHAGUNDRO_BAD_IDENTIFIER   = 3,  /* an identifier is not allowed; its element's first byte */
     PHAGUNDRO_BAD_LENGTH       = 4,  /* a length is indefinite or not the shortest; its element's first byte */
@@ -90,7 +92,7 @@ enum {
     PHAGUNDRO_NO_SUCH_MESSAGE  = 14  /* the batch has no message at that position; place 0 */
 };
 
-/* The answer of a reading or a writing. */
+/* The answer of a reading, a writing or a cut. */
 typedef struct {
     size_t number; /* PHAGUNDRO_ACCEPTED, or the refusal */
     size_t place;  /* as said beside the number */
@@ -246,6 +248,53 @@ typedef struct {
 /* Searches a batch for two messages whose own certReqIds are the same signed whole number; those that a regInfo carries don't count. Of
  * several pairs it answers the one with the least later position, and of these the one with the least earlier. */
 phagundro_duplicate_answer phagundro_duplicates(size_t edition, const uint8_t *bytes, size_t length);
+
+/* Of the two batches of a call, the one that a refusal is about. */
+enum {
+    PHAGUNDRO_FILE_NEITHER = 0, /* neither: both are accepted */
+    PHAGUNDRO_FILE_FIRST   = 1, /* the first batch, or the edition */
+    PHAGUNDRO_FILE_SECOND  = 2  /* the second batch, and the first is accepted */
+};
+
+/* The answer of a call that takes two batches. */
+typedef struct {
+    size_t number; /* PHAGUNDRO_ACCEPTED, or the refusal */
+    size_t place;  /* as said beside the number: an offset in the batch that `file` names */
+    size_t file;   /* one of PHAGUNDRO_FILE_ .. */
+    size_t count;  /* the bytes of the batch that was written; 0 with a refusal */
+} phagundro_pair_answer;
+
+/* Joins two batches of one edition: writes the batch that has the first's messages and then the second's, as they were sent. Messages with
+ * the same certReqId are no fault. The two batches may overlap or be the same; the output overlaps neither.
+ *
+ * What phagundro_read would refuse of the first batch, given room, is refused with PHAGUNDRO_FILE_FIRST, and then what it would refuse of
+ * the second with PHAGUNDRO_FILE_SECOND. If both are accepted, the answer has PHAGUNDRO_FILE_NEITHER: it is PHAGUNDRO_TOO_LONG where the
+ * join would be longer than PHAGUNDRO_LONGEST, whatever the room is, and else PHAGUNDRO_NO_ROOM where the room is not enough.
+ *
+ * Accepted: the first `count` bytes of the output are the join, and the bytes after them are as they were. `room` counts bytes; the room
+ * is enough exactly when it is at least the join's length, which is never more than PHAGUNDRO_LONGEST, nor than both lengths together.
+ * Refused: count is 0, and the whole output is as it was.
+ *
+ * Several batches give the same bytes in whatever grouping they are joined, if the whole is no longer than PHAGUNDRO_LONGEST; then every
+ * smaller join fits too. A join's rows after row 0 are those of the first batch and then those of the second, moved and renumbered:
+ *   - of the first, each first byte and each content's first byte grows by the join's header less the first's header;
+ *   - of the second, each grows by the join's header and the first's content less the second's header; each row's number, and each parent
+ *     but 0, grows by the count of the first's rows less one.
+ * A batch's header is its identifier and length octets, as many bytes as PHAGUNDRO_ROW_CONTENT of row 0 says. */
+phagundro_pair_answer phagundro_join(size_t edition, const uint8_t *first, size_t first_length, const uint8_t *second,
+    size_t second_length, uint8_t *output, size_t room);
+
+/* Cuts a message out of a batch: writes the batch whose only message is the one at a position of the given batch, counted from 0, as it was
+ * sent. A certReqId is never a position.
+ *
+ * The answer is PHAGUNDRO_NO_SUCH_MESSAGE where the batch is accepted and has no message at the position, whatever the room is.
+ *
+ * Accepted: the first `count` bytes of the output are the batch with that message, and the bytes after them are as they were. `room` counts
+ * bytes; the room is enough exactly when it is at least that batch's length, which is never more than `length`. Refused: count is 0, and
+ * the whole output is as it was.
+ *
+ * Cutting at every position and joining what comes back, in order, gives the batch's bytes again. */
+phagundro_answer phagundro_cut(size_t edition, const uint8_t *bytes, size_t length, size_t position, uint8_t *output, size_t room);
 
 #ifdef __cplusplus
 }

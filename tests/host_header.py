@@ -14,6 +14,7 @@ STRUCTS = {
     "phagundro_answer": ["number", "place", "count"],
     "phagundro_verdict_answer": ["number", "place", "verdict", "from", "length"],
     "phagundro_duplicate_answer": ["number", "place", "found", "earlier", "later"],
+    "phagundro_pair_answer": ["number", "place", "file", "count"],
 }
 
 # The header's calls, with what each answers and takes
@@ -24,6 +25,8 @@ CALLS = {
     "phagundro_verdict": ("phagundro_verdict_answer", "size_t, const uint8_t *, size_t, size_t"),
     "phagundro_verdict_number": ("size_t", "size_t, const uint8_t *, size_t, size_t"),
     "phagundro_duplicates": ("phagundro_duplicate_answer", "size_t, const uint8_t *, size_t"),
+    "phagundro_join": ("phagundro_pair_answer", "size_t, const uint8_t *, size_t, const uint8_t *, size_t, uint8_t *, size_t"),
+    "phagundro_cut": ("phagundro_answer", "size_t, const uint8_t *, size_t, size_t, uint8_t *, size_t"),
 }
 
 
@@ -35,6 +38,7 @@ def numbers():
     found |= {"PHAGUNDRO_RFC2511": paper.EDITIONS[0], "PHAGUNDRO_RFC4211": paper.EDITIONS[1]}
     columns = ("KIND", "FIRST", "LENGTH", "PARENT", "CONTENT")
     found |= {f"PHAGUNDRO_ROW_{name}": column for column, name in enumerate(columns)}
+    found |= {f"PHAGUNDRO_FILE_{name}": file for file, name in enumerate(("NEITHER", "FIRST", "SECOND"))}
     return found | {"PHAGUNDRO_ROW_NUMBERS": paper.ROW_NUMBERS, "PHAGUNDRO_LONGEST": paper.LONGEST, "PHAGUNDRO_DEEPEST": paper.DEEPEST}
 
 
@@ -63,8 +67,8 @@ def enumerators():
 
 
 def other_names():
-    """Kinds and verdicts of the header that the papers don't have."""
-    groups = re.compile(r"PHAGUNDRO_(KIND|VERDICT|ROW)_")
+    """Kinds, verdicts, columns and files of the header that the papers don't have."""
+    groups = re.compile(r"PHAGUNDRO_(KIND|VERDICT|ROW|FILE)_")
     return [f"the header has {name}" for name in enumerators()
             if groups.match(name) and name not in numbers() and name != "PHAGUNDRO_VERDICT_REFUSED"]
 
@@ -99,7 +103,7 @@ TESTS = [
         functools.partial(misread, host.C11, "c")),
     ("the header is C++17, its numbers are the papers', its structs are numbers in order and its calls have the types that it says",
         functools.partial(misread, host.CPP17, "c++")),
-    ("the header names no other kinds, verdicts and columns than the papers have", other_names),
+    ("the header names no other kinds, verdicts, columns and files than the papers have", other_names),
     ("the archive has the header's calls, wants what the header says and keeps no state", other_symbols),
     ("the calls take no more stack than the header says", more_stack),
 ]

@@ -8,7 +8,7 @@ static const struct {
     bool has_place;
 } answers[] = {
     [PHAGUNDRO_ACCEPTED] = {"accepted", false},
-    [PHAGUNDRO_TOO_LONG] = {"the input is longer than 65,535 bytes", false},
+    [PHAGUNDRO_TOO_LONG] = {"the input is longer than 65,535 bytes, or a join would be", false},
     [PHAGUNDRO_TRUNCATED] = {"an element is cut short or goes past its parent's end", true},
     [PHAGUNDRO_BAD_IDENTIFIER] = {"an identifier is not allowed", true},
     [PHAGUNDRO_BAD_LENGTH] = {"a length is indefinite or not the shortest", true},
