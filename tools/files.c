@@ -7,6 +7,7 @@
 #include <stdio.h>
 #include <stdlib.h>
 #include <string.h>
+#include <sys/stat.h>
 
 enum { LONGEST_NUMBER = 20 }; /* digits of the largest size_t */
 
@@ -47,16 +48,21 @@ static void closed(FILE *file, const char *name)
         fclose(file);
 }
 
+static void *resized(void *block, size_t length)
+{
+    block = realloc(block, length);
+    if (block == NULL)
+        trouble("no memory left");
+    return block;
+}
+
 /* Makes room in a block of memory for one more thing of `size` bytes. */
 static void *grown(void *block, size_t count, size_t *room, size_t size)
 {
     if (count < *room)
         return block;
     *room = *room == 0 ? 4096 : 2 * *room;
-    block = realloc(block, *room * size);
-    if (block == NULL)
-        trouble("no memory left");
-    return block;
+    return resized(block, *room * size);
 }
 
 /* Cuts a block to its length, so that a memory checker knows where the bytes end. */
@@ -110,6 +116,13 @@ octets read_octets(const char *name, bool hex, size_t most)
     if (found.length > 0)
         found.bytes = shrunk(found.bytes, found.length);
     return found;
+}
+
+void replace_octets(octets *old, const uint8_t *bytes, size_t length)
+{
+    old->bytes = resized(old->bytes, length);
+    memcpy(old->bytes, bytes, length);
+    old->length = length;
 }
 
 bool whole_number(const char *words, size_t *number)
@@ -183,6 +196,21 @@ void write_octets(const char *name, const uint8_t *bytes, size_t length)
         trouble("%s: %s", name, strerror(errno));
     if (file != stdout && fclose(file) != 0)
         trouble("%s: %s", name, strerror(errno));
+}
+
+void make_folder(const char *name)
+{
+    if (mkdir(name, 0777) != 0 && errno != EEXIST)
+        trouble("%s: %s", name, strerror(errno));
+}
+
+void write_message(const char *folder, size_t position, const uint8_t *bytes, size_t length)
+{
+    size_t room = strlen(folder) + sizeof "/message-.der" + LONGEST_NUMBER;
+    char *name = resized(NULL, room);
+    snprintf(name, room, "%s/message-%04zu.der", folder, position);
+    write_octets(name, bytes, length);
+    free(name);
 }
 
 void finish_output(void)

@@ -29,6 +29,9 @@ const char *shown_name(const char *name);
 /* Reads the bytes of a file, as they are or as hex digits; of standard input if the name is "-". It stops after `most` bytes. */
 octets read_octets(const char *name, bool hex, size_t most);
 
+/* Puts a copy of bytes in the place of others, which are freed. */
+void replace_octets(octets *old, const uint8_t *bytes, size_t length);
+
 /* Reads the numbers of a file, separated by white space. */
 numbers read_numbers(const char *name);
 
@@ -37,6 +40,13 @@ bool whole_number(const char *words, size_t *number);
 
 /* Writes bytes to a file, or to standard output if the name is "-". */
 void write_octets(const char *name, const uint8_t *bytes, size_t length);
+
+/* Makes a folder, if there is none of that name yet. */
+void make_folder(const char *name);
+
+/* Writes bytes to the file of a message in a folder: message-0000.der for position 0, and so on. Four digits are enough, since a batch has
+ * at most 7,281 messages. */
+void write_message(const char *folder, size_t position, const uint8_t *bytes, size_t length);
 
 /* Flushes standard output; it is trouble if that fails. */
 void finish_output(void);

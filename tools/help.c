@@ -8,6 +8,12 @@
 #define EDITION_HELP \
     "  --edition N    1 for RFC 2511, 2 for RFC 4211; needed, since it is never guessed\n"
 
+#define POSITION_HELP \
+    "  --position P   which message, counted from 0; this is never its certReqId\n"
+
+#define OUTPUT_HELP \
+    "  --output FILE  where the batch goes, in DER; without it, or if it is -, to standard output\n"
+
 #define STATUS_HELP \
     "Exit status: 0 accepted, 1 refused, 2 usage or file trouble.\n"
 
@@ -16,13 +22,16 @@
     "only the order of a SET's members is decided at the SET's last byte.\n"
 
 const char general_help[] =
-    "phagundro: batches of certificate requests (CertReqMessages in DER), read, written and judged\n"
+    "phagundro: batches of certificate requests (CertReqMessages in DER), read, written, judged, joined and cut\n"
     "\n"
     "  phagundro read       --edition N [--hex] [--numbers | --json] [FILE]\n"
     "  phagundro write      --edition N [--hex] [--output FILE] ROWS SLICE\n"
     "  phagundro verdict    --edition N --position P [--part FILE] [--hex] [--json] [FILE]\n"
     "  phagundro duplicates --edition N [--hex] [--json] [FILE]\n"
     "  phagundro editions   [--hex] [--json] [FILE]\n"
+    "  phagundro join       --edition N [--hex] [--output FILE] FILE FILE..\n"
+    "  phagundro cut        --edition N --position P [--output FILE] [--hex] [FILE]\n"
+    "  phagundro cut        --edition N --all --output-dir DIR [--hex] [FILE]\n"
     "  phagundro COMMAND --help\n"
     "  phagundro --help\n"
     "  phagundro --version\n"
@@ -44,17 +53,14 @@ const char write_help[] =
     "the bytes at which the leaves' rows point. One of the two may be -, standard input. Of a container's row the first byte, length\n"
     "and content's first byte are ignored. Of a leaf's row they must be right, with places counted from the start of SLICE.\n"
     "  --hex          SLICE is written in hex digits, with or without white space between them\n"
-    EDITION_HELP
-    "  --output FILE  where the batch goes, in DER; without it, or if it is -, to standard output\n"
-    STATUS_HELP
+    EDITION_HELP OUTPUT_HELP STATUS_HELP
     "After a refusal nothing is written.\n";
 
 const char verdict_help[] =
     "phagundro verdict --edition N --position P [--part FILE] [--hex] [--json] [FILE]\n"
     "\n"
     "Says what a message's proof of possession covers, and which bytes are signed. No signature is checked.\n"
-    INPUT_HELP EDITION_HELP
-    "  --position P   which message, counted from 0; this is never its certReqId\n"
+    INPUT_HELP EDITION_HELP POSITION_HELP
     "  --part FILE    the signed part is written there; it is empty with any verdict but 2 and 3\n"
     "  --json         the answer as JSON\n"
     STATUS_HELP
@@ -78,3 +84,28 @@ const char editions_help[] =
     "  --json         the answers as JSON\n"
     "Exit status: 0 accepted in an edition or both, 1 refused in both, 2 usage or file trouble.\n"
     FAULTS_HELP;
+
+const char join_help[] =
+    "phagundro join --edition N [--hex] [--output FILE] FILE FILE..\n"
+    "\n"
+    "Joins batches into one that has the messages of the first FILE, then those of the next, and so on. There may be any number of\n"
+    "FILEs from two on. Each is a batch in DER, and one of them may be -, standard input.\n"
+    "  --hex          the batches are written in hex digits, with or without white space between them\n"
+    EDITION_HELP OUTPUT_HELP STATUS_HELP
+    "After a refusal nothing is written. The FILEs are joined from the left, and the first refusal on the way is shown, with the FILE\n"
+    "that it is about; or the join up to a FILE is refused with number 1, since it would be longer than 65,535 bytes.\n"
+    "Messages with the same certReqId are joined too; duplicates finds them.\n";
+
+const char cut_help[] =
+    "phagundro cut --edition N --position P [--output FILE] [--hex] [FILE]\n"
+    "phagundro cut --edition N --all --output-dir DIR [--hex] [FILE]\n"
+    "\n"
+    "Cuts one message out of a batch, or all of them. Each becomes a batch with no other message.\n"
+    INPUT_HELP EDITION_HELP POSITION_HELP OUTPUT_HELP
+    "  --all          every message, each to a file of its own\n"
+    "  --output-dir DIR\n"
+    "                 the folder for these files, which is made if it isn't there. They are message-0000.der for position 0,\n"
+    "                 message-0001.der for position 1 and so on, always with four digits. A file that is there already is replaced,\n"
+    "                 and other files of DIR are left alone.\n"
+    STATUS_HELP
+    "After a refusal nothing is written. Joining the files of --all in the order of their names gives the batch again.\n";

@@ -2,6 +2,7 @@
 #ifndef HELP_H
 #define HELP_H
 
-extern const char general_help[], read_help[], write_help[], verdict_help[], duplicates_help[], editions_help[];
+extern const char general_help[], read_help[], write_help[], verdict_help[], duplicates_help[], editions_help[], join_help[],
+    cut_help[];
 
 #endif

@@ -18,10 +18,17 @@ static const struct {
     {"--position", POSITION, "a number", "say --position N: which message, counted from 0"},
     {"--part", PART, "a file", NULL},
     {"--output", OUTPUT, "a file", NULL},
+    {"--all", ALL, NULL, NULL},
+    {"--output-dir", OUTPUT_DIR, "a folder", "say --output-dir DIR: the folder for the files of --all"},
     {"--help", HELP, NULL, NULL},
 };
 
 enum { KNOWN = sizeof known / sizeof *known };
+
+/* Options of which only one may be given. */
+static const unsigned alternatives[][2] = {{NUMBERS, JSON}, {ALL, POSITION}, {ALL, OUTPUT}, {POSITION, OUTPUT_DIR}};
+
+enum { ALTERNATIVES = sizeof alternatives / sizeof *alternatives };
 
 /* Which option a word names, up to its "="; KNOWN for none. */
 static size_t option_of(const char *word)
@@ -51,10 +58,11 @@ static void take(options *given, size_t option, const char *value)
     case POSITION: given->position = number_of(name, value); break;
     case PART: given->part = value; break;
     case OUTPUT: given->output = value; break;
+    case OUTPUT_DIR: given->output_dir = value; break;
     }
 }
 
-static void add_file(options *given, const char *command, size_t most, const char *name)
+static void add_file(options *given, const char *command, size_t most, char *name)
 {
     if (given->count == most)
         trouble("%s: a file too many: %s (see phagundro %s --help)", command, name, command);
@@ -78,9 +86,24 @@ static char **take_option(options *given, const char *command, unsigned taken, c
     return words;
 }
 
+static const char *name_of(unsigned bit)
+{
+    size_t option = 0;
+    while (known[option].bit != bit)
+        option++;
+    return known[option].name;
+}
+
+static void check_alternatives(unsigned given)
+{
+    for (size_t i = 0; i < ALTERNATIVES; i++)
+        if ((given & alternatives[i][0]) && (given & alternatives[i][1]))
+            trouble("%s and %s: only one of them", name_of(alternatives[i][0]), name_of(alternatives[i][1]));
+}
+
 options parsed(const char *command, unsigned taken, size_t most, char **words)
 {
-    options given = {0};
+    options given = {.files = words};
     bool ended = false;
     for (; *words != NULL; words++) {
         if (ended || **words != '-' || strcmp(*words, "-") == 0)
@@ -90,8 +113,7 @@ options parsed(const char *command, unsigned taken, size_t most, char **words)
         else
             words = take_option(&given, command, taken, words);
     }
-    if ((given.given & NUMBERS) && (given.given & JSON))
-        trouble("--numbers and --json: only one of them");
+    check_alternatives(given.given);
     return given;
 }
 

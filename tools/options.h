@@ -14,10 +14,10 @@ enum {
     POSITION = 1 << 4,
     PART = 1 << 5,
     OUTPUT = 1 << 6,
-    HELP = 1 << 7
+    ALL = 1 << 7,
+    OUTPUT_DIR = 1 << 8,
+    HELP = 1 << 9
 };
-
-enum { MOST_FILES = 2 };
 
 typedef struct {
     unsigned given;
@@ -25,7 +25,8 @@ typedef struct {
     size_t position;
     const char *part;
     const char *output;
-    const char *files[MOST_FILES];
+    const char *output_dir;
+    char **files; /* the words that name files, moved to the front of the command's words */
     size_t count; /* of files */
 } options;
 

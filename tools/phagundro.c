@@ -1,4 +1,4 @@
-/* The command line tool: each command is one call of the library, with its answer shown. */
+/* The command line tool: each command hands its files to a call of the library and shows the answer. */
 #include "../include/phagundro.h"
 #include "files.h"
 #include "help.h"
@@ -20,10 +20,31 @@ enum { OLD_ROW_NUMBERS = 4 }; /* numbers of a row in version 0.1, which had no c
 static size_t table[MOST_NUMBERS];
 static uint8_t output[PHAGUNDRO_LONGEST];
 
+static octets batch_in(const options *given, const char *name)
+{
+    return read_octets(name, given->given & HEX, MOST_INPUT);
+}
+
 /* The batch that a command is about. */
 static octets batch_of(const options *given)
 {
-    return read_octets(given->count == 0 ? "-" : given->files[0], given->given & HEX, MOST_INPUT);
+    return batch_in(given, given->count == 0 ? "-" : given->files[0]);
+}
+
+/* It is trouble if several files are standard input. */
+static void check_standard_input(const options *given, const char *command)
+{
+    size_t found = 0;
+    for (size_t i = 0; i < given->count; i++)
+        found += strcmp(given->files[i], "-") == 0;
+    if (found > 1)
+        trouble("%s: only one of the files can be standard input", command);
+}
+
+/* Writes the batch where the command line says. */
+static void write_batch(const options *given, const uint8_t *bytes, size_t length)
+{
+    write_octets(given->output == NULL ? "-" : given->output, bytes, length);
 }
 
 static phagundro_answer rows_of(size_t edition, octets batch)
@@ -74,8 +95,7 @@ static int write_command(const options *given)
 {
     if (given->count < 2)
         trouble("write: two files are needed, the rows and the bytes that they point at");
-    if (strcmp(given->files[0], "-") == 0 && strcmp(given->files[1], "-") == 0)
-        trouble("write: only one of the two files can be standard input");
+    check_standard_input(given, "write");
     numbers rows = read_numbers(given->files[0]);
     octets slice = read_octets(given->files[1], given->given & HEX, SIZE_MAX);
     phagundro_answer answer =
@@ -85,7 +105,7 @@ static int write_command(const options *given)
     if (answer.number != PHAGUNDRO_ACCEPTED)
         show_refusal(stderr, given->edition, answer.number, answer.place, slice);
     else
-        write_octets(given->output == NULL ? "-" : given->output, output, answer.count);
+        write_batch(given, output, answer.count);
     free(rows.numbers);
     free(slice.bytes);
     return status_of(answer.number);
@@ -184,6 +204,73 @@ static int editions_command(const options *given)
     return status;
 }
 
+/* Shows why a file is not joined to those before it: one of the two batches is refused, or the join. */
+static void show_join_refusal(const options *given, size_t next, phagundro_pair_answer answer, octets joined, octets batch)
+{
+    bool first = answer.file == PHAGUNDRO_FILE_FIRST;
+    fprintf(stderr, "%s%s: ", answer.file == PHAGUNDRO_FILE_NEITHER ? "the join up to " : "",
+        shown_name(given->files[first ? next - 1 : next]));
+    show_refusal(stderr, given->edition, answer.number, answer.place, first ? joined : batch);
+}
+
+static int join_command(const options *given)
+{
+    if (given->count < 2)
+        trouble("join: two files or more are needed");
+    check_standard_input(given, "join");
+    octets joined = batch_in(given, given->files[0]);
+    size_t number = PHAGUNDRO_ACCEPTED;
+    for (size_t next = 1; next < given->count && number == PHAGUNDRO_ACCEPTED; next++) {
+        octets batch = batch_in(given, given->files[next]);
+        phagundro_pair_answer answer =
+            phagundro_join(given->edition, joined.bytes, joined.length, batch.bytes, batch.length, output, sizeof output);
+        number = answer.number;
+        if (number == PHAGUNDRO_ACCEPTED)
+            replace_octets(&joined, output, answer.count);
+        else
+            show_join_refusal(given, next, answer, joined, batch);
+        free(batch.bytes);
+    }
+    if (number == PHAGUNDRO_ACCEPTED)
+        write_batch(given, joined.bytes, joined.length);
+    free(joined.bytes);
+    return status_of(number);
+}
+
+/* The batch of the message at a position, in the output. */
+static phagundro_answer cut_at(const options *given, octets batch, size_t position)
+{
+    return phagundro_cut(given->edition, batch.bytes, batch.length, position, output, sizeof output);
+}
+
+/* Writes each message of an accepted batch to a file of its own. */
+static void cut_all(const options *given, octets batch)
+{
+    phagundro_answer answer;
+    make_folder(given->output_dir);
+    for (size_t position = 0; (answer = cut_at(given, batch, position)).number == PHAGUNDRO_ACCEPTED; position++)
+        write_message(given->output_dir, position, output, answer.count);
+}
+
+static int cut_command(const options *given)
+{
+    if (!(given->given & (POSITION | ALL)))
+        trouble("cut: say --position N: which message, counted from 0; or --all");
+    needed(given, "cut", given->given & ALL ? OUTPUT_DIR : 0);
+    if (given->output_dir != NULL && strcmp(given->output_dir, "-") == 0)
+        trouble("cut: --output-dir wants a folder, since each message gets a file of its own");
+    octets batch = batch_of(given);
+    phagundro_answer answer = cut_at(given, batch, given->position); /* with --all 0, where every accepted batch has a message */
+    if (answer.number != PHAGUNDRO_ACCEPTED)
+        show_refusal(stderr, given->edition, answer.number, answer.place, batch);
+    else if (given->given & ALL)
+        cut_all(given, batch);
+    else
+        write_batch(given, output, answer.count);
+    free(batch.bytes);
+    return status_of(answer.number);
+}
+
 static const struct {
     const char *name;
     int (*run)(const options *given);
@@ -196,6 +283,8 @@ static const struct {
     {"verdict", verdict_command, verdict_help, EDITION | HEX | JSON | POSITION | PART, EDITION | POSITION, 1},
     {"duplicates", duplicates_command, duplicates_help, EDITION | HEX | JSON, EDITION, 1},
     {"editions", editions_command, editions_help, HEX | JSON, 0, 1},
+    {"join", join_command, join_help, EDITION | HEX | OUTPUT, EDITION, SIZE_MAX},
+    {"cut", cut_command, cut_help, EDITION | HEX | POSITION | OUTPUT | ALL | OUTPUT_DIR, EDITION, 1},
 };
 
 enum { COMMANDS = sizeof commands / sizeof *commands };
