@@ -15,6 +15,8 @@ static const struct {
     {"write, leaves elsewhere / read", MOVED, READ},
     {"duplicates / accept", DUPLICATES, ACCEPT},
     {"read / strict walk", READ, STRICT},
+    {"join / accepting both, memcpy", JOIN, ACCEPT_BOTH},
+    {"cut / accept", CUT, ACCEPT},
 };
 
 static figures inputs[MOST_INPUTS];

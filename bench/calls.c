@@ -1,21 +1,33 @@
 // Times every call of the library against copying, two walks of the nest in plain C and OpenSSL, on the same batches.
 #include "calls.h"
 #include "inputs.h"
+#include "parts.h"
 #include "rounds.h"
 #include "subjects.h"
 
 #include <string.h>
 
-// The input that is measured now, room for what is read and written, and a draft with the same leaves elsewhere: one byte further on.
-static input now;
+// The input that is measured now, what it is taken apart into, a draft with the same leaves elsewhere, which is one byte further on, and
+// room for what is read and written. A copy takes far longer if its target stands a little later in a page than its source does in one. So
+// the output begins in the middle of a page, and what is copied at the start of one.
+enum { PAGE = 4096 };
+static _Alignas(PAGE) input now;
+static _Alignas(PAGE) parts apart;
+static _Alignas(PAGE) uint8_t moved[1 + PHAGUNDRO_LONGEST];
+static _Alignas(PAGE) uint8_t lent[PAGE / 2 + PHAGUNDRO_LONGEST];
+static uint8_t *const output = lent + PAGE / 2;
 static size_t table[MOST_NUMBERS], moved_rows[MOST_NUMBERS];
-static uint8_t output[PHAGUNDRO_LONGEST], moved[1 + PHAGUNDRO_LONGEST];
+
+static bool copy(const uint8_t *bytes, size_t length)
+{
+    memcpy(output, bytes, length);
+    __asm__ volatile("" : : "r"(output) : "memory");
+    return true;
+}
 
 static bool do_copy(void)
 {
-    memcpy(output, now.bytes, now.length);
-    __asm__ volatile("" : : "r"(output) : "memory");
-    return true;
+    return copy(now.bytes, now.length);
 }
 
 static bool do_least_walk(void)
@@ -33,9 +45,14 @@ static bool do_strict_walk_by_cc(void)
     return strict_walk_by_cc(now.bytes, now.length);
 }
 
+static bool accepts(const uint8_t *bytes, size_t length)
+{
+    return phagundro_accept(EDITION, bytes, length) == PHAGUNDRO_ACCEPTED;
+}
+
 static bool do_accept(void)
 {
-    return phagundro_accept(EDITION, now.bytes, now.length) == PHAGUNDRO_ACCEPTED;
+    return accepts(now.bytes, now.length);
 }
 
 static bool do_read(void)
@@ -51,12 +68,12 @@ static bool do_cleared_read(void)
 
 static bool do_write(void)
 {
-    return phagundro_write(EDITION, now.rows, now.numbers, now.bytes, now.length, output, sizeof output).count == now.length;
+    return phagundro_write(EDITION, now.rows, now.numbers, now.bytes, now.length, output, PHAGUNDRO_LONGEST).count == now.length;
 }
 
 static bool do_write_moved(void)
 {
-    return phagundro_write(EDITION, moved_rows, now.numbers, moved, 1 + now.length, output, sizeof output).count == now.length;
+    return phagundro_write(EDITION, moved_rows, now.numbers, moved, 1 + now.length, output, PHAGUNDRO_LONGEST).count == now.length;
 }
 
 static bool do_verdict(void)
@@ -72,6 +89,25 @@ static bool do_verdict_number(void)
 static bool do_duplicates(void)
 {
     return phagundro_duplicates(EDITION, now.bytes, now.length).number == PHAGUNDRO_ACCEPTED;
+}
+
+// The least that a join can take.
+static bool do_accept_both(void)
+{
+    const batch *first = &apart.first, *second = &apart.second;
+    return accepts(first->bytes, first->length) && accepts(second->bytes, second->length) && copy(apart.join.bytes, apart.join.length);
+}
+
+static bool do_join(void)
+{
+    const batch *first = &apart.first, *second = &apart.second;
+    return phagundro_join(EDITION, first->bytes, first->length, second->bytes, second->length, output, PHAGUNDRO_LONGEST).count
+        == apart.join.length;
+}
+
+static bool do_cut(void)
+{
+    return phagundro_cut(EDITION, now.bytes, now.length, apart.position, output, PHAGUNDRO_LONGEST).count == apart.message.length;
 }
 
 static bool do_openssl(void)
@@ -92,6 +128,9 @@ static subject subjects[CALLS] = {
     [VERDICT] = {"phagundro_verdict", do_verdict},
     [VERDICT_NUMBER] = {"phagundro_verdict_number", do_verdict_number},
     [DUPLICATES] = {"phagundro_duplicates", do_duplicates},
+    [ACCEPT_BOTH] = {"accepting both, memcpy", do_accept_both},
+    [JOIN] = {"phagundro_join", do_join},
+    [CUT] = {"phagundro_cut", do_cut},
     [OPENSSL] = {"OpenSSL", do_openssl},
 };
 
@@ -105,12 +144,21 @@ static void move_leaves(void)
     }
 }
 
-// Both drafts have to give the batch again.
-static void check_written(const subject *writing)
+// Ends the program if a call doesn't write these bytes.
+static void check_written(int call, const uint8_t *bytes, size_t length)
 {
-    memset(output, 0, sizeof output);
-    if (!writing->run() || memcmp(output, now.bytes, now.length) != 0)
-        fail_wrong(writing, now.name);
+    memset(output, 0, PHAGUNDRO_LONGEST);
+    if (!subjects[call].run() || memcmp(output, bytes, length) != 0)
+        fail_wrong(&subjects[call], now.name);
+}
+
+// Both drafts have to give the batch again, joining its halves too, and cutting the message in the middle.
+static void check_outputs(void)
+{
+    check_written(WRITE, now.bytes, now.length);
+    check_written(MOVED, now.bytes, now.length);
+    check_written(JOIN, apart.join.bytes, apart.join.length);
+    check_written(CUT, apart.message.bytes, apart.message.length);
 }
 
 const char *call_name(int call)
@@ -123,9 +171,9 @@ void measure_calls(const char *path, figures *taken)
     if (!openssl_there)
         subjects[OPENSSL].run = NULL;
     take_input(path, &now);
+    take_parts(&now, &apart);
     move_leaves();
-    check_written(&subjects[WRITE]);
-    check_written(&subjects[MOVED]);
+    check_outputs();
     best_times(subjects, CALLS, now.name, taken->best);
     taken->length = now.length;
     taken->rows = now.numbers / PHAGUNDRO_ROW_NUMBERS;

@@ -5,7 +5,10 @@
 #include <stdbool.h>
 #include <stddef.h>
 
-enum { COPY, LEAST, STRICT, STRICT_BY_CC, ACCEPT, READ, CLEARED, WRITE, MOVED, VERDICT, VERDICT_NUMBER, DUPLICATES, OPENSSL, CALLS };
+enum {
+    COPY, LEAST, STRICT, STRICT_BY_CC, ACCEPT, READ, CLEARED, WRITE, MOVED, VERDICT, VERDICT_NUMBER, DUPLICATES, ACCEPT_BOTH, JOIN, CUT,
+    OPENSSL, CALLS
+};
 
 typedef struct {
     size_t length, rows, messages;

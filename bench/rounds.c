@@ -6,7 +6,7 @@
 #include <stdlib.h>
 #include <time.h>
 
-enum { MOST_SUBJECTS = 16 };
+enum { MOST_SUBJECTS = 32 };
 static const double LEAST_TIME = 200e-6; // seconds that the calls of one measurement take at least
 
 static double seconds(void)

@@ -1,0 +1,22 @@
+// What joining and cutting are timed on: a batch taken apart.
+#ifndef PARTS_H
+#define PARTS_H
+
+#include "inputs.h"
+
+typedef struct {
+    uint8_t bytes[PHAGUNDRO_LONGEST];
+    size_t length;
+} batch;
+
+typedef struct {
+    batch first, second, join; // two batches, and what joining them has to give
+    size_t position;           // of the message in the middle
+    batch message;             // what cutting there has to give
+} parts;
+
+// Takes a batch apart. If it has several messages, the two that are joined are its halves, and their join is the batch again. If it has
+// one, the second is the smallest batch; an input that is too long for that ends the program.
+void take_parts(const input *of, parts *taken);
+
+#endif
