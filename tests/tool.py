@@ -61,9 +61,9 @@ def scratch(test):
     """A test that is lent an empty folder."""
 
     @functools.wraps(test)
-    def lent():
+    def lent(*words):
         with tempfile.TemporaryDirectory() as folder:
-            return test(pathlib.Path(folder))
+            return test(pathlib.Path(folder), *words)
 
     return lent
 
@@ -234,6 +234,32 @@ def wrong_lines():
         (["write", "--edition", 2, minimal, minimal], "not a row's number"),
         (["verdict", "--edition", 2, "--position", 0, "--part", "absent/part", minimal], "absent/part: No such file"),
         (["verdict", "--edition", 2, "--position", 0, "--part", "-", minimal], "--part wants a file"),
+        *wrong_joins(minimal),
+    ]
+
+
+def wrong_joins(minimal):
+    """Those of join and cut."""
+    cut, absent, full = ["cut", "--edition", 2], "absent/folder", "/dev/full"
+    return [
+        (["join", minimal, minimal], "--edition 1"), (["join", "--edition", 2], "two files or more"),
+        (["join", "--edition", 2, minimal], "two files or more"), (["join", "--edition", 2, "-", minimal, "-"], "only one of the files"),
+        (["join", "--edition", 2, minimal, "absent.der"], "absent.der: No such file"),
+        (["join", "--edition", 2, "--hex", minimal, minimal], "not hex"), (["join", "--edition", 2, "--json", minimal], "no such option"),
+        (["join", "--edition", 2, "--output", "absent/join", minimal, minimal], "absent/join: No such file"),
+        (["join", "--edition", 2, "--output", full, minimal, minimal], "No space left"),
+        (["join", "--edition", 2, "--position", 0, minimal, minimal], "no such option"),
+        (["cut", "--position", 0, minimal], "--edition 1"), ([*cut, minimal], "say --position N: which message, counted from 0; or --all"),
+        ([*cut, "--position", "last", minimal], "not a whole number"), ([*cut, "--position", 0, minimal, minimal], "too many"),
+        ([*cut, "--all", minimal], "say --output-dir DIR"), ([*cut, "--output-dir", absent, minimal], "or --all"),
+        ([*cut, "--all", "--output-dir"], "--output-dir wants a folder after it"), ([*cut, "--all=1", minimal], "takes no value"),
+        ([*cut, "--all", "--position", 0, "--output-dir", absent, minimal], "--all and --position: only one"),
+        ([*cut, "--all", "--output", absent, minimal], "--all and --output: only one"),
+        ([*cut, "--all", "--output", absent, "--output-dir", absent, minimal], "--all and --output: only one"),
+        ([*cut, "--position", 0, "--output-dir", absent, minimal], "--position and --output-dir: only one"),
+        ([*cut, "--all", "--output-dir", "-", minimal], "--output-dir wants a folder"),
+        ([*cut, "--all", "--output-dir", absent, minimal], "absent/folder: No such file"),
+        ([*cut, "--position", 0, "--output", "absent/cut", minimal], "absent/cut: No such file"),
     ]
 
 

@@ -22,8 +22,9 @@ COUNTED = {  # what the benchmarks show of these and of a batch that they make, 
 }
 TIMED = {  # rows of times, and how often
     **dict.fromkeys(("memcpy", "least walk", "strict walk", "strict walk, compiled by gcc"), 2),
-    **dict.fromkeys(("phagundro_read, rows cleared first", "phagundro_write, leaves elsewhere"), 2),
+    **dict.fromkeys(("phagundro_read, rows cleared first", "phagundro_write, leaves elsewhere", "accepting both, memcpy"), 2),
     **dict.fromkeys(("write / read", "write, leaves elsewhere / read", "duplicates / accept", "read / strict walk"), 1),
+    **dict.fromkeys(("join / accepting both, memcpy", "cut / accept"), 1),
     **{f"phagundro_{call}, {fault}": 1 for call in ("accept", "read") for fault in ("accepted", "nest (3)", "grammar (8)", "other edition (9)")},
 }
 TEXTS = ("ASCII", *(f"ASCII, {which} another" for which in ("the last character", "every 100th character", "every 9th character")), "Cyrillic")
@@ -64,12 +65,16 @@ def chosen(count):
     return [*by_length[: count - 1], LONG_FILE]
 
 
-def every_call(name, *program):
+@tool.scratch
+def every_call(folder, name, *program):
     """What every command answers for a file: the statuses and what is written."""
     rows = tool.call("read", "--edition", 2, "--numbers", tool.path(name))[1]
     words = [["read", "--edition", 1], ["read", "--edition", 2, "--json"], ["verdict", "--edition", 2, "--position", 0],
-             ["duplicates", "--edition", 2], ["editions"], ["write", "--edition", 2, "-"]]
-    return [tool.call(*program[1:], *some, tool.path(name), octets=rows, program=program[0]) for some in words]
+             ["duplicates", "--edition", 2], ["editions"], ["write", "--edition", 2, "-"],
+             ["join", "--edition", 2, *[tool.path("openssl-minimal")] * 2], ["cut", "--edition", 2, "--position", 0],
+             ["cut", "--edition", 2, "--all", "--output-dir", folder]]
+    answers = [tool.call(*program[1:], *some, tool.path(name), octets=rows, program=program[0]) for some in words]
+    return answers, {path.name: path.read_bytes() for path in folder.iterdir()}
 
 
 def unsound_memory():

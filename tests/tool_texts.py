@@ -15,12 +15,12 @@ CHANGELOG = ROOT / "CHANGELOG.md"
 MANUAL = ROOT / "tools/phagundro.1"
 MEANINGS = ROOT / "tools/meanings.c"
 NUMBERS, VERDICTS, KINDS = "The number of an answer", "The verdict on a message's proof", "The kind of a row"  # headings of the header
-COMMANDS = ["read", "write", "verdict", "duplicates", "editions"]
+COMMANDS = ["read", "write", "verdict", "duplicates", "editions", "join", "cut"]
 ENUMERATOR = re.compile(r"(PHAGUNDRO_\w+) += (\d+),? +/\* (.*) \*/")
 
 
 def other_help():
-    """Help that is missing, leaves out an option that the synopsis has, or is not the man page's synopsis; and the version."""
+    """Help that is missing, leaves out an option that its synopsis has, or whose synopsis is not the man page's; and the version."""
     wrong = []
     status, general, _ = tool.call("--help")
     synopsis = MANUAL.read_text().split(".SH DESCRIPTION")[0]
@@ -29,10 +29,13 @@ def other_help():
         wrong.append(f"--help: status {status}")
     for command in COMMANDS:
         status, out, _ = tool.call(command, "--help")
-        first, text = out.decode().split("\n", 1)
-        if status != tool.ACCEPTED or re.sub(" +", " ", first) not in re.sub(" +", " ", general.decode()) or first not in plain:
-            wrong.append(f"{command} --help: status {status}, {first}")
-        wrong += [f"{command} --help is silent on {option}" for option in re.findall(r"--[a-z]+", first) if f"  {option} " not in text]
+        lines, text = out.decode().split("\n\n", 1)
+        for line in lines.splitlines():
+            known = f"  {line}\n" in re.sub(r"(?<=\w) +", " ", general.decode()) and line in plain.splitlines()
+            if status != tool.ACCEPTED or not known:
+                wrong.append(f"{command} --help: status {status}, {line}")
+        wrong += [f"{command} --help is silent on {option}" for option in re.findall(r"--[a-z-]+", lines)
+                  if not re.search(rf"^  {option}\b(?!-)", text, re.MULTILINE)]
     if tool.call("--version") != (tool.ACCEPTED, f"phagundro {tool.version()}\n".encode(), ""):
         wrong.append(f"--version: {tool.call('--version')}")
     return wrong
