@@ -1,5 +1,5 @@
-/* The reading, the writing, the verdict and the duplicate search by document 01 and by document 02's A3 and A11, written from those papers
- * alone. The comparisons check the archive against them. */
+/* The reading, the writing, the verdict and the duplicate search by document 01 and by document 02's A3 and A11, and the joining and the
+ * cutting by document 02's A13, written from those papers alone. The comparisons check the archive against them. */
 #ifndef REFERENCE_H
 #define REFERENCE_H
 
@@ -29,6 +29,17 @@ typedef struct {
 } reference_duplicate_answer;
 
 reference_duplicate_answer reference_duplicates(size_t edition, const uint8_t *bytes, size_t length);
+
+/* The batch of the first's messages and then the second's. The file says whose refusal it is: 1, 2, or 0 for neither's. */
+typedef struct {
+    size_t number, place, file, count;
+} reference_pair_answer;
+
+reference_pair_answer reference_join(size_t edition, const uint8_t *first, size_t first_length, const uint8_t *second, size_t second_length,
+    uint8_t *output, size_t room);
+
+/* The batch of the one message at a position. */
+reference_answer reference_cut(size_t edition, const uint8_t *bytes, size_t length, size_t position, uint8_t *output, size_t room);
 
 /* A fault planted in them, to show that a comparison finds it; 0 for none. */
 enum {
@@ -62,7 +73,20 @@ enum {
     SHORT_HEADERS = 19,       /* each content taken to begin two bytes after its element */
     CONTENTS_UNCOMPARED = 20, /* the content's first byte ignored in a draft's leaves too */
     CONTAINER_CONTENTS = 21,  /* the content's first byte not ignored in a draft's containers */
-    BATCH_CONTENTS = 22       /* the content's first byte of a draft's leaves taken as a place in the batch */
+    BATCH_CONTENTS = 22,      /* the content's first byte of a draft's leaves taken as a place in the batch */
+
+    /* in joining and cutting */
+    SECOND_WHOLE = 23,         /* the second batch's octets joined from its first byte, header included */
+    FIRST_HEADER_SKIPPED = 24, /* as many octets of the second batch skipped as the first's header has */
+    FIRST_LENGTH_KEPT = 25,    /* the first batch's length octets kept in the join */
+    HEADER_NOT_GROWN = 26,     /* the join's length written in as many octets as the first batch's */
+    OTHER_ORDER = 27,          /* the second batch's messages joined before the first's */
+    LENGTH_BEFORE_SECOND = 28, /* TOO_LONG for the join before the second batch's refusal */
+    LENGTHS_ADDED = 29,        /* TOO_LONG where the two batches' lengths pass 65,535 together */
+    ROOM_BEFORE_LENGTH = 30,   /* NO_ROOM before TOO_LONG */
+    EDITION_OF_NEITHER = 31,   /* UNKNOWN_EDITION said to be neither file's */
+    ROOM_BEFORE_POSITION = 32, /* NO_ROOM before NO_SUCH_MESSAGE */
+    NEXT_POSITION = 33         /* the message at the next position cut */
 };
 extern int reference_fault;
 
