@@ -1,6 +1,6 @@
 """The programs of host/, compiled and run: what the tests of the C boundary have in common.
 
-host/reference*.c is document 01 with document 02's A3 and A11 in plain C, written from those papers alone; host/compare*.c check the
+host/reference*.c is document 01 with document 02's A3, A11 and A13 in plain C, written from those papers alone; host/compare*.c check the
 archive against it, on inputs at random. A fault can be planted in the plain C, to show that a comparison finds it.
 """
 
@@ -19,6 +19,8 @@ ARCHIVE = ROOT / "target/staticlib/libcapi.a"
 WARNINGS = ["-Wall", "-Wextra", "-Werror"]
 C11 = ["gcc", "-std=c11", *WARNINGS]
 CPP17 = ["g++", "-std=c++17", *WARNINGS]
+OPTIMISED = ("-O2",)
+SANITIZED = ("-g", "-O1", "-fsanitize=address,undefined", "-fno-sanitize-recover=all")
 SEED = 1
 
 # The exit statuses of a comparison
@@ -38,20 +40,25 @@ def did(words, **more):
 
 
 @functools.cache
-def parts():
-    """The object files of those files of host/ that are no programs."""
-    BUILT.mkdir(parents=True, exist_ok=True)
+def parts(folder, flags):
+    """The object files, in this folder, of those files of host/ that are no programs."""
+    folder.mkdir(parents=True, exist_ok=True)
     sources = [path for path in sorted(FOLDER.glob("*.c")) if "int main(" not in path.read_text()]
     for source in sources:
-        did([*C11, "-O2", "-c", "-o", BUILT / f"{source.stem}.o", source])
-    return [BUILT / f"{source.stem}.o" for source in sources]
+        did([*C11, *flags, "-c", "-o", folder / f"{source.stem}.o", source])
+    return [folder / f"{source.stem}.o" for source in sources]
 
 
 @functools.cache
-def built(name, *more):
+def built(name, *more, folder=BUILT, flags=OPTIMISED):
     """The program of host/NAME.c."""
-    did([*C11, "-O2", "-o", BUILT / name, FOLDER / f"{name}.c", *parts(), *more])
-    return BUILT / name
+    did([*C11, *flags, "-o", folder / name, FOLDER / f"{name}.c", *parts(folder, flags), *more])
+    return folder / name
+
+
+def sanitized(name, *more):
+    """The program of host/NAME.c with AddressSanitizer and UndefinedBehaviorSanitizer."""
+    return built(name, *more, folder=BUILT / "sanitized", flags=SANITIZED)
 
 
 @functools.cache
@@ -83,14 +90,14 @@ def planted_fault(fault):
     return f"the planted fault {fault}: {faults()[fault][1]}"
 
 
-def compared(program, *words):
+def compared(program, *words, build=built):
     """How a comparison of the archive ended, and what it wrote."""
-    return run([built(program, archive()), "--seed", SEED, *words, *corpus.files()])
+    return run([build(program, archive()), "--seed", SEED, *words, *corpus.files()])
 
 
-def other_than_archive(program, count):
+def other_than_archive(program, count, build=built):
     """The comparison's difference, or what never occurred in it."""
-    ended = compared(program, "--count", count)
+    ended = compared(program, "--count", count, build=build)
     if ended.returncode == SAME:
         print(ended.stdout, end="")
         return []
