@@ -66,6 +66,22 @@ static void *search_it(void *unused)
     return unused;
 }
 
+/* With itself, which may be too long, and with document 01's S. */
+static void *join_it(void *unused)
+{
+    static const uint8_t least[] = {0x30, 0x09, 0x30, 0x07, 0x30, 0x05, 0x02, 0x01, 0x00, 0x30, 0x00};
+    phagundro_join(edition, input, length, input, length, output, sizeof output);
+    phagundro_join(edition, least, sizeof least, input, length, output, sizeof output);
+    return unused;
+}
+
+static void *cut_it(void *unused)
+{
+    phagundro_cut(edition, input, length, 0, output, sizeof output);
+    phagundro_cut(edition, input, length, SIZE_MAX, output, sizeof output);
+    return unused;
+}
+
 /* The bytes of stack that a thread takes. */
 static size_t taken(void *(*run)(void *))
 {
@@ -124,6 +140,8 @@ static void measure(void)
     keep_most(&others, taken(accept_it));
     keep_most(&others, taken(read_it));
     keep_most(&others, taken(judge_it));
+    keep_most(&others, taken(join_it));
+    keep_most(&others, taken(cut_it));
     keep_most(messages_of(table, rows) <= PHAGUNDRO_FEW_MESSAGES ? &others : &searching, taken(search_it));
     if (rows > 0)
         measure_writing();
