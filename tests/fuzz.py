@@ -2,7 +2,8 @@
 
 What it can find is shown by planted faults, which it meets at its starts. In 20 s it doesn't find OWN_IDS, which needs a carried certReqId
 of 9 octets; nor can it find BYTE_OF_MESSAGES and BYTE_OF_POSITIONS, which need more messages than its inputs have, nor the faults about
-drafts. The comparisons of host_reading.py, host_writing.py and host_verdict.py find all of these.
+drafts and about joins that are too long. The comparisons of host_reading.py, host_writing.py, host_verdict.py and host_joining.py find all
+of these.
 
 By hand and longer: `python3 tests/fuzz.py SECONDS`, where the archive is built.
 """
@@ -18,6 +19,7 @@ import corpus
 import crmf_cases
 import editions_cases
 import host
+import joining_cases
 import verdict_cases
 
 TARGET = pathlib.Path(__file__).with_name("fuzz") / "batches.c"
@@ -25,7 +27,8 @@ SECONDS = 20
 LONGEST = 1024  # bytes of an input
 LEAST = 2_000  # inputs, or it was no run
 FINDS = ("SUBJECT_IS_NAME", "FALSE_ACCEPTED", "LAST_DIFFERENCE", "EITHER_NAMES", "CARRIED_IDS", "LEAST_EARLIER", "LAST_OCTETS",
-    "ORDER_BEFORE_INSIDE", "CONTENTS_ORDERED", "TAGGED_ORDERED", "FIRST_PAIR_ORDERED", "EQUALS_REFUSED", "SHORT_HEADERS")
+    "ORDER_BEFORE_INSIDE", "CONTENTS_ORDERED", "TAGGED_ORDERED", "FIRST_PAIR_ORDERED", "EQUALS_REFUSED", "SHORT_HEADERS", "SECOND_WHOLE",
+    "FIRST_HEADER_SKIPPED", "FIRST_LENGTH_KEPT", "HEADER_NOT_GROWN", "OTHER_ORDER", "ROOM_BEFORE_POSITION", "NEXT_POSITION")
 
 
 @functools.cache
@@ -44,7 +47,7 @@ def starts():
     found = [path.read_bytes() for path in corpus.files()] + [octets for _, octets, _ in corpus.swapped()]
     found += [crmf_cases.built(batch)[0] for batch, _ in crmf_cases.table()[1]]
     found += [case.built()[0] for case in editions_cases.table()[1]]
-    found += [case.octets for case in verdict_cases.table()]
+    found += [case.octets for case in verdict_cases.table()] + [case.octets for case in joining_cases.table()]
     return [octets for octets in found if len(octets) <= LONGEST]
 
 

@@ -1,5 +1,6 @@
-/* A fuzz target for clang's libFuzzer: any bytes, read and judged by the archive and by document 01 in plain C, whose code guides the
- * fuzzer. It checks that both are equal, that the rows are written back, and how the two editions' answers relate. A difference aborts. */
+/* A fuzz target for clang's libFuzzer: any bytes, read, judged, joined and cut by the archive and by documents 01 and 02 in plain C, whose
+ * code guides the fuzzer. It checks that both are equal, that the rows are written back, that a batch cut at every position is joined again,
+ * and how the two editions' answers relate. A difference aborts. */
 #include "../../include/phagundro.h"
 #include "../host/reference.h"
 
@@ -11,12 +12,13 @@ enum {
     MOST = 8192, /* bytes of an input */
     NUMBERS = PHAGUNDRO_ROW_NUMBERS * (MOST / 2),
     POSITIONS = 4,
+    MORE = 8, /* bytes that an output has beside those of two inputs */
     UNTOUCHED = 0xA5,
     EDITIONS = PHAGUNDRO_RFC4211 + 1 /* tables that are indexed by the edition */
 };
 
 static size_t rows[EDITIONS][NUMBERS], expected[NUMBERS];
-static uint8_t output[MOST];
+static uint8_t output[MOST], made[2 * MOST + MORE], wanted_made[2 * MOST + MORE];
 
 static void hold(int holds, size_t edition, const char *what)
 {
@@ -59,6 +61,60 @@ static void judge_alike(size_t edition, const uint8_t *bytes, size_t length)
     phagundro_duplicate_answer searched = phagundro_duplicates(edition, bytes, length);
     reference_duplicate_answer wanted = reference_duplicates(edition, bytes, length);
     hold(memcmp(&searched, &wanted, sizeof searched) == 0, edition, "another pair");
+}
+
+/* Joins; the output after the join, or all of it after a refusal, is as it was. */
+static void join_alike(size_t edition, const uint8_t *first, size_t first_length, const uint8_t *second, size_t second_length, size_t room)
+{
+    size_t size = first_length + second_length + MORE;
+    memset(made, UNTOUCHED, size);
+    memset(wanted_made, UNTOUCHED, size);
+    phagundro_pair_answer answer = phagundro_join(edition, first, first_length, second, second_length, made, room);
+    reference_pair_answer wanted = reference_join(edition, first, first_length, second, second_length, wanted_made, room);
+    hold(memcmp(&answer, &wanted, sizeof answer) == 0, edition, "another answer in joining");
+    hold(memcmp(made, wanted_made, size) == 0, edition, "another join");
+}
+
+static void cut_alike(size_t edition, const uint8_t *bytes, size_t length, size_t position, size_t room)
+{
+    size_t size = length + MORE;
+    memset(made, UNTOUCHED, size);
+    memset(wanted_made, UNTOUCHED, size);
+    phagundro_answer answer = phagundro_cut(edition, bytes, length, position, made, room);
+    reference_answer wanted = reference_cut(edition, bytes, length, position, wanted_made, room);
+    hold(memcmp(&answer, &wanted, sizeof answer) == 0, edition, "another answer in cutting");
+    hold(memcmp(made, wanted_made, size) == 0, edition, "another batch is cut");
+}
+
+/* Cuts a batch that is accepted at every position and joins what was cut again. */
+static void join_again(size_t edition, const uint8_t *bytes, size_t length)
+{
+    static uint8_t so_far[MOST];
+    size_t joined = phagundro_cut(edition, bytes, length, 0, so_far, sizeof so_far).count;
+    for (size_t position = 1;; position++) {
+        phagundro_answer cut = phagundro_cut(edition, bytes, length, position, output, sizeof output);
+        if (cut.number != PHAGUNDRO_ACCEPTED)
+            break;
+        phagundro_pair_answer answer = phagundro_join(edition, so_far, joined, output, cut.count, made, sizeof made);
+        hold(answer.number == PHAGUNDRO_ACCEPTED && answer.count <= length, edition, "what was cut is not joined");
+        memcpy(so_far, made, joined = answer.count);
+    }
+    hold(joined == length && memcmp(so_far, bytes, length) == 0, edition, "what was cut and joined again is another batch");
+}
+
+static void join_and_cut(size_t edition, phagundro_answer answer, const uint8_t *bytes, size_t length)
+{
+    static const uint8_t least[] = {0x30, 0x09, 0x30, 0x07, 0x30, 0x05, 0x02, 0x01, 0x00, 0x30, 0x00}; /* document 01's S */
+    join_alike(edition, least, sizeof least, bytes, length, sizeof made);
+    cut_alike(edition, bytes, length, POSITIONS, 0);
+    if (answer.number != PHAGUNDRO_ACCEPTED)
+        return;
+    join_alike(edition, bytes, length, least, sizeof least, sizeof made);
+    join_alike(edition, bytes, length, bytes, length, sizeof made);
+    join_alike(edition, bytes, length, bytes, length, length);
+    for (size_t position = 0; position < POSITIONS; position++)
+        cut_alike(edition, bytes, length, position, position % 2 == 0 ? sizeof made : length / 2);
+    join_again(edition, bytes, length);
 }
 
 /* What demand 3 says of the answer in an edition beside that in the opposite one. */
@@ -106,6 +162,7 @@ int LLVMFuzzerTestOneInput(const uint8_t *bytes, size_t length)
         answers[edition] = read_alike(edition, bytes, length);
         write_back(edition, answers[edition], bytes, length);
         judge_alike(edition, bytes, length);
+        join_and_cut(edition, answers[edition], bytes, length);
     }
     agree(PHAGUNDRO_RFC2511, answers[PHAGUNDRO_RFC2511], answers[PHAGUNDRO_RFC4211]);
     agree(PHAGUNDRO_RFC4211, answers[PHAGUNDRO_RFC4211], answers[PHAGUNDRO_RFC2511]);
