@@ -98,7 +98,7 @@ static void compare_join(size_t edition, size_t room)
     wrong_editions += right.number == PHAGUNDRO_UNKNOWN_EDITION;
 }
 
-/* Rooms for a call that writes `count` octets, or refuses with 0. */
+/* Compares in several rooms; `count` is what is written, given room, or 0 with a refusal. */
 static void in_rooms(void (*compare)(size_t edition, size_t room), size_t edition, size_t count)
 {
     if (count > 0) {
