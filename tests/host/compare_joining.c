@@ -63,17 +63,6 @@ static void lend_output(size_t room)
     fill_alike(&output, expected);
 }
 
-static void compare_output(size_t edition, size_t room, size_t written)
-{
-    for (size_t i = 0; i < room; i++)
-        if (output.start[i] != expected[i]) {
-            printf("octet %zu of the output: the archive %02X, the reference %02X\n", i, output.start[i], expected[i]);
-            differs(i < written ? "another batch" : "the output is changed where it should be as it was", edition, room);
-        }
-    if (beside_changed(&output))
-        differs("memory beside the output is changed", edition, room);
-}
-
 static bool is_edition(size_t edition)
 {
     return edition == PHAGUNDRO_RFC2511 || edition == PHAGUNDRO_RFC4211;
@@ -92,7 +81,7 @@ static void compare_join(size_t edition, size_t room)
     calls++;
     if (!alike(4, names, &answer, &right))
         differs("other answers in joining", edition, room);
-    compare_output(edition, room, right.count);
+    check_output(&output, expected, edition, room, right.count);
     if (is_edition(edition))
         joins[edition][right.number][right.file]++;
     wrong_editions += right.number == PHAGUNDRO_UNKNOWN_EDITION;
@@ -140,7 +129,7 @@ static void compare_cut(size_t edition, size_t room)
         printf("position %zu\n", position);
         differs("other answers in cutting", edition, room);
     }
-    compare_output(edition, room, right.count);
+    check_output(&output, expected, edition, room, right.count);
     if (is_edition(edition))
         cuts[edition][right.number]++;
     wrong_editions += right.number == PHAGUNDRO_UNKNOWN_EDITION;

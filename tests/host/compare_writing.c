@@ -61,17 +61,6 @@ static void occurred(size_t edition, reference_answer answer)
 
 /* -- One draft -- */
 
-static void compare_output(size_t edition, const uint8_t *expected, size_t room, size_t written)
-{
-    for (size_t i = 0; i < room; i++)
-        if (output.start[i] != expected[i]) {
-            printf("octet %zu of the output: the archive %02X, the reference %02X\n", i, output.start[i], expected[i]);
-            differs(i < written ? "another batch" : "the output is changed where it should be as it was", edition, room);
-        }
-    if (beside_changed(&output))
-        differs("memory beside the output is changed", edition, room);
-}
-
 static void compare_writing(size_t edition, size_t room)
 {
     static const char *const names[] = {"number", "place", "count"};
@@ -83,7 +72,7 @@ static void compare_writing(size_t edition, size_t room)
     calls++;
     if (!alike(3, names, &answer, &right))
         differs("other answers", edition, room);
-    compare_output(edition, expected, room, right.count);
+    check_output(&output, expected, edition, room, right.count);
     if (edition == PHAGUNDRO_RFC2511 || edition == PHAGUNDRO_RFC4211)
         answers[edition][right.number]++;
     wrong_editions += right.number == PHAGUNDRO_UNKNOWN_EDITION;

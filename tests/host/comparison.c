@@ -130,6 +130,18 @@ bool alike(size_t count, const char *const *names, const void *answer, const voi
     return false;
 }
 
+void check_output(const Buffer *output, const uint8_t *expected, size_t edition, size_t room, size_t written)
+{
+    for (size_t i = 0; i < room; i++)
+        if (output->start[i] != expected[i]) {
+            printf("octet %zu of the output: the archive %02X, the reference %02X\n", i, output->start[i], expected[i]);
+            const char *what = i < written ? "another batch" : "the output is changed where it should be as it was";
+            comparison_differs(what, edition, "room", room);
+        }
+    if (beside_changed(output))
+        comparison_differs("memory beside the output is changed", edition, "room", room);
+}
+
 /* -- The account -- */
 
 void keep_most(size_t *most, size_t value)

@@ -8,6 +8,7 @@
 
 #include "../../include/phagundro.h"
 #include "inputs.h"
+#include "memory.h"
 
 #include <stdbool.h>
 #include <stddef.h>
@@ -59,6 +60,10 @@ _Noreturn void comparison_differs(const char *what, size_t edition, const char *
 
 /* Whether the archive's answer, which is numbers alone, is the reference's; shows both, with the names of the numbers, if it isn't. */
 bool alike(size_t count, const char *const *names, const void *answer, const void *right);
+
+/* It is a difference, in an edition and with this room, if an output, of which `written` bytes are a batch, isn't what is expected or what is
+ * beside it has changed. */
+void check_output(const Buffer *output, const uint8_t *expected, size_t edition, size_t room, size_t written);
 
 /* -- The account -- */
 
