@@ -7,6 +7,10 @@ use Rattle.editions.proofs.reader.read.Statement as read
 use Rattle.editions.proofs.reader.read.Met as read-met
 use Rattle.writer.proofs.writer.write.Statement as write
 use Rattle.writer.proofs.writer.write.Met as write-met
+use Rattle.writer.proofs.join.join.Statement as join
+use Rattle.writer.proofs.join.join.Met as join-met
+use Rattle.writer.proofs.cut.cut.Statement as cut
+use Rattle.writer.proofs.cut.cut.Met as cut-met
 use Rattle.verdict.proofs.verdict.judge.Statement as judge
 use Rattle.verdict.proofs.verdict.judge.Met as judge-met
 use Rattle.verdict.proofs.verdict.signed_part.Statement as part
@@ -19,6 +23,10 @@ use Rattle.capi.proofs.phagundro_read.Statement as c-read
 use Rattle.capi.proofs.phagundro_read.Met as c-read-met
 use Rattle.capi.proofs.phagundro_write.Statement as c-write
 use Rattle.capi.proofs.phagundro_write.Met as c-write-met
+use Rattle.capi.proofs.phagundro_join.Statement as c-join
+use Rattle.capi.proofs.phagundro_join.Met as c-join-met
+use Rattle.capi.proofs.phagundro_cut.Statement as c-cut
+use Rattle.capi.proofs.phagundro_cut.Met as c-cut-met
 use Rattle.capi.proofs.phagundro_verdict.Statement as c-verdict
 use Rattle.capi.proofs.phagundro_verdict.Met as c-verdict-met
 use Rattle.capi.proofs.phagundro_verdict_number.Statement as c-number
@@ -37,6 +45,14 @@ reading = read-met.met
 -- Writing a draft: `writer/src/writer.rt`, by `Writes`.
 pub writing : {M : Type 1} → write.statement M
 writing = write-met.met
+
+-- Joining two batches: `writer/src/join.rt`, by `Joins`.
+pub joining : {M : Type 1} → join.statement M
+joining = join-met.met
+
+-- Cutting a message out of a batch: `writer/src/cut.rt`, by `Cuts`.
+pub cutting : {M : Type 1} → cut.statement M
+cutting = cut-met.met
 
 -- Judging a message's proof: `verdict/src/verdict.rt`, by `Judges`.
 pub judging : {M : Type 1} → judge.statement M
@@ -59,6 +75,12 @@ c-reading = c-read-met.met
 
 pub c-writing : {M : Type 1} → c-write.statement M
 c-writing = c-write-met.met
+
+pub c-joining : {M : Type 1} → c-join.statement M
+c-joining = c-join-met.met
+
+pub c-cutting : {M : Type 1} → c-cut.statement M
+c-cutting = c-cut-met.met
 
 pub c-judging : {M : Type 1} → c-verdict.statement M
 c-judging = c-verdict-met.met

@@ -84,7 +84,7 @@
 --                         long certReqId if none of theirs is (`joined-short`)
 --     cut-tree            a message of a batch makes a batch (`cutTree`); its one message, moved forward (`cutMove`), is the message
 --                         (`cut-message`), and none of its rows is a long certReqId if none of the batch's is (`cut-short`)
---     at-position         what is found at a position of a list is one of its entries
+--     at-position         what is found at a position of a list is one of its entries, and the position is within it (`position-within`)
 --     proof-child-stands  a field inside a message's proof stands at its place too
 --     stands-part         a field that stands at its place lies within the bytes, and its octets are that part of them
 --     fields-at           between two places of some bytes, the fields are the one that is read first (`fieldAt`) and those after it; from an end on
@@ -106,8 +106,8 @@
 --     rows-long           the certReqId of more than 8 content octets that the counting walk has met is the first row that is one
 --     walk-long           and so it is with the rows of any derivation
 --     long-none           if nothing was known, nothing is known exactly when no row is one
---     long-exactly        what is noted after a batch's rows is their first long certReqId in byte order (`FirstLongId`); `short-none`: there is none if
---                         no row is one
+--     long-exactly        what is noted after a batch's rows is their first long certReqId in byte order (`FirstLongId`); there is none
+--                         exactly if no row is one (`short-none`, `none-short`)
 --     count-whole         if an input is not too long, counting is the walk over its tree that reads every form (`rows-whole` of rows)
 --     whole-count         the rows that the lines find in it are as many as were counted
 --     whole-long          and their first long certReqId is the one that was met
@@ -165,7 +165,7 @@ pub use Rattle.crmf.proofs.theorems.messages.FieldLaws.{child-first, li
 pub use Rattle.crmf.proofs.theorems.messages.FieldSteps.{fieldAt, Begins, fields-end, fields-at, fields-begin, inside-fields, first-with-none, first-with-here, first-with-next, child-identified, batch-at, messages-inside, message-field, proof-cases, proof-child-stands, stands-part}
 pub use Rattle.crmf.proofs.theorems.messages.FieldsMatch.{Holding}
 pub use Rattle.crmf.proofs.theorems.messages.MessageLaws.{ProofMatches, raVerified, signature, keyEncipherment, keyAgreement, MessageMatches, MessageParts, BatchContent, MessageStands}
-pub use Rattle.crmf.proofs.theorems.messages.MessageLaws.{batch-content, message-parts, messages-match, messages-formed, messages-stand, messages-moved, batch-of-matches, batch-of-formed, at-position}
+pub use Rattle.crmf.proofs.theorems.messages.MessageLaws.{batch-content, message-parts, messages-match, messages-formed, messages-stand, messages-moved, batch-of-matches, batch-of-formed, at-position, position-within}
 pub use Rattle.crmf.proofs.theorems.messages.MessageLaws.{ownFields}
 pub use Rattle.crmf.proofs.theorems.messages.MessageRows.{messageRows, rowsOfMessages, message-rows, batch-rows-of-messages, rows-below, messages-rows-append, messages-rows-moved, messages-rows-renumbered}
 pub use Rattle.crmf.proofs.theorems.messages.BatchesOfMessages.{BatchTree, BatchWith, batch-octets-parts, messages-octets, flatten-append, content-octets, batch-octets, batch-length, batch-octets-left, batch-octets-right, batchFrom, batch-from}
@@ -179,7 +179,7 @@ pub use Rattle.crmf.proofs.theorems.messages.MessageSteps.{fieldRead, s
 pub use Rattle.crmf.proofs.theorems.messages.Positions.{read-forward, content-places, after-places, next-in-order, next-fields, StandsThere, position-missing, position-there, message-read}
 pub use Rattle.crmf.proofs.theorems.messages.MessageSizes.{ids-some, ids-eight, messages-few}
 pub use Rattle.crmf.proofs.theorems.explain.LongIds.{rows-long, walk-long, long-none}
-pub use Rattle.crmf.proofs.theorems.explain.FirstLongIds.{long-exactly, short-none}
+pub use Rattle.crmf.proofs.theorems.explain.FirstLongIds.{long-exactly, short-none, none-short}
 pub use Rattle.crmf.proofs.theorems.explain.WholeInput.{count-whole, rows-whole, whole-count, whole-long}
 pub use Rattle.crmf.proofs.theorems.explain.CountedBatches.{Tallied, count-passes, count-stops, count-tallies, count-own, count-foreign, count-long}
 pub use Rattle.crmf.proofs.theorems.recognise.AgreedRows.{agreed-both, agreed-all}

@@ -2,6 +2,7 @@
 --     answers-exactly     the computed answer without a table is exactly the one that `Answers` relates (`answer-related`, `related-answer`, and of an
 --                         answer that equals it `equal-related`); there is only one (`answers-once`)
 --     reads-exactly       the same with a table, by `Reads`: `reading-related`, `related-reading`, `equal-reading`, `reads-once`
+--     acceptance-shows    an answer with the number 0 comes from bytes in the grammar with no long certReqId (`Shows`)
 --     accepted-related    an acceptance comes from bytes in the grammar, with the count of their rows
 --     reason-related      the reason that the walks compute (`reasonOf`) is one that `Reason` relates
 --     table-stays         demand 1: a refusal leaves the table as it was, and its count is 0
@@ -20,13 +21,13 @@
 --     nest-read           the tree that is read from bytes in a grammar is the one that they encode
 --     nest-rows           the rows that reading finds in such bytes are that tree's
 --     answer-counts       the count of an acceptance is the number of rows
---     answer-number       the number of an answer without a table is at most 13
+--     answer-number       the number of an answer without a table is at most 13; of a related one `related-number`
 --     shown               an accepted reading has the answer without a table, and room for its rows (`Shown`)
 --     with-room           given room, reading answers what is answered without a table
 --     shown-table         after an accepted reading the table is the old one with the rows written over its first numbers
 --     paper               document 01's batches marked [P] are read as it says (`ReadsEntry`)
 --     refusals-explained  worked refusals are answered by number, place and detail; `refusals-told` others by number and place
-pub use Rattle.editions.proofs.theorems.AnswersExactly.{answer-related, related-answer, equal-related, answers-exactly, answers-once, accepted-related, reasonOf, reason-related}
+pub use Rattle.editions.proofs.theorems.AnswersExactly.{answer-related, related-answer, equal-related, answers-exactly, answers-once, Shows, acceptance-shows, related-number, accepted-related, reasonOf, reason-related}
 pub use Rattle.editions.proofs.theorems.ReadsExactly.{reading-related, related-reading, equal-reading, reads-exactly, reads-once}
 pub use Rattle.editions.proofs.theorems.Demands.{table-stays, accepted-exactly, read-exactly, rows-shown, contents-right, same-rows, differing, nine-exactly, nine-least}
 pub use Rattle.editions.proofs.theorems.Accepting.{accepted-in, in-accepted, computed-read, computed-rows, one-nest, nest-read, nest-rows}

@@ -2,5 +2,6 @@
 -- cut out of one, and what writing, joining and cutting answer and leave.
 pub mod Cuts
 pub mod Draft
+pub mod Groupings
 pub mod Joins
 pub mod Writes

@@ -10,12 +10,12 @@ ghost use Rattle.der.specs.meaning.Bounds.{longest};
 ghost use Rattle.der.specs.steps.Reading.{readAt};
 ghost use Rattle.writer.specs.meaning.Joins.{Joins};
 
-// Whose refusal the answer of a call with two batches is.
-pub const NEITHER_BATCH: usize = 0;
+// Whose refusal the answer of a call with two batches is: neither's, the first's or the second's.
+pub const FILE_NEITHER: usize = 0;
 
-pub const FIRST_BATCH: usize = 1;
+pub const FILE_FIRST: usize = 1;
 
-pub const SECOND_BATCH: usize = 2;
+pub const FILE_SECOND: usize = 2;
 
 // What a call with two batches answers: document 01's number (`der::refusal`), the place, whose refusal it is, and the count. C gets it in this
 // layout.
@@ -35,17 +35,17 @@ pub fn join(edition: usize, first: &[u8], second: &[u8], output: &mut [u8]) -> P
 {
     let one = accept(edition, first);
     if one.number != ACCEPTED {
-        return refuse(one.number, one.place, FIRST_BATCH);
+        return refuse(one.number, one.place, FILE_FIRST);
     }
     let two = accept(edition, second);
     if two.number != ACCEPTED {
-        return refuse(two.number, two.place, SECOND_BATCH);
+        return refuse(two.number, two.place, FILE_SECOND);
     }
     let written = put_around(content(first), content(second), output);
     PairAnswer {
         number: written.number,
         place: written.place,
-        file: NEITHER_BATCH,
+        file: FILE_NEITHER,
         count: written.count,
     }
 }

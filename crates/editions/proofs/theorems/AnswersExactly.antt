@@ -18,7 +18,7 @@ use Rattle.der.specs.meaning.Refusal.{accepted as acceptance, trailingBytes, no
 use Rattle.der.specs.meaning.Tree.{WellFormed, Single, encode}
 use Rattle.der.specs.steps.Explain.{walkAt}
 use Rattle.der.specs.steps.Reading.{tree}
-use Rattle.der.proofs.Laws.{exact, Checked, walk-tree, walk-fault}
+use Rattle.der.proofs.Laws.{exact, Checked, walk-tree, walk-fault, first-number}
 use Rattle.crmf.specs.declared.explain.tally.Tally.{Tally}
 use Rattle.crmf.specs.declared.explain.Walked.{Walked}
 use Rattle.crmf.specs.declared.explain.Walked.the-variants.{Passed, Broken}
@@ -216,6 +216,35 @@ module _ (e : ℕ) (s : List ℕ) (octets : Octets s) where
   -- so an answer that equals it is related
   pub equal-related : (a : Answer) → a ≡ answer e s → Answers e s (a .number) (a .place) (a .count)
   equal-related a same = subst (Related e s) (sym same) answer-related
+
+-- What an acceptance says: the edition is known, and the bytes are in its grammar, with so many rows and no long certReqId.
+pub record Shows (e : ℕ) (s : List ℕ) (count : ℕ) : Type 0 where
+  pub edition : Edition e
+  pub within : InGrammar e s
+  pub short : ShortIds within
+  pub counted : length (batchRows (within .batch)) ≡ count
+
+-- An answer with the number 0 is one.
+pub acceptance-shows : {e : ℕ} {s : List ℕ} {number place count : ℕ} → Answers e s number place count → number ≡ acceptance → Shows e s count
+acceptance-shows (unknown none) zero = absurd (omega (arith, zero))
+acceptance-shows (long known-edition past) zero = absurd (omega (arith, zero))
+acceptance-shows {s = s} (fault {number} {place} {detail} known-edition short first) zero = absurd (omega (arith, first-number s number place detail first .0, zero))
+acceptance-shows (trailing known-edition short t after formed single same some) zero = absurd (omega (arith, zero))
+acceptance-shows (neither known-edition outside outside-too stops) zero = absurd (omega (arith, zero))
+acceptance-shows (other known-edition outside first) zero = absurd (omega (arith, zero))
+acceptance-shows (longId known-edition g first) zero = absurd (omega (arith, zero))
+acceptance-shows (accept known-edition g short) zero = record { edition = known-edition; within = g; short = short; counted = refl }
+
+-- The numbers that come back without a table are at most 13.
+pub related-number : {e : ℕ} {s : List ℕ} {number place count : ℕ} → Answers e s number place count → number ≤ unknownEdition
+related-number (unknown none) = omega arith
+related-number (long known-edition past) = omega arith
+related-number {s = s} (fault {number} {place} {detail} known-edition short first) = omega (arith, first-number s number place detail first)
+related-number (trailing known-edition short t after formed single same some) = omega arith
+related-number (neither known-edition outside outside-too stops) = omega arith
+related-number (other known-edition outside first) = omega arith
+related-number (longId known-edition g first) = omega arith
+related-number (accept known-edition g short) = omega arith
 
 -- An acceptance comes from bytes in the grammar, with the count of their rows.
 pub accepted-related : (e : ℕ) (s : List ℕ) → Octets s → answer e s .number ≡ acceptance

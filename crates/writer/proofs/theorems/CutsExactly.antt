@@ -1,53 +1,52 @@
 -- What the code writes around a message's octets is the cut, which is never longer than the batch, and what it answers of it is what the
 -- relation of cutting says. Assumes nothing.
-use Prim.Native.Nat.{ℕ, zero, suc, _≤_, _<_}
+use Prim.Native.Nat.{ℕ, _≤_, _<_}
 use native.Mathlib.Nat.{le-trans}
 use mathlib.Core.Path.{_≡_, refl, sym, ap, subst, _∙_}
 use mathlib.Core.Bool.{Bool, true, false}
-use mathlib.Core.List.{List, [], _∷_, _++_, map, map-append, flatten, append-nil}
-use mathlib.Core.Option.{some, Option·none-ne-some, Option·some-injective}
+use mathlib.Core.List.{List, [], _∷_, _++_, map, map-append, flatten, List·Memᴰ, List·Memᴰ·head, List·Memᴰ·tail, List·Memᴰ·not-nil}
+use mathlib.Core.Option.{some}
 use lib.Dec.{leb}
 use lib.ListN.{length, getElem?}
 use borrow.Author.Tests.{leb-true, leb-false}
 use Rattle.der.specs.meaning.Bounds.{longest}
 use Rattle.der.specs.meaning.Refusal.{accepted}
-use Rattle.der.specs.meaning.Tree.{header}
 use Rattle.crmf.specs.meaning.Fields.{octets}
 use Rattle.crmf.specs.meaning.Lists.{over}
 use Rattle.crmf.specs.meaning.Messages.{Message, messages, messageOctets, batchOctets}
-use Rattle.crmf.proofs.Laws.{batch-octets, batch-octets-parts, batch-octets-left, batch-octets-right, messages-octets}
+use Rattle.crmf.proofs.Laws.{batch-octets-parts, batch-octets-left, batch-octets-right, messages-octets, at-position}
 use Rattle.editions.specs.declared.reader.Answer.{Answer}
 use Rattle.editions.specs.meaning.Membership.{InGrammar}
 use Rattle.writer.specs.meaning.Joins.{Accepted}
 use Rattle.writer.specs.meaning.Cuts.{Cuts, cut, no-room, written}
 use Rattle.writer.specs.steps.Around.{around, aroundAnswer, aroundOutput}
-use Rattle.writer.proofs.theorems.AcceptedBatches.{grammar-tree}
+use Rattle.writer.proofs.theorems.AcceptedBatches.{grammar-octets}
 use Rattle.writer.proofs.theorems.AroundContents.{around-roomless, around-written}
 
--- The entries before one at a position, and those after it.
+-- The entries of a list before one of them, and those after it.
 record Between {A : Type 0} (l : List A) (a : A) : Type 0 where
   front : List A
   back : List A
   whole : l ≡ front ++ (a ∷ back)
 
-entry-between : {A : Type 0} (l : List A) (n : ℕ) (a : A) → getElem? l n ≡ some a → Between l a
-entry-between [] n a found = absurd (Option·none-ne-some a found)
-entry-between (x ∷ l) zero a found = record { front = []; back = l; whole = ap (λ y. y ∷ l) (Option·some-injective x a found) }
-entry-between (x ∷ l) (suc n) a found =
-    let b = entry-between l n a found in
+between : {A : Type 0} (l : List A) (a : A) → List·Memᴰ a l → Between l a
+between [] a n = absurd (List·Memᴰ·not-nil n)
+between (x ∷ l) a (List·Memᴰ·head e) = record { front = []; back = l; whole = ap (λ y. y ∷ l) (sym e) }
+between (x ∷ l) a (List·Memᴰ·tail n) =
+    let b = between l a n in
     record { front = x ∷ b .front; back = b .back; whole = ap (λ k. x ∷ k) (b .whole) }
 
 -- A cut is no longer than the batch.
-pub cut-fits : {e : ℕ} {s : List ℕ} (g : InGrammar e s) (n : ℕ) (m : Message) → getElem? (messages (g .nest)) n ≡ some m → length (cut m) ≤ length s
+pub cut-fits : {e : ℕ} {s : List ℕ} (g : InGrammar e s) (m : Message) → List·Memᴰ m (messages (g .nest)) → length (cut m) ≤ length s
 unfolding cut
-cut-fits {s = s} g n m there =
-    let b = entry-between (messages (g .nest)) n m there in
+cut-fits {s = s} g m there =
+    let b = between (messages (g .nest)) m there in
     let of : Message → List ℕ = λ x. octets (x .own) in
     let before = map of (b .front) in
     let after = map of (b .back) in
     let all : messageOctets (g .nest) ≡ before ++ (octets (m .own) ∷ after) =
     messages-octets (g .nest) ∙ ap (map of) (b .whole) ∙ map-append of (b .front) (m ∷ b .back) in
-    let whole : batchOctets (before ++ (octets (m .own) ∷ after)) ≡ s = sym (ap batchOctets all) ∙ sym (batch-octets (grammar-tree g)) ∙ g .encoded in
+    let whole : batchOctets (before ++ (octets (m .own) ∷ after)) ≡ s = sym (ap batchOctets all) ∙ grammar-octets g in
     le-trans (batch-octets-left (octets (m .own) ∷ []) after)
     (subst (λ (l : List ℕ). length (batchOctets (octets (m .own) ∷ after)) ≤ length l) whole (batch-octets-right before (octets (m .own) ∷ after)))
 
@@ -66,7 +65,7 @@ module _ {e : ℕ} {s : List ℕ} (a : Accepted e s) (n : ℕ) (m : Message) (th
       all = around (octets (m .own)) []
 
       fits : length all ≤ longest
-      fits = subst (λ (l : List ℕ). length l ≤ longest) (sym around-cut) (le-trans (cut-fits (a .batch) n m there) (a .batch .short))
+      fits = subst (λ (l : List ℕ). length l ≤ longest) (sym around-cut) (le-trans (cut-fits (a .batch) m (at-position (messages (a .batch .nest)) n m there)) (a .batch .short))
 
       Says : Answer → List ℕ → Type 0
       Says x k = Cuts e s n old (x .number) (x .place) (x .count) k

@@ -15,7 +15,7 @@ use Rattle.crmf.specs.meaning.Lists.{over}
 use Rattle.crmf.specs.meaning.Messages.{messageOctets}
 use Rattle.crmf.proofs.Laws.{flatten-append, batch-octets-parts}
 use Rattle.editions.specs.declared.reader.Answer.{Answer}
-use Rattle.writer.specs.meaning.Joins.{Accepted, Joins, join, joined, neitherBatch, first-refused, second-refused, too-long, no-room, written}
+use Rattle.writer.specs.meaning.Joins.{Accepted, Joins, join, joined, neitherFile, too-long, no-room, written}
 use Rattle.writer.specs.steps.Around.{around, aroundAnswer, aroundOutput}
 use Rattle.writer.proofs.theorems.AcceptedBatches.{content-messages}
 use Rattle.writer.proofs.theorems.AroundContents.{around-long, around-roomless, around-written}
@@ -37,14 +37,14 @@ module _ {e : ℕ} {first second : List ℕ} (one : Accepted e first) (two : Acc
   -- what is answered of it is what the relation says
   pub join-says : (old new : List ℕ) (a : Answer) → a ≡ aroundAnswer (contentOf first) (contentOf second) old
       → new ≡ aroundOutput (contentOf first) (contentOf second) old
-      → Joins e first second old (a .number) (a .place) neitherBatch (a .count) new
+      → Joins e first second old (a .number) (a .place) neitherFile (a .count) new
   join-says old new a answers leaves = by-length (leb (length all) longest) (leb (length all) (length old)) refl refl
     where
       all : List ℕ
       all = around (contentOf first) (contentOf second)
 
       Says : Answer → List ℕ → Type 0
-      Says b n = Joins e first second old (b .number) (b .place) neitherBatch (b .count) n
+      Says b n = Joins e first second old (b .number) (b .place) neitherFile (b .count) n
 
       told : {b : Answer} {n : List ℕ} → (b ≡ aroundAnswer (contentOf first) (contentOf second) old) × (n ≡ aroundOutput (contentOf first) (contentOf second) old)
           → Says b n → Says a new
@@ -63,5 +63,5 @@ module _ {e : ℕ} {first second : List ℕ} (one : Accepted e first) (two : Acc
           let fits = leb-true (length all) longest within in
           let room = leb-true (length all) (length old) here in
           told (around-written (contentOf first) (contentOf second) old fits room)
-          (subst (λ (l : List ℕ). Joins e first second old accepted 0 neitherBatch (length l) (over old 0 l)) (sym around-join)
+          (subst (λ (l : List ℕ). Joins e first second old accepted 0 neitherFile (length l) (over old 0 l)) (sym around-join)
           (written one two (subst (λ (l : List ℕ). length l ≤ longest) around-join fits) (subst (λ (l : List ℕ). length l ≤ length old) around-join room)))

@@ -1,6 +1,6 @@
 -- What joining two batches answers and leaves in the output, as a relation on the batches' messages: document 02's request A13, SPECIFICATION
 -- 10. It names nothing that computes them. Assumes nothing.
-use Prim.Native.Nat.{ℕ, _≤_, _<_}
+use Prim.Native.Nat.{ℕ, _+_, _-_, _≤_, _<_}
 use mathlib.Core.Path.{_≡_}
 use mathlib.Core.List.{List, _++_}
 use lib.ListN.{length}
@@ -8,7 +8,7 @@ use Rattle.der.specs.meaning.Bounds.{longest}
 use Rattle.der.specs.meaning.Refusal.{accepted, tooLong, noRoom}
 use Rattle.der.specs.meaning.Tree.{Tree}
 use Rattle.crmf.specs.meaning.Lists.{over}
-use Rattle.crmf.specs.meaning.Messages.{messageOctets, batchOctets}
+use Rattle.crmf.specs.meaning.Messages.{batch, batchHeader, messageOctets, batchOctets}
 use Rattle.editions.specs.meaning.Membership.{InGrammar}
 use Rattle.editions.specs.meaning.Answers.{Answers}
 
@@ -16,15 +16,23 @@ use Rattle.editions.specs.meaning.Answers.{Answers}
 unfoldable pub join : Tree → Tree → List ℕ
 join first second = batchOctets (messageOctets first ++ messageOctets second)
 
--- whose refusal an answer is: the first batch's, the second's, or neither's
-abbrev pub firstBatch : ℕ
-firstBatch = 1
+-- how far the first's places move in a join: by "the growth of the batch's header"
+abbrev pub firstMoves : (first join : Tree) → ℕ
+firstMoves first join = batchHeader join - batchHeader first
 
-abbrev pub secondBatch : ℕ
-secondBatch = 2
+-- and how far the second's do: by "the join's header and the first's content less its own header"
+abbrev pub secondMoves : (first second join : Tree) → ℕ
+secondMoves first second join = batchHeader join + length (batch first .content) - batchHeader second
 
-abbrev pub neitherBatch : ℕ
-neitherBatch = 0
+-- `file`: "whose refusal" an answer is, the first batch's, the second's, or neither's
+abbrev pub firstFile : ℕ
+firstFile = 1
+
+abbrev pub secondFile : ℕ
+secondFile = 2
+
+abbrev pub neitherFile : ℕ
+neitherFile = 0
 
 -- A batch that the edition accepts, with so many rows.
 pub record Accepted (e : ℕ) (s : List ℕ) : Type 0 where
@@ -41,16 +49,16 @@ joined one two = join (one .batch .nest) (two .batch .nest)
 pub data Joins (e : ℕ) (first second old : List ℕ) : (number place file count : ℕ) (new : List ℕ) → Type 0 where
   -- "the first's"
   first-refused : {number place count : ℕ} → Answers e first number place count → (number ≡ accepted → ⊥)
-      → Joins e first second old number place firstBatch 0 old
+      → Joins e first second old number place firstFile 0 old
   -- "the second's"
   second-refused : {number place count : ℕ} → Accepted e first → Answers e second number place count → (number ≡ accepted → ⊥)
-      → Joins e first second old number place secondBatch 0 old
+      → Joins e first second old number place secondFile 0 old
   -- "1 for a longer result"
   too-long : (one : Accepted e first) (two : Accepted e second) → longest < length (joined one two)
-      → Joins e first second old tooLong 0 neitherBatch 0 old
+      → Joins e first second old tooLong 0 neitherFile 0 old
   -- "11"
   no-room : (one : Accepted e first) (two : Accepted e second) → length (joined one two) ≤ longest → length old < length (joined one two)
-      → Joins e first second old noRoom 0 neitherBatch 0 old
+      → Joins e first second old noRoom 0 neitherFile 0 old
   -- the join, with its length; the output past it stays
   written : (one : Accepted e first) (two : Accepted e second) → length (joined one two) ≤ longest → length (joined one two) ≤ length old
-      → Joins e first second old accepted 0 neitherBatch (length (joined one two)) (over old 0 (joined one two))
+      → Joins e first second old accepted 0 neitherFile (length (joined one two)) (over old 0 (joined one two))

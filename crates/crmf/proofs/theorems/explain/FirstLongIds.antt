@@ -3,7 +3,7 @@ use Prim.Native.Nat.{ℕ, zero, suc, _≤_, _<_}
 use native.Mathlib.Omega.{arith}
 use mathlib.Core.Logic.{_↔_, _⊎_, inl, inr}
 use mathlib.Core.Path.{_≡_, refl, sym, ap, subst, _∙_}
-use mathlib.Core.Bool.{Bool, true, false, not, and-eq-true-iff}
+use mathlib.Core.Bool.{Bool, true, false, not, _&&_, and-eq-true-iff}
 use mathlib.Core.List.{List, [], _∷_, List·Memᴰ, List·Memᴰ·head, List·Memᴰ·tail, List·Memᴰ·not-nil, List·Memᴰ·cases-cons}
 use lib.Dec.{eqb, ltb}
 use lib.ListN.{length, getD}
@@ -72,7 +72,16 @@ first-passed : (r : Row) (rs : List Row) → longId (r .kind) (r .whole) ≡ fal
 unfolding firstLong
 first-passed r rs short = ap (λ (h : ℕ × ℕ). firstLong h rs) (rw (longer, short))
 
--- a long certReqId among some rows is the first of them or a later one
+-- the first row is one if its test says so, and a later one is one of all
+long-here : (r : Row) (rs : List Row) → longId (r .kind) (r .whole) ≡ true → LongIdAt (r ∷ rs) (r .first)
+long-here r rs test =
+    let (kind, size) = test-long r test in
+    record { row = r; among = List·Memᴰ·head refl; certReqId = kind; long = size; stands = refl }
+
+long-later : (r : Row) (rs : List Row) {p : ℕ} → LongIdAt rs p → LongIdAt (r ∷ rs) p
+long-later r rs long = record { row = long .row; among = List·Memᴰ·tail (long .among); certReqId = long .certReqId; long = long .long; stands = long .stands }
+
+-- conversely, it is the first of them or a later one
 long-cases : {A : Type 0} {p : ℕ} (r : Row) (rs : List Row) → LongIdAt (r ∷ rs) p → ((r .first ≡ p) → longId (r .kind) (r .whole) ≡ true → A) → (LongIdAt rs p → A) → A
 long-cases {A} {p} r rs long here there = go (List·Memᴰ·cases-cons (long .among))
   where
@@ -88,21 +97,17 @@ unfolding firstLong
 noted-first [] rise known = never-both true refl known
 noted-first (r ∷ rs) rise known = go (longId (r .kind) (r .whole)) refl (noted-first rs (rise .1))
   where
-    lifted : {p : ℕ} → LongIdAt rs p → LongIdAt (r ∷ rs) p
-    lifted long = record { row = long .row; among = List·Memᴰ·tail (long .among); certReqId = long .certReqId; long = long .long; stands = long .stands }
-
     go : (b : Bool) → longId (r .kind) (r .whole) ≡ b → (eqb (firstLong (0, 0) rs .0) 0 ≡ false → FirstLongId rs (firstLong (0, 0) rs .1))
         → FirstLongId (r ∷ rs) (firstLong (0, 0) (r ∷ rs) .1)
     go true long further =
-        let (kind, size) = test-long r long in
         rw (first-noted r rs long) (record {
-          here = record { row = r; among = List·Memᴰ·head refl; certReqId = kind; long = size; stands = refl };
+          here = long-here r rs long;
           least = λ q other. long-cases r rs other (λ same test. omega arith) (λ later. omega (arith, rise .0 (later .row) (later .among), later .stands));
         })
     go false short further =
         let found = further (ap (λ (h : ℕ × ℕ). eqb (h .0) 0) (sym (first-passed r rs short)) ∙ known) in
         rw (first-passed r rs short) (record {
-          here = lifted (found .here);
+          here = long-later r rs (found .here);
           least = λ q other. long-cases r rs other (λ same test. never-both (longId (r .kind) (r .whole)) test short) (λ later. found .least q later);
         })
 
@@ -110,13 +115,22 @@ noted-first (r ∷ rs) rise known = go (longId (r .kind) (r .whole)) refl (noted
 first-alone : (rs : List Row) (p q : ℕ) → FirstLongId rs p → FirstLongId rs q → p ≡ q
 first-alone rs p q a b = omega (arith, a .least q (b .here), b .least p (a .here))
 
--- if no row is a long certReqId, there is no first, and conversely
+-- if no row is a long certReqId, there is none, and conversely
 pub short-none : (rs : List Row) → allShort rs ≡ true → (p : ℕ) → LongIdAt rs p → ⊥
 unfolding allShort
 short-none [] short p long = List·Memᴰ·not-nil (long .among)
 short-none (r ∷ rs) short p long =
     let (own, further) = and-eq-true-iff (not (longId (r .kind) (r .whole))) (allShort rs) .0 short in
     long-cases r rs long (λ same test. never-both (longId (r .kind) (r .whole)) test (not-true _ own)) (short-none rs further p)
+
+pub none-short : (rs : List Row) → ((p : ℕ) → LongIdAt rs p → ⊥) → allShort rs ≡ true
+unfolding allShort
+none-short [] none = refl
+none-short (r ∷ rs) none = go (longId (r .kind) (r .whole)) refl (none-short rs (λ p later. none p (long-later r rs later)))
+  where
+    go : (b : Bool) → longId (r .kind) (r .whole) ≡ b → allShort rs ≡ true → (not (longId (r .kind) (r .whole)) && allShort rs) ≡ true
+    go true test rest = absurd (none (r .first) (long-here r rs test))
+    go false test rest = rw (test, rest)
 
 -- Rows that are found by a derivation of well-formed elements rise.
 module _ {R : ℕ → Bool} {t : Tree} (m : Matches R (content Top) t) (left : ℕ) (wf : WellFormed left 0 t) where

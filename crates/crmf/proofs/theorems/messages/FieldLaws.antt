@@ -277,33 +277,11 @@ first-with-moved d ids (f ∷ fs) = by-test (among ids (f .identifier)) (first-w
     by-test true e = refl
     by-test false e = e
 
--- a field inside a field further on, by its identifier
-pub child-moved : (d id : ℕ) (f : Field) → child id (movedField d f) ≡ Option·map (movedField d) (child id f)
-unfolding child
-child-moved d id f = rw (inside-moved d f) (first-with-moved d (id ∷ []) (fields (f .inside)))
-
 -- fields further on, after the first ones
 pub drop-moved : (d n : ℕ) (fs : List Field) → drop n (map (movedField d) fs) ≡ map (movedField d) (drop n fs)
 drop-moved d zero fs = refl
 drop-moved d (suc n) [] = refl
 drop-moved d (suc n) (f ∷ fs) = drop-moved d n fs
-
--- a field further on has the same octets
-pub octets-moved : (d : ℕ) (f : Field) → octets (movedField d f) ≡ octets f
-unfolding octets movedField
-octets-moved d f = refl
-
--- fields that stand one after the other do so further on
-pub runs-moved : (d from to : ℕ) (fs : List Field) → Runs from to fs → Runs (d + from) (d + to) (map (movedField d) fs)
-unfolding movedField octets
-runs-moved d from to [] run = ap (λ (n : ℕ). d + n) run
-runs-moved d from to (f ∷ fs) run =
-    (ap (λ (n : ℕ). d + n) (run .0), run .1, rw (add-assoc d from (f .whole)) (runs-moved d (from + f .whole) to fs (run .2)))
-
--- fields that stand one after the other, after others that do
-pub runs-append : (from mid to : ℕ) (fs gs : List Field) → Runs from mid fs → Runs mid to gs → Runs from to (fs ++ gs)
-runs-append from mid to [] gs run more = rw run more
-runs-append from mid to (f ∷ fs) gs run more = (run .0, run .1, runs-append (from + f .whole) mid to fs gs (run .2) more)
 
 -- the octets of fields after others
 pub octets-append : (fs gs : List Field) → flatMap octets (fs ++ gs) ≡ flatMap octets fs ++ flatMap octets gs

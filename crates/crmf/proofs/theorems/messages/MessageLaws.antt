@@ -1,6 +1,6 @@
 -- The messages of a batch: the fields of a message, by the grammar, are those that its definition finds by position and identifier, so a
 -- batch consists of its messages, a message of its fields, and each stands at its place in the batch's octets. Assumes nothing.
-use Prim.Native.Nat.{ℕ, zero, suc, _+_, _≤_}
+use Prim.Native.Nat.{ℕ, zero, suc, _+_, _≤_, _<_}
 use native.Mathlib.Nat.{zero-add}
 use native.Mathlib.Omega.{arith}
 use mathlib.Core.Path.{_≡_, refl, sym, ap, _∙_, subst}
@@ -257,18 +257,6 @@ pub messages-fields : (id first whole : ℕ) (c : List ℕ) (inside rest : Tree)
 unfolding messages batch fields
 messages-fields id first whole c inside rest = refl
 
--- An element with nothing inside has no message.
-pub messages-none : (id first whole : ℕ) (c : List ℕ) (rest : Tree) → messages (element id first whole c none rest) ≡ []
-unfolding messages batch fields
-messages-none id first whole c rest = refl
-
--- An element's first message, and the messages after it.
-pub messages-step : (id first whole : ℕ) (c : List ℕ) (f : Field) (more rest : Tree)
-    → messages (element id first whole c (element (f .identifier) (f .place) (f .whole) (f .content) (f .inside) more) rest)
-    ≡ messageOf f ∷ messages (element id first whole c more rest)
-unfolding messages batch fields
-messages-step id first whole c f more rest = refl
-
 -- A batch around some fields has the messages of those fields.
 pub messages-chain : (id first whole : ℕ) (c : List ℕ) (fs : List Field) (rest : Tree)
     → messages (element id first whole c (chain fs) rest) ≡ map messageOf fs
@@ -421,6 +409,12 @@ at-position [] i a e = absurd (Option·none-ne-some a e)
 at-position (x ∷ l) zero a e = List·Memᴰ·head (sym (Option·some-injective x a e))
 at-position (x ∷ l) (suc i) a e = List·Memᴰ·tail (at-position l i a e)
 
+-- its position is within the list
+pub position-within : {A : Type 0} (l : List A) (i : ℕ) {a : A} → getElem? l i ≡ some a → i < length l
+position-within [] i {a} e = absurd (Option·none-ne-some a e)
+position-within (x ∷ l) zero e = omega arith
+position-within (x ∷ l) (suc i) e = omega (arith, position-within l i e)
+
 -- A batch around one field or more, each of which matches as a message, matches as a batch.
 pub batch-of-matches : (R : ℕ → Bool) (fs : List Field) → 1 ≤ length fs
     → ((f : Field) → List·Memᴰ f fs → Holding R 0x30 Notation.Message f) → Matches R (content Top) (batchOf fs)
@@ -463,25 +457,6 @@ batch-of-messages fs =
 pub batch-of-octets : (fs : List Field) → encode (batchOf fs) ≡ header 0x30 (flatMap octets fs) ++ flatMap octets fs
 unfolding batchOf
 batch-of-octets fs = let c = flatMap octets fs in alone-octets 0x30 0 (length (header 0x30 c ++ c)) c (chain fs)
-
--- an element that is a batch is the batch around its messages
-again : (t : Tree) → BatchContent t → Single t → batchOf (ownFields t) ≡ t
-unfolding batchOf batch fields octets
-again none b one = absurd (single-none one)
-again (element id first whole c inside rest) b one =
-    let t = element id first whole c inside rest in
-    let fs = ownFields t in
-    let e : id ≡ 0x30 = b .thirty in
-    let f : first ≡ 0 = b .first in
-    let w : whole ≡ length (header id c ++ c) = b .size ∙ ap length (b .all) in
-    let g : c ≡ flatMap octets fs = b .whole .written in
-    let h : chain fs ≡ inside = ap chain (messages-own t) ∙ chain-fields inside in
-    cc (single-element id first whole c inside rest .0 one)
-
--- A batch is the batch around its messages.
-pub batch-again : {R : ℕ → Bool} (t : Tree) → Matches R (content Top) t → WellFormed depth 0 t → Single t
-    → batchOf (ownFields t) ≡ t
-batch-again t top w one = again t (batch-content t top w one) one
 
 -- a message further on
 pub message-moved : (d : ℕ) (f : Field) → messageOf (movedField d f) ≡ movedMessage d (messageOf f)

@@ -17,7 +17,7 @@ use Rattle.crmf.specs.meaning.Language.{Matches}
 use Rattle.crmf.specs.meaning.Fields.{Field}
 use Rattle.crmf.specs.steps.Fields.{fieldsBetween}
 use Rattle.crmf.specs.meaning.Messages.{Message, messages}
-use Rattle.crmf.proofs.Laws.{MessageParts, BatchContent, StandsThere, batch-content, message-parts, at-position}
+use Rattle.crmf.proofs.Laws.{MessageParts, BatchContent, StandsThere, batch-content, message-parts, at-position, position-within}
 use Rattle.editions.specs.meaning.Membership.{InGrammar}
 use Rattle.editions.specs.steps.Reading.{answer}
 use Rattle.editions.proofs.Laws.{accepted-in, nest-read}
@@ -80,13 +80,8 @@ message-there s a position at found =
     let here : messageAt s position ≡ m = message-found (messages (tree 0 s)) position m (noMessage s) (found .there) in
     let member = at-position (messages (tree 0 s)) position m (found .there) in
     record {
-      within = position-within (messages (tree 0 s)) position m (found .there);
+      within = position-within (messages (tree 0 s)) position (found .there);
       more = found .more;
       own = found .first ∙ ap (λ (x : Message). x .own ∷ found .more) (sym here);
       parts = subst MessageParts (sym here) (message-parts (tree 0 s) (a .top) (a .formed) (a .single) m member);
     }
-  where
-    position-within : (l : List Message) (n : ℕ) (m : Message) → getElem? l n ≡ some m → n < length l
-    position-within [] n m found = absurd (Option·none-ne-some m found)
-    position-within (x ∷ l) zero m found = omega arith
-    position-within (x ∷ l) (suc n) m found = omega (arith, position-within l n m found)

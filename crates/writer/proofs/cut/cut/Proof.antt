@@ -8,7 +8,7 @@ use mathlib.Core.List.{List, []}
 use lib.ListN.{length, take, drop, length-take, length-drop}
 use lib.Seq.{slice, slice-empty}
 use Rattle.der.specs.meaning.Bounds.{longest}
-use Rattle.der.proofs.Laws.{octets-each, take-slice}
+use Rattle.der.proofs.Laws.{take-slice}
 use Rattle.crmf.specs.meaning.Fields.{octets}
 use Rattle.crmf.proofs.Laws.{StandsThere, position-missing, position-there, message-read}
 use Rattle.editions.specs.declared.reader.Answer.{Answer}
@@ -40,10 +40,7 @@ refuse-requires c κs = search needs
 
 -- the batch is accepted
 batch : (c : tie.Else1) → let a = c .before .before .before .before .before .args in Accepted (a .edition) (a .bytes .now)
-batch c =
-    let found = c .before .before in
-    let a = found .before .before .before .args in
-    taken (octets-each (a .bytes .now) (λ i. found .before .before .shared-slice-known .given i .fits)) (found .accept .ensures) (c .if1 .left)
+batch c = taken (c .before .before .accept .ensures) (c .if1 .left)
 
 returns-2 : tie.Need-returns-2
 returns-2 c =

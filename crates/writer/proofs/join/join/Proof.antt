@@ -8,7 +8,6 @@ use mathlib.Core.List.{List}
 use lib.ListN.{length, drop, length-drop}
 use Rattle.der.specs.meaning.Bounds.{longest}
 use Rattle.der.specs.steps.Reading.{readAt}
-use Rattle.der.proofs.Laws.{octets-each}
 use Rattle.writer.specs.declared.join.PairAnswer.{PairAnswer}
 use Rattle.writer.specs.meaning.Joins.{Accepted, Joins, first-refused, second-refused}
 use Rattle.writer.specs.steps.Around.{aroundAnswer, aroundOutput}
@@ -42,18 +41,11 @@ refuse-requires-2 c κs = search needs
 
 -- the first batch is accepted
 one : (c : tie.Else1) → let a = c .before .before .before .before .before .before .args in Accepted (a .edition) (a .first .now)
-one c =
-    let found = c .before .before in
-    let a = found .before .before .before .before .args in
-    taken (octets-each (a .first .now) (λ i. found .before .before .before .shared-slice-known .given i .fits)) (found .accept .ensures) (c .if1 .left)
+one c = taken (c .before .before .accept .ensures) (c .if1 .left)
 
 -- and so is the second
 two : (c : tie.Else2) → let a = c .before .before .before .before .before .before .before .before .before .args in Accepted (a .edition) (a .second .now)
-two c =
-    let found = c .before .before in
-    let known = found .before .before .before .before .before in
-    let a = known .before .before .args in
-    taken (octets-each (a .second .now) (λ i. known .shared-slice-known2 .given i .fits)) (found .accept2 .ensures) (c .if2 .left)
+two c = taken (c .before .before .accept2 .ensures) (c .if2 .left)
 
 returns-2 : tie.Need-returns-2
 returns-2 c =
