@@ -7,6 +7,8 @@
 // There are two ways to judge a batch because nearly all batches are right. The recogniser looks at nest, grammar and certReqIds in one pass and
 // says only how many rows there are; bytes that it doesn't recognise are walked again, exactly, to explain what is wrong and where. Both are
 // proved against the grammar's meaning, in both directions.
+//
+// `messages` finds where the message at a position of a batch stands.
 pub mod explain;
 mod grammar;
 pub mod kinds;

@@ -44,7 +44,7 @@ pub record Accepted (e : ℕ) (s : List ℕ) : Type 0 where
 abbrev pub joined : {e : ℕ} {first second : List ℕ} → Accepted e first → Accepted e second → List ℕ
 joined one two = join (one .batch .nest) (two .batch .nest)
 
--- Two batches are joined in edition e into an output that is `old` before and `new` afterwards, with this number, place, batch and count.
+-- Two batches are joined in edition e into an output that is `old` before and `new` afterwards, with this number, place, file and count.
 -- "Refusals: the first's, the second's, 1 for a longer result, 11": each case says that none before it applies. A refusal changes nothing lent.
 pub data Joins (e : ℕ) (first second old : List ℕ) : (number place file count : ℕ) (new : List ℕ) → Type 0 where
   -- "the first's"
