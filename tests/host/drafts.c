@@ -646,14 +646,9 @@ const DraftSort draft_sorts[DRAFT_SORTS] = {
     {"many empty leaves", NO_BATCH, 2, many_empty_leaves},
 };
 
-static size_t some_sort(void)
+static size_t share(size_t sort)
 {
-    size_t total = 0, sort = 0;
-    for (size_t i = 0; i < DRAFT_SORTS; i++)
-        total += draft_sorts[i].share;
-    for (size_t at = below(total); at >= draft_sorts[sort].share; sort++)
-        at -= draft_sorts[sort].share;
-    return sort;
+    return draft_sorts[sort].share;
 }
 
 void drafts_next(Draft *draft)
@@ -662,7 +657,7 @@ void drafts_next(Draft *draft)
         next_source();
     left--;
     const Source *source = &sources[present];
-    draft->sort = some_sort();
+    draft->sort = one_by_share(DRAFT_SORTS, share);
     draft->edition = source->edition;
     draft->batch = source->bytes;
     draft->batch_length = source->length;

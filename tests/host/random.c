@@ -25,3 +25,13 @@ bool chance(size_t n)
 {
     return below(n) == 0;
 }
+
+size_t one_by_share(size_t count, size_t (*share)(size_t))
+{
+    size_t total = 0, one = 0;
+    for (size_t i = 0; i < count; i++)
+        total += share(i);
+    for (size_t at = below(total); at >= share(one); one++)
+        at -= share(one);
+    return one;
+}

@@ -14,4 +14,7 @@ size_t below(size_t n);
 /* Whether one chance in n comes true. */
 bool chance(size_t n);
 
+/* One of the numbers below `count`, each as often as its share says, beside the others' shares. */
+size_t one_by_share(size_t count, size_t (*share)(size_t));
+
 #endif

@@ -224,19 +224,14 @@ const TrioSort trio_sorts[TRIO_SORTS] = {
     {"many messages", 10, of_many_messages},
 };
 
-static size_t some_sort(void)
+static size_t share(size_t sort)
 {
-    size_t total = 0, sort = 0;
-    for (size_t i = 0; i < TRIO_SORTS; i++)
-        total += trio_sorts[i].share;
-    for (size_t at = below(total); at >= trio_sorts[sort].share; sort++)
-        at -= trio_sorts[sort].share;
-    return sort;
+    return trio_sorts[sort].share;
 }
 
 void trios_next(Trio *trio)
 {
-    trio->sort = some_sort();
+    trio->sort = one_by_share(TRIO_SORTS, share);
     trio_sorts[trio->sort].make(trio);
 }
 
