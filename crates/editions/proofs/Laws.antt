@@ -3,6 +3,11 @@
 --                         answer that equals it `equal-related`); there is only one (`answers-once`)
 --     reads-exactly       the same with a table, by `Reads`: `reading-related`, `related-reading`, `equal-reading`, `reads-once`
 --     acceptance-shows    an answer with the number 0 comes from bytes in the grammar with no long certReqId (`Shows`)
+--     taken               so it is an acceptance (`Accepted`), of a known edition (`accepted-edition`), with the count of the batch's rows
+--                         (`accepted-rows`) and no long certReqId (`accepted-short`); conversely `grammar-accepted`; it isn't refused (`not-refused`), and
+--                         a refusal's count is 0 (`refused-count`)
+--     content-messages    the octets of such a batch from its content on are its messages', and it is the batch of them (`grammar-octets`), as its
+--                         tree says (`grammar-tree`, `grammar-content`)
 --     accepted-related    an acceptance comes from bytes in the grammar, with the count of their rows
 --     reason-related      the reason that the walks compute (`reasonOf`) is one that `Reason` relates
 --     table-stays         demand 1: a refusal leaves the table as it was, and its count is 0
@@ -28,6 +33,7 @@
 --     paper               document 01's batches marked [P] are read as it says (`ReadsEntry`)
 --     refusals-explained  worked refusals are answered by number, place and detail; `refusals-told` others by number and place
 pub use Rattle.editions.proofs.theorems.AnswersExactly.{answer-related, related-answer, equal-related, answers-exactly, answers-once, Shows, acceptance-shows, related-number, accepted-related, reasonOf, reason-related}
+pub use Rattle.editions.proofs.theorems.AcceptedBatches.{taken, not-refused, refused-count, grammar-tree, grammar-content, content-messages, grammar-octets, accepted-edition, accepted-rows, accepted-short, grammar-accepted}
 pub use Rattle.editions.proofs.theorems.ReadsExactly.{reading-related, related-reading, equal-reading, reads-exactly, reads-once}
 pub use Rattle.editions.proofs.theorems.Demands.{table-stays, accepted-exactly, read-exactly, rows-shown, contents-right, same-rows, differing, nine-exactly, nine-least}
 pub use Rattle.editions.proofs.theorems.Accepting.{accepted-in, in-accepted, computed-read, computed-rows, one-nest, nest-read, nest-rows}

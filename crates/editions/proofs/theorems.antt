@@ -1,4 +1,5 @@
 -- The theorems and laws about the definitions.
+pub mod AcceptedBatches
 pub mod Accepting
 pub mod Answers
 pub mod AnswersExactly

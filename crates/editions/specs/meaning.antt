@@ -3,3 +3,5 @@ pub mod Edition
 pub mod Membership
 pub mod Answers
 pub mod Reads
+pub mod TwoBatches
+pub mod HandedBack

@@ -1,3 +1,4 @@
 // The readers of the two editions.
 pub mod edition;
+pub mod pair;
 pub mod reader;

@@ -19,5 +19,4 @@ pub mod Misshapen
 pub mod OctetRuns
 pub mod OneAnswer
 pub mod WholeLengths
-pub mod AcceptedBatches
 pub mod WritesExactly

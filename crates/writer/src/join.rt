@@ -2,6 +2,11 @@
 use crate::around::put_around;
 use der::element::reading::read_at;
 use der::refusal::ACCEPTED;
+use editions::pair::FILE_FIRST;
+use editions::pair::FILE_NEITHER;
+use editions::pair::FILE_SECOND;
+use editions::pair::PairAnswer;
+use editions::pair::refuse_pair;
 use editions::reader::accept;
 ghost use Prim.Native.Nat.{_≤_};
 ghost use mathlib.Core.Path.{_≡_};
@@ -9,23 +14,6 @@ ghost use lib.ListN.{length, drop};
 ghost use Rattle.der.specs.meaning.Bounds.{longest};
 ghost use Rattle.der.specs.steps.Reading.{readAt};
 ghost use Rattle.writer.specs.meaning.Joins.{Joins};
-
-// Whose refusal the answer of a call with two batches is: neither's, the first's or the second's.
-pub const FILE_NEITHER: usize = 0;
-
-pub const FILE_FIRST: usize = 1;
-
-pub const FILE_SECOND: usize = 2;
-
-// What a call with two batches answers: document 01's number (`der::refusal`), the place, whose refusal it is, and the count. C gets it in this
-// layout.
-#[repr(C)]
-pub struct PairAnswer {
-    pub number: usize,
-    pub place: usize,
-    pub file: usize,
-    pub count: usize,
-}
 
 // Writes the batch that has the first's messages and then the second's, and answers its length as the count. Refuses what `accept` refuses of
 // the first and then of the second, a batch that is longer than LONGEST, and an output that is too short. A refusal leaves the output as
@@ -35,11 +23,11 @@ pub fn join(edition: usize, first: &[u8], second: &[u8], output: &mut [u8]) -> P
 {
     let one = accept(edition, first);
     if one.number != ACCEPTED {
-        return refuse(one.number, one.place, FILE_FIRST);
+        return refuse_pair(one.number, one.place, FILE_FIRST);
     }
     let two = accept(edition, second);
     if two.number != ACCEPTED {
-        return refuse(two.number, two.place, FILE_SECOND);
+        return refuse_pair(two.number, two.place, FILE_SECOND);
     }
     let written = put_around(content(first), content(second), output);
     PairAnswer {
@@ -58,16 +46,4 @@ fn content(bytes: &[u8]) -> &[u8]
     let end = bytes.len();
     let start = read_at(bytes, 0, end).content;
     &bytes[start..end]
-}
-
-// The answer of a refusal.
-fn refuse(number: usize, place: usize, file: usize) -> PairAnswer
-    ensures { λ r. ⌜ r ≡ record { number = number; place = place; file = file; count = 0 } ⌝ }
-{
-    PairAnswer {
-        number,
-        place,
-        file,
-        count: 0,
-    }
 }

@@ -10,7 +10,8 @@ use Rattle.der.specs.meaning.Refusal.{accepted, noSuchMessage}
 use Rattle.crmf.specs.meaning.Messages.{Message, messages}
 use Rattle.editions.specs.meaning.Membership.{InGrammar}
 use Rattle.editions.specs.meaning.Answers.{Answers}
-use Rattle.verdict.specs.meaning.Verdict.{noProof, verdictOf, signedOf, HandedBack}
+use Rattle.editions.specs.meaning.HandedBack.{HandedBack}
+use Rattle.verdict.specs.meaning.Verdict.{noProof, verdictOf, signedOf}
 
 -- The number, the place, the verdict, and the place and length of the signed part. "The verdict takes a message's position from 0."
 pub data Judges (e : ℕ) (s : List ℕ) (position : ℕ) : (number place verdict from size : ℕ) → Type 0 where

@@ -6,7 +6,6 @@ use mathlib.Core.List.{List}
 use mathlib.Core.Option.{some, none as absent}
 use lib.Dec.{eqb}
 use lib.Seq.{slice}
-use denote.Ref.{RefT, ptr, now}
 use Rattle.crmf.specs.meaning.Fields.{Field, child}
 use Rattle.crmf.specs.meaning.Messages.{Message}
 
@@ -95,9 +94,3 @@ signedOf m =
 -- the octets of a part, by its place and length
 abbrev pub signedOctets : List ℕ → (from size : ℕ) → List ℕ
 signedOctets s from size = slice from (from + size) s
-
--- "hand back the signed element's bytes as they stand": a part of the bytes that were lent, at the same address, and no copy of them
-pub record HandedBack (bytes part : RefT (List ℕ)) (from size : ℕ) : Type 0 where
-  pub octets : now part ≡ signedOctets (now bytes) from size
-  pub block : ptr part .0 ≡ ptr bytes .0
-  pub offset : ptr part .1 ≡ ptr bytes .1 + from

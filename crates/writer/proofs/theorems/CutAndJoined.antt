@@ -13,11 +13,10 @@ use Rattle.crmf.specs.meaning.Fields.{octets}
 use Rattle.crmf.specs.meaning.Lists.{over}
 use Rattle.crmf.specs.meaning.Messages.{Message, messages, messageOctets, batchOctets}
 use Rattle.crmf.proofs.Laws.{messages-octets}
-use Rattle.editions.proofs.Laws.{related-number}
-use Rattle.writer.specs.meaning.Joins.{Accepted}
+use Rattle.editions.proofs.Laws.{related-number, grammar-octets}
+use Rattle.editions.specs.meaning.TwoBatches.{Accepted}
 use Rattle.writer.specs.meaning.Cuts.{cut, Cuts, refused, missing, no-room, written}
 use Rattle.writer.specs.meaning.Groupings.{Grouping, batches, grouped, whole, Gives, CutUp}
-use Rattle.writer.proofs.theorems.AcceptedBatches.{grammar-octets}
 use Rattle.writer.proofs.theorems.Cutting.{cut-accepted, cut-octets}
 use Rattle.writer.proofs.theorems.Grouping.{read-octets, grouped-read, any-grouping, over-all}
 use Rattle.writer.proofs.theorems.OneAnswer.{same-messages}

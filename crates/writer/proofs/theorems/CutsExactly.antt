@@ -17,10 +17,10 @@ use Rattle.crmf.specs.meaning.Messages.{Message, messages, messageOctets, batch
 use Rattle.crmf.proofs.Laws.{batch-octets-parts, batch-octets-left, batch-octets-right, messages-octets, at-position}
 use Rattle.editions.specs.declared.reader.Answer.{Answer}
 use Rattle.editions.specs.meaning.Membership.{InGrammar}
-use Rattle.writer.specs.meaning.Joins.{Accepted}
+use Rattle.editions.proofs.Laws.{grammar-octets}
+use Rattle.editions.specs.meaning.TwoBatches.{Accepted}
 use Rattle.writer.specs.meaning.Cuts.{Cuts, cut, no-room, written}
 use Rattle.writer.specs.steps.Around.{around, aroundAnswer, aroundOutput}
-use Rattle.writer.proofs.theorems.AcceptedBatches.{grammar-octets}
 use Rattle.writer.proofs.theorems.AroundContents.{around-roomless, around-written}
 
 -- The entries of a list before one of them, and those after it.

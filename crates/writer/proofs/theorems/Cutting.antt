@@ -9,10 +9,9 @@ use Rattle.crmf.specs.meaning.Fields.{octets}
 use Rattle.crmf.specs.meaning.Messages.{Message, messages, batchHeader, messageOctets, batchOctets, movedMessage}
 use Rattle.crmf.proofs.Laws.{cutTree, cut-tree, cut-message, cut-short}
 use Rattle.editions.specs.meaning.Membership.{InGrammar}
-use Rattle.editions.proofs.Laws.{one-nest}
-use Rattle.writer.specs.meaning.Joins.{Accepted}
+use Rattle.editions.proofs.Laws.{one-nest, grammar-tree, grammar-octets, accepted-edition, accepted-short, grammar-accepted}
+use Rattle.editions.specs.meaning.TwoBatches.{Accepted}
 use Rattle.writer.specs.meaning.Cuts.{cut}
-use Rattle.writer.proofs.theorems.AcceptedBatches.{grammar-tree, grammar-octets, accepted-edition, accepted-short, grammar-accepted}
 use Rattle.writer.proofs.theorems.CutsExactly.{cut-fits}
 
 -- "the one-message batch of a named position": bytes in the grammar with that message alone are the cut

@@ -15,10 +15,10 @@ use Rattle.der.specs.steps.Reading.{tree}
 use Rattle.crmf.specs.meaning.Lists.{over}
 use Rattle.crmf.specs.meaning.Messages.{messageOctets, batchOctets}
 use Rattle.crmf.proofs.Laws.{batch-octets-left, batch-octets-right, over-parts}
-use Rattle.editions.proofs.Laws.{nest-read}
-use Rattle.writer.specs.meaning.Joins.{Accepted, join, joined, Joins, neitherFile, first-refused, second-refused, too-long, no-room, written}
+use Rattle.editions.proofs.Laws.{nest-read, grammar-octets}
+use Rattle.editions.specs.meaning.TwoBatches.{Accepted, neitherFile}
+use Rattle.writer.specs.meaning.Joins.{join, joined, Joins, first-refused, second-refused, too-long, no-room, written}
 use Rattle.writer.specs.meaning.Groupings.{Grouping, alone, both, batches, grouped, whole, Gives, by-itself, by-call, TooLongWithin, here, on-the-left, on-the-right}
-use Rattle.writer.proofs.theorems.AcceptedBatches.{grammar-octets}
 use Rattle.writer.proofs.theorems.Joining.{join-accepted, join-octets}
 
 -- the messages of an accepted batch are those that its bytes are read as

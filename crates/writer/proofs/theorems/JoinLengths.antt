@@ -14,8 +14,9 @@ use Rattle.der.proofs.Laws.{header-octets, length-some, shortest-small, shortes
 use Rattle.crmf.specs.meaning.Messages.{batch, messageOctets}
 use Rattle.crmf.proofs.Laws.{batch-length, content-octets, flatten-append}
 use Rattle.editions.specs.meaning.Membership.{InGrammar}
-use Rattle.writer.specs.meaning.Joins.{Accepted, joined}
-use Rattle.writer.proofs.theorems.AcceptedBatches.{grammar-tree}
+use Rattle.editions.proofs.Laws.{grammar-tree}
+use Rattle.editions.specs.meaning.TwoBatches.{Accepted}
+use Rattle.writer.specs.meaning.Joins.{joined}
 use Rattle.writer.proofs.theorems.Joining.{join-within, join-octets}
 
 -- how many length octets a content has

@@ -15,9 +15,9 @@ use Rattle.crmf.specs.meaning.Messages.{messages, messageOctets, batchOctets, m
 use Rattle.crmf.specs.meaning.Rows.{Row, batchRows, movedRow, renumberedRow}
 use Rattle.crmf.proofs.Laws.{rows-some, joinedTree, joined-tree, joined-messages, joined-rows, joined-short}
 use Rattle.editions.specs.meaning.Membership.{InGrammar}
-use Rattle.editions.proofs.Laws.{one-nest}
-use Rattle.writer.specs.meaning.Joins.{Accepted, join, joined, firstMoves, secondMoves}
-use Rattle.writer.proofs.theorems.AcceptedBatches.{grammar-tree, grammar-octets, accepted-edition, accepted-rows, accepted-short, grammar-accepted}
+use Rattle.editions.proofs.Laws.{one-nest, grammar-tree, grammar-octets, accepted-edition, accepted-rows, accepted-short, grammar-accepted}
+use Rattle.editions.specs.meaning.TwoBatches.{Accepted}
+use Rattle.writer.specs.meaning.Joins.{join, joined, firstMoves, secondMoves}
 
 module _ {e : ℕ} {first second : List ℕ} (one : Accepted e first) (two : Accepted e second) where
   -- the two batches' trees

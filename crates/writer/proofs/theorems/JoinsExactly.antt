@@ -15,9 +15,10 @@ use Rattle.crmf.specs.meaning.Lists.{over}
 use Rattle.crmf.specs.meaning.Messages.{messageOctets}
 use Rattle.crmf.proofs.Laws.{flatten-append, batch-octets-parts}
 use Rattle.editions.specs.declared.reader.Answer.{Answer}
-use Rattle.writer.specs.meaning.Joins.{Accepted, Joins, join, joined, neitherFile, too-long, no-room, written}
+use Rattle.editions.proofs.Laws.{content-messages}
+use Rattle.editions.specs.meaning.TwoBatches.{Accepted, neitherFile}
+use Rattle.writer.specs.meaning.Joins.{Joins, join, joined, too-long, no-room, written}
 use Rattle.writer.specs.steps.Around.{around, aroundAnswer, aroundOutput}
-use Rattle.writer.proofs.theorems.AcceptedBatches.{content-messages}
 use Rattle.writer.proofs.theorems.AroundContents.{around-long, around-roomless, around-written}
 
 -- the octets from a batch's content on, as the code finds them

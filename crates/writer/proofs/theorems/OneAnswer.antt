@@ -11,14 +11,11 @@ use Rattle.crmf.specs.meaning.Lists.{over}
 use Rattle.crmf.specs.meaning.Messages.{Message, messages}
 use Rattle.crmf.proofs.Laws.{position-within}
 use Rattle.editions.specs.meaning.Answers.{Answers}
-use Rattle.editions.proofs.Laws.{answers-once, one-nest}
-use Rattle.writer.specs.meaning.Joins.{Accepted, join, joined, Joins, first-refused, second-refused, too-long, no-room, written}
+use Rattle.editions.proofs.Laws.{answers-once, not-refused, one-nest}
+use Rattle.editions.specs.meaning.TwoBatches.{Accepted}
+use Rattle.writer.specs.meaning.Joins.{join, joined, Joins, first-refused, second-refused, too-long, no-room, written}
 use Rattle.writer.specs.meaning.Cuts.{cut, Cuts, refused, missing}
 use Rattle.writer.specs.meaning.Cuts as cuts
-
--- an accepted batch isn't refused
-not-refused : {e : ℕ} {s : List ℕ} {n p c : ℕ} → Octets s → Accepted e s → Answers e s n p c → (n ≡ accepted → ⊥) → ⊥
-not-refused {e} {s} {n} {p} {c} known a answer other = other (sym (answers-once e s known accepted 0 (a .rows) n p c (a .answer) answer .0))
 
 -- the messages of an accepted batch
 pub same-messages : {e : ℕ} {s : List ℕ} (a b : Accepted e s) → messages (a .batch .nest) ≡ messages (b .batch .nest)

@@ -10,7 +10,7 @@ use Rattle.crmf.specs.meaning.Fields.{octets}
 use Rattle.crmf.specs.meaning.Lists.{over}
 use Rattle.crmf.specs.meaning.Messages.{Message, messages, batchOctets}
 use Rattle.editions.specs.meaning.Answers.{Answers}
-use Rattle.writer.specs.meaning.Joins.{Accepted}
+use Rattle.editions.specs.meaning.TwoBatches.{Accepted}
 
 -- "cutting gives the one-message batch of a named position": its octets, by the message there
 unfoldable pub cut : Message → List ℕ

@@ -8,7 +8,8 @@ use lib.ListN.{length, getElem?}
 use Rattle.der.specs.meaning.Refusal.{accepted, tooLong, noSuchMessage}
 use Rattle.crmf.specs.meaning.Lists.{over}
 use Rattle.crmf.specs.meaning.Messages.{messageOctets, batchOctets}
-use Rattle.writer.specs.meaning.Joins.{Accepted, Joins, neitherFile}
+use Rattle.editions.specs.meaning.TwoBatches.{Accepted, neitherFile}
+use Rattle.writer.specs.meaning.Joins.{Joins}
 use Rattle.writer.specs.meaning.Cuts.{Cuts}
 
 -- A grouping of accepted batches: one of them, or two groupings whose batches are joined.

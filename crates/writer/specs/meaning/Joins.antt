@@ -9,8 +9,8 @@ use Rattle.der.specs.meaning.Refusal.{accepted, tooLong, noRoom}
 use Rattle.der.specs.meaning.Tree.{Tree}
 use Rattle.crmf.specs.meaning.Lists.{over}
 use Rattle.crmf.specs.meaning.Messages.{batch, batchHeader, messageOctets, batchOctets}
-use Rattle.editions.specs.meaning.Membership.{InGrammar}
 use Rattle.editions.specs.meaning.Answers.{Answers}
+use Rattle.editions.specs.meaning.TwoBatches.{firstFile, secondFile, neitherFile, Accepted}
 
 -- "the batch with the first's messages and then the second's"
 unfoldable pub join : Tree → Tree → List ℕ
@@ -23,22 +23,6 @@ firstMoves first join = batchHeader join - batchHeader first
 -- and how far the second's do: by "the join's header and the first's content less its own header"
 abbrev pub secondMoves : (first second join : Tree) → ℕ
 secondMoves first second join = batchHeader join + length (batch first .content) - batchHeader second
-
--- `file`: "whose refusal" an answer is, the first batch's, the second's, or neither's
-abbrev pub firstFile : ℕ
-firstFile = 1
-
-abbrev pub secondFile : ℕ
-secondFile = 2
-
-abbrev pub neitherFile : ℕ
-neitherFile = 0
-
--- A batch that the edition accepts, with so many rows.
-pub record Accepted (e : ℕ) (s : List ℕ) : Type 0 where
-  pub rows : ℕ
-  pub answer : Answers e s accepted 0 rows
-  pub batch : InGrammar e s
 
 -- "Joining two accepted batches of one edition": the octets of the two's join
 abbrev pub joined : {e : ℕ} {first second : List ℕ} → Accepted e first → Accepted e second → List ℕ

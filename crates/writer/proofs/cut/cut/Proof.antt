@@ -12,11 +12,10 @@ use Rattle.der.proofs.Laws.{take-slice}
 use Rattle.crmf.specs.meaning.Fields.{octets}
 use Rattle.crmf.proofs.Laws.{StandsThere, position-missing, position-there, message-read}
 use Rattle.editions.specs.declared.reader.Answer.{Answer}
-use Rattle.editions.proofs.Laws.{nest-read}
-use Rattle.writer.specs.meaning.Joins.{Accepted}
+use Rattle.editions.proofs.Laws.{nest-read, taken, refused-count, grammar-content}
+use Rattle.editions.specs.meaning.TwoBatches.{Accepted}
 use Rattle.writer.specs.meaning.Cuts.{Cuts, refused, missing}
 use Rattle.writer.specs.steps.Around.{aroundAnswer, aroundOutput}
-use Rattle.writer.proofs.theorems.AcceptedBatches.{taken, refused-count, grammar-content}
 use Rattle.writer.proofs.theorems.CutsExactly.{cut-says}
 use Rattle.writer.proofs.cut.cut.Statement.{statement}
 use Rattle.writer.proofs.cut.cut.Tie as tie

@@ -8,10 +8,11 @@ use mathlib.Core.List.{List}
 use lib.ListN.{length, drop, length-drop}
 use Rattle.der.specs.meaning.Bounds.{longest}
 use Rattle.der.specs.steps.Reading.{readAt}
-use Rattle.writer.specs.declared.join.PairAnswer.{PairAnswer}
-use Rattle.writer.specs.meaning.Joins.{Accepted, Joins, first-refused, second-refused}
+use Rattle.editions.proofs.Laws.{taken}
+use Rattle.editions.specs.declared.pair.PairAnswer.{PairAnswer}
+use Rattle.editions.specs.meaning.TwoBatches.{Accepted}
+use Rattle.writer.specs.meaning.Joins.{Joins, first-refused, second-refused}
 use Rattle.writer.specs.steps.Around.{aroundAnswer, aroundOutput}
-use Rattle.writer.proofs.theorems.AcceptedBatches.{taken}
 use Rattle.writer.proofs.theorems.JoinsExactly.{join-says}
 use Rattle.writer.proofs.join.join.Statement.{statement}
 use Rattle.writer.proofs.join.join.Tie as tie
@@ -19,8 +20,8 @@ use Rattle.writer.proofs.join.join.Tie as tie
 accept-requires : tie.Need-accept-requires
 accept-requires c κs = search needs
 
-refuse-requires : tie.Need-refuse-requires
-refuse-requires c κs = search needs
+refuse-pair-requires : tie.Need-refuse-pair-requires
+refuse-pair-requires c κs = search needs
 
 -- what a refusal answers, as the relation has it
 refused-as : {e : ℕ} {first second old : List ℕ} {r : PairAnswer} (number place file : ℕ) → r ≡ record { number = number; place = place; file = file; count = 0 }
@@ -31,13 +32,13 @@ refused-as {e} {first} {second} {old} number place file same says =
 returns : tie.Need-returns
 returns c =
     let found = c .before .before .before .accept in
-    refused-as (found .result .number) (found .result .place) 1 (c .refuse .ensures) (first-refused (found .ensures) (c .before .if1 .taken))
+    refused-as (found .result .number) (found .result .place) 1 (c .refuse-pair .ensures) (first-refused (found .ensures) (c .before .if1 .taken))
 
 accept-requires-2 : tie.Need-accept-requires-2
 accept-requires-2 c κs = search needs
 
-refuse-requires-2 : tie.Need-refuse-requires-2
-refuse-requires-2 c κs = search needs
+refuse-pair-requires-2 : tie.Need-refuse-pair-requires-2
+refuse-pair-requires-2 c κs = search needs
 
 -- the first batch is accepted
 one : (c : tie.Else1) → let a = c .before .before .before .before .before .before .args in Accepted (a .edition) (a .first .now)
@@ -50,7 +51,7 @@ two c = taken (c .before .before .accept2 .ensures) (c .if2 .left)
 returns-2 : tie.Need-returns-2
 returns-2 c =
     let found = c .before .before .before in
-    refused-as (found .accept2 .result .number) (found .accept2 .result .place) 2 (c .refuse2 .ensures)
+    refused-as (found .accept2 .result .number) (found .accept2 .result .place) 2 (c .refuse-pair2 .ensures)
     (second-refused (one (found .before)) (found .accept2 .ensures) (c .before .if2 .taken))
 
 content-requires : tie.Need-content-requires
@@ -93,10 +94,10 @@ join-spec =
     tie.close
     (tie.spec
     accept-requires
-    refuse-requires
+    refuse-pair-requires
     returns
     accept-requires-2
-    refuse-requires-2
+    refuse-pair-requires-2
     returns-2
     content-requires
     content-requires-2

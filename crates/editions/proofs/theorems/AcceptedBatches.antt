@@ -6,16 +6,18 @@ use mathlib.Core.Bool.{true}
 use mathlib.Core.List.{List, flatten}
 use lib.Dec.{eqb}
 use lib.ListN.{length, drop}
+use Rattle.der.specs.meaning.Octets.{Octets}
 use Rattle.der.specs.meaning.Refusal.{accepted}
 use Rattle.der.specs.steps.Reading.{readAt}
 use Rattle.crmf.specs.meaning.Edition.{Edition}
 use Rattle.crmf.specs.meaning.Messages.{messageOctets, batchOctets}
 use Rattle.crmf.specs.meaning.Rows.{batchRows, allShort}
 use Rattle.crmf.proofs.Laws.{BatchContent, BatchTree, batch-content, content-read, content-octets, batch-octets, short-none, none-short}
 use Rattle.editions.specs.meaning.Answers.{Answers, unknown, long, fault, trailing, neither, other, longId, accept}
 use Rattle.editions.specs.meaning.Membership.{InGrammar}
-use Rattle.editions.proofs.Laws.{acceptance-shows, nest-read, nest-rows}
-use Rattle.writer.specs.meaning.Joins.{Accepted}
+use Rattle.editions.proofs.theorems.AnswersExactly.{acceptance-shows, answers-once}
+use Rattle.editions.proofs.theorems.Accepting.{nest-read, nest-rows}
+use Rattle.editions.specs.meaning.TwoBatches.{Accepted}
 
 module _ {e : ℕ} {s : List ℕ} where
   -- An answer with the number 0 is an acceptance.
@@ -76,3 +78,7 @@ module _ {e : ℕ} {s : List ℕ} where
   pub grammar-accepted : Edition e → (g : InGrammar e s) → allShort (batchRows (g .batch)) ≡ true → Accepted e s
   grammar-accepted ed g short =
       record { rows = length (batchRows (g .batch)); answer = accept ed g (short-none (batchRows (g .batch)) short); batch = g }
+
+-- An accepted batch isn't refused.
+pub not-refused : {e : ℕ} {s : List ℕ} {n p c : ℕ} → Octets s → Accepted e s → Answers e s n p c → (n ≡ accepted → ⊥) → ⊥
+not-refused {e} {s} {n} {p} {c} known a answer refusing = refusing (sym (answers-once e s known accepted 0 (a .rows) n p c (a .answer) answer .0))
