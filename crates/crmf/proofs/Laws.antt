@@ -25,7 +25,8 @@
 --     onward-lives        and so it is after every element
 --     ways-lines          a value that selects has a line for each of its ways, and no more (`WayLines`)
 --     ways-parts          and as many names in the grammar
---     kind-known          every row kind of the table is one of document 01's (`rowKinds`), and so is every item's (`item-known`)
+--     kind-known          every row kind of the table is one of document 01's (`rowKinds`), and so is every item's (`item-known`); so each row of a
+--                         batch has one of them (`row-known`)
 --     kind-given          each of document 01's kinds is given by some line
 --     rows-lines          the rows that are found by the lines are those of any derivation
 --     rows-same           so two derivations of one tree have the same rows, whichever forms each may read
@@ -36,6 +37,8 @@
 --     row-parent          each other row's parent is an earlier row
 --     parent-container    each row's parent is a container
 --     row-within          each row's bytes lie within its parent's (`Inner`)
+--     rows-nested         rows below a row come right after it: between a row and its parent are only rows whose parents come no earlier
+--     kinds-ascend        in every container but controls and regInfo the kinds of the children ascend
 --     row-content         each row's fifth number is right (`RightContent`); where two rows point at the same octets and one is right, the other is
 --                         exactly if both contents are equally far from the rows' first bytes (`content-same`, `content-right`)
 --     matches-alike       some parts describe elements if they describe alike ones, at whatever places; so it is with elements that are moved by
@@ -55,6 +58,9 @@
 --     over-holds          so it is with any rows that are written over its first numbers
 --     filled-short        and without room it stays as it is
 --     filled-whole        so it is with the rows that the lines find in any input
+--     packed-row          a batch's row is read back from the one number into which it is packed; there is one for each row (`packed-length`), its
+--                         own (`packed-at`), and a table of as many numbers as an input has rows then has all of them (`packed-all`); the
+--                         fields of any number are below their room (`fields-below`)
 --     assembly            a batch is the assembly of the pieces that its rows show of it
 --     rows-few            its rows are at most half as many as its octets
 --     pieces-short        none of its pieces is longer than it
@@ -150,8 +156,11 @@ pub use Rattle.crmf.proofs.theorems.editions.Differences.{StopsAt, own-
 pub use Rattle.crmf.specs.meaning.Kinds.{rowKinds}
 pub use Rattle.crmf.proofs.theorems.lines.TableChecks.{Lives, WayLines, inside-starts, start-lives, onward-lives, ways-lines, kind-known, item-known, kind-given}
 pub use Rattle.crmf.proofs.theorems.rows.RowsInPlace.{noRow}
+pub use Rattle.crmf.proofs.theorems.rows.RowKinds.{row-known}
 pub use Rattle.crmf.proofs.theorems.rows.RowsOfLines.{rows-lines, rows-same, rows-count, walk-counts}
 pub use Rattle.crmf.proofs.theorems.rows.RowLaws.{Inner, firstHeader, batchRow, row-zero, rows-some, rows-ascend, row-parent, parent-container, row-within}
+pub use Rattle.crmf.proofs.theorems.rows.RowsNested.{rows-nested}
+pub use Rattle.crmf.proofs.theorems.rows.SiblingKinds.{kinds-ascend}
 pub use Rattle.crmf.proofs.theorems.rows.RowContents.{row-content, content-same, content-right}
 pub use Rattle.crmf.proofs.theorems.grammar.AlikeMatches.{matches-alike, matches-moved}
 pub use Rattle.crmf.proofs.theorems.rows.RowsMoved.{rows-moved}
@@ -161,6 +170,7 @@ pub use Rattle.crmf.proofs.theorems.pieces.PiecesOf.{pieceIf, pieces, p
 pub use Rattle.crmf.proofs.theorems.pieces.ShownPieces.{pieces-length, rows-pieces, batch-pieces}
 pub use Rattle.crmf.proofs.theorems.rows.DraftRows.{rows-by-width, rows-room, row-cut, rows-back, numbers-once, numbers-back}
 pub use Rattle.crmf.proofs.theorems.rows.FilledRows.{fits-room, Holds, over-holds, rows-of, rows-counted, filled-rows, filled-short, filled-whole}
+pub use Rattle.crmf.proofs.theorems.rows.PackedRows.{packed-length, packed-at, packed-row, packed-all, fields-below}
 pub use Rattle.crmf.proofs.theorems.messages.FieldLaws.{child-first, listed-none, listed-some, FormedField, IfAny}
 pub use Rattle.crmf.proofs.theorems.messages.FieldSteps.{fieldAt, Begins, fields-end, fields-at, fields-begin, inside-fields, first-with-none, first-with-here, first-with-next, child-identified, batch-at, messages-inside, message-field, proof-cases, proof-child-stands, stands-part}
 pub use Rattle.crmf.proofs.theorems.messages.FieldsMatch.{Holding}

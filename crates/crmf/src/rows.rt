@@ -1,5 +1,6 @@
 // Writes the rows of a batch into a lent table of numbers. The batch was recognised before, so nothing is judged again.
 pub(crate) mod agree;
+pub mod packed;
 
 use crate::grammar::codes;
 use crate::grammar::element::Fit;
@@ -18,9 +19,9 @@ ghost use lib.ListN.{length, getD};
 ghost use lib.Seq.{slice};
 ghost use Rattle.crmf.specs.steps.grammar.Packed.{packed};
 ghost use Rattle.crmf.specs.steps.explain.Walk.{line};
-ghost use Rattle.crmf.specs.meaning.Rows.{rowIf, parentIf, width};
+ghost use Rattle.crmf.specs.meaning.Rows.{rowIf, parentIf};
 ghost use Rattle.crmf.specs.steps.rows.Fill as spec;
-ghost use Rattle.crmf.specs.steps.rows.Fill.{goes, rowOf, fits, filled, aroundExtent, fitExtent, ownRows, rowAbove, Room, Wrote, Shown, Listed, Inner};
+ghost use Rattle.crmf.specs.steps.rows.Fill.{goes, rowOf, fits, filled, aroundExtent, fitExtent, ownRows, rowAbove, placeIn, writtenIn, rowsOfInput, Room, Wrote, Shown, Listed, Inner};
 
 // How many numbers a row has.
 pub const WIDTH: usize = 5;
@@ -40,10 +41,12 @@ pub(crate) struct Spot {
     pub(crate) row: usize,
 }
 
-// The place at which the elements end, and the number of rows that may be written.
+// The place at which the elements end, the number of rows that may be written, and the table's layout: whether each row is packed into one
+// number, or has its five.
 struct Bounds {
     end: usize,
     limit: usize,
+    packed: bool,
 }
 
 // The row numbers at an element: of the row above it, of the first that it gives and of the next after its own.
@@ -72,8 +75,18 @@ pub(crate) fn fill(bytes: &[u8], count: usize, table: &[usize; LINES], out: &mut
     if out.len() / WIDTH < count {
         return false;
     }
+    walk(bytes, count, false, table, out);
+    true
+}
+
+// Writes the rows of the bytes into a table with room for `limit` rows, as far as their numbers are below it: each packed into one number, if
+// `packing` says so, or as its five.
+fn walk(bytes: &[u8], limit: usize, packing: bool, table: &[usize; LINES], out: &mut [usize])
+    requires { ⌜ (now table ≡ packed) × (placeIn packing limit ≤ length (now out)) ⌝ }
+    ensures { λ _. ⌜ now (out .exit) ≡ writtenIn packing (now (out .entry)) 0 limit (rowsOfInput (now (bytes .entry))) ⌝ }
+{
     if der::bounds::LONGEST < bytes.len() {
-        return true;
+        return;
     }
     let start = Spot {
         state: TOP,
@@ -82,7 +95,8 @@ pub(crate) fn fill(bytes: &[u8], count: usize, table: &[usize; LINES], out: &mut
     };
     let bounds = Bounds {
         end: bytes.len(),
-        limit: count,
+        limit,
+        packed: packing,
     };
     let around = Around {
         up: 0,
@@ -91,7 +105,6 @@ pub(crate) fn fill(bytes: &[u8], count: usize, table: &[usize; LINES], out: &mut
         content: 0,
     };
     list(bytes, start, bounds, around, table, out);
-    true
 }
 
 // Writes the rows of the elements from a spot to the end. Answers the number of the next row.
@@ -103,7 +116,7 @@ fn list(
     table: &[usize; LINES],
     out: &mut [usize],
 ) -> usize
-    requires { ⌜ Room (now bytes) (start .at) (bounds .end) (start .row) (bounds .limit) (now table) (now out) ⌝ }
+    requires { ⌜ Room (now bytes) (start .at) (bounds .end) (start .row) (bounds .limit) (bounds .packed) (now table) (now out) ⌝ }
     ensures { λ r. ⌜ Listed (now (bytes .entry)) start bounds around (now (out .entry)) r (now (out .exit)) ⌝ }
 {
     let mut spot = start;
@@ -122,7 +135,7 @@ fn element(
     table: &[usize; LINES],
     out: &mut [usize],
 ) -> Spot
-    requires { ⌜ Room (now bytes) (spot .at) (bounds .end) (spot .row) (bounds .limit) (now table) (now out) × (spot .at < bounds .end) ⌝ }
+    requires { ⌜ Room (now bytes) (spot .at) (bounds .end) (spot .row) (bounds .limit) (bounds .packed) (now table) (now out) × (spot .at < bounds .end) ⌝ }
     ensures { λ r. ⌜ Shown (now (bytes .entry)) spot bounds around (now (out .entry)) r (now (out .exit)) ⌝ }
 {
     let element = read_at(bytes, spot.at, bounds.end);
@@ -137,9 +150,9 @@ fn element(
     let numbers = Numbers {
         up: around.up,
         row: spot.row,
-        next: own_rows(fit, spot.row, around, bounds.limit, out),
+        next: own_rows(fit, spot.row, around, bounds, out),
     };
-    let row = inside(bytes, fit, numbers, bounds.limit, table, out);
+    let row = inside(bytes, fit, numbers, bounds, table, out);
     Spot {
         state: onward(bytes, fit, table),
         at: fit.end,
@@ -149,12 +162,12 @@ fn element(
 
 // Writes the rows that an element gives by itself, from the number `row` on: that of the element around it, if the line has a kind for it, and
 // its own. Answers the number of the next row.
-fn own_rows(fit: Fit, row: usize, around: Around, limit: usize, out: &mut [usize]) -> usize
-    requires { ⌜ (fit .first ≤ fit .end) × (row ≤ 131070) × (width * limit ≤ length (now out)) ⌝ }
-    ensures { λ r. ⌜ ((k : ℕ) → fit .word ≡ getD packed k 0 → Wrote (ownRows (line k) (fitExtent fit) row around) row limit (now (out .entry)) r (now (out .exit))) × (r ≤ row + 2) ⌝ }
+fn own_rows(fit: Fit, row: usize, around: Around, bounds: Bounds, out: &mut [usize]) -> usize
+    requires { ⌜ (fit .first ≤ fit .end) × (row ≤ 131070) × (placeIn (bounds .packed) (bounds .limit) ≤ length (now out)) ⌝ }
+    ensures { λ r. ⌜ ((k : ℕ) → fit .word ≡ getD packed k 0 → Wrote (bounds .packed) (ownRows (line k) (fitExtent fit) row around) row (bounds .limit) (now (out .entry)) r (now (out .exit))) × (r ≤ row + 2) ⌝ }
 {
-    let next = put(item_entry(fit, around), row, limit, out);
-    put(own_entry(fit, row, around), next, limit, out)
+    let next = put(item_entry(fit, around), row, bounds, out);
+    put(own_entry(fit, row, around), next, bounds, out)
 }
 
 // What the element around another has as its row, if the other's line has a kind for it.
@@ -208,17 +221,17 @@ pub(crate) fn rowless(start: usize) -> bool
         | (start == lines::EXTENSION)
 }
 
-// Writes the rows inside an element, if its line has an inside with rows. Answers the number of the next row.
+// Writes the rows inside an element, if its line has an inside with rows: `bounds` are the element's. Answers the number of the next row.
 fn inside(
     bytes: &[u8],
     fit: Fit,
     numbers: Numbers,
-    limit: usize,
+    bounds: Bounds,
     table: &[usize; LINES],
     out: &mut [usize],
 ) -> usize
-    requires { ⌜ Room (now bytes) (fit .content) (fit .end) (numbers .next) limit (now table) (now out) × (fit .first ≤ fit .end) × (numbers .row ≤ 131070) ⌝ }
-    ensures { λ r. ⌜ ((k : ℕ) → fit .word ≡ getD packed k 0 → Inner k (now (bytes .entry)) fit numbers limit (now (out .entry)) r (now (out .exit))) × (r ≤ 2 * fit .end) ⌝ }
+    requires { ⌜ Room (now bytes) (fit .content) (fit .end) (numbers .next) (bounds .limit) (bounds .packed) (now table) (now out) × (fit .first ≤ fit .end) × (numbers .row ≤ 131070) ⌝ }
+    ensures { λ r. ⌜ ((k : ℕ) → fit .word ≡ getD packed k 0 → Inner (bounds .packed) k (now (bytes .entry)) fit numbers (bounds .limit) (now (out .entry)) r (now (out .exit))) × (r ≤ 2 * fit .end) ⌝ }
 {
     let state = table::inside_of(fit.word);
     if rowless(state) {
@@ -229,9 +242,10 @@ fn inside(
         at: fit.content,
         row: numbers.next,
     };
-    let bounds = Bounds {
+    let within = Bounds {
         end: fit.end,
-        limit,
+        limit: bounds.limit,
+        packed: bounds.packed,
     };
     let whole = fit.end - fit.first;
     let around = Around {
@@ -240,7 +254,7 @@ fn inside(
         whole,
         content: start.at,
     };
-    list(bytes, start, bounds, around, table, out)
+    list(bytes, start, within, around, table, out)
 }
 
 // The line to go on with after an element whose value keeps its rule.
@@ -259,14 +273,18 @@ pub(crate) fn onward(bytes: &[u8], fit: Fit, table: &[usize; LINES]) -> usize
 }
 
 // Writes a row if it has a kind and its number is below the limit. Answers the number of the next row.
-fn put(new: Entry, row: usize, limit: usize, out: &mut [usize]) -> usize
-    requires { ⌜ (row ≤ 131072) × (width * limit ≤ length (now out)) ⌝ }
-    ensures { λ r. ⌜ Wrote (rowOf new) row limit (now (out .entry)) r (now (out .exit)) ⌝ }
+fn put(new: Entry, row: usize, bounds: Bounds, out: &mut [usize]) -> usize
+    requires { ⌜ (row ≤ 131072) × (placeIn (bounds .packed) (bounds .limit) ≤ length (now out)) ⌝ }
+    ensures { λ r. ⌜ Wrote (bounds .packed) (rowOf new) row (bounds .limit) (now (out .entry)) r (now (out .exit)) ⌝ }
 {
     if new.kind == kinds::NONE {
         return row;
     }
-    if limit <= row {
+    if bounds.limit <= row {
+        return row + 1;
+    }
+    if bounds.packed {
+        out[row] = packed::number(new);
         return row + 1;
     }
     let at = WIDTH * row;

@@ -19,8 +19,8 @@ use Rattle.crmf.specs.declared.grammar.element.Fitting.the-variants.{Mis
 use Rattle.crmf.specs.steps.grammar.Fitting.{Fitted, FitsAt}
 use Rattle.crmf.specs.steps.grammar.Packed.{insideField}
 use Rattle.crmf.specs.steps.explain.Walk.{line}
-use Rattle.crmf.specs.meaning.Rows.{Row, width}
-use Rattle.crmf.specs.steps.rows.Fill.{rowless, aroundInside, rowsAt, Room, Wrote, Going}
+use Rattle.crmf.specs.meaning.Rows.{Row}
+use Rattle.crmf.specs.steps.rows.Fill.{rowless, aroundInside, rowsAt, placeIn, Room, Wrote, Going}
 use Rattle.crmf.proofs.theorems.lines.WordFields.{inside-at as inside-field}
 use Rattle.crmf.proofs.theorems.lines.Fitting.{fitted, fit-order}
 use Rattle.crmf.proofs.theorems.rows.Writing.{length-written, wrote-none}
@@ -123,7 +123,7 @@ module _ (t : ℕ) where
     abbrev fit : Fit
     fit = c .fitting .given .0 .0
 
-    lent : Room (start .args .bytes .now) (start .args .spot .at) (start .args .bounds .end) (start .args .spot .row) (start .args .bounds .limit) (start .args .table .now) (start .args .out .now)
+    lent : Room (start .args .bytes .now) (start .args .spot .at) (start .args .bounds .end) (start .args .spot .row) (start .args .bounds .limit) (start .args .bounds .packed) (start .args .table .now) (start .args .out .now)
     lent = start .pre .1 .0
 
     fits : FitsAt (readAt (start .args .bytes .now) (start .args .spot .at) (start .args .bounds .end)) (start .args .spot .at) (start .args .spot .state) fit
@@ -199,9 +199,9 @@ module _ (t : ℕ) where
         λ k e.
             let starts : first .inside-of .result ≡ line k .inside = first .inside-of .ensures ∙ ap insideField e ∙ inside-field k in
             let none : rowless (line k .inside) ≡ true = ap rowless (sym starts) ∙ sym (c .before .rowless .ensures) ∙ c .if1 .taken in
-            subst (λ (l : List Row). Wrote l (a .numbers .next) (a .limit) (a .out .now) (a .numbers .next) (a .out .now))
+            subst (λ (l : List Row). Wrote (a .bounds .packed) l (a .numbers .next) (a .bounds .limit) (a .out .now) (a .numbers .next) (a .out .now))
             (sym (inner-none k (a .bytes .now) (a .fit .content) (a .fit .end) (a .numbers .next) (aroundInside (line k) (a .fit) (a .numbers)) none))
-            (wrote-none (a .numbers .next) (a .limit) (a .out .now)),
+            (wrote-none (a .bounds .packed) (a .numbers .next) (a .bounds .limit) (a .out .now)),
         omega (arith, begun .pre .1 .0 .few, begun .pre .1 .0 .order),
       )
 
@@ -226,7 +226,7 @@ module _ (t : ℕ) where
         λ k e.
             let starts : first .inside-of .result ≡ line k .inside = first .inside-of .ensures ∙ ap insideField e ∙ inside-field k in
             let some = inside-some (line k .inside) (ap rowless (sym starts) ∙ sym (above .before .before .before .rowless .ensures) ∙ above .before .before .if1 .left) in
-            held-rows k (a .bytes .now) (a .fit) (a .numbers) (a .limit) (a .out .now) (listed .last .1 .1 .1 .1 .1 .0) (listed .result) _ _ starts (above .row-above .ensures k e) some (listed .ensures .wrote),
+            held-rows (a .bounds .packed) k (a .bytes .now) (a .fit) (a .numbers) (a .bounds .limit) (a .out .now) (listed .last .1 .1 .1 .1 .1 .0) (listed .result) _ _ starts (above .row-above .ensures k e) some (listed .ensures .wrote),
         listed .ensures .few,
       )
 
@@ -237,7 +237,7 @@ module _ (t : ℕ) where
       record {
         these = [];
         split = refl;
-        wrote = wrote-none (a .start .row) (a .bounds .limit) (a .out .now);
+        wrote = wrote-none (a .bounds .packed) (a .start .row) (a .bounds .limit) (a .out .now);
         past = omega arith;
         within = begun .pre .1 .order;
         few = begun .pre .1 .few;
@@ -258,7 +258,7 @@ module _ (t : ℕ) where
             inside = l .inside;
             few = g .few;
             right = l .right;
-            room = subst (λ (out : List ℕ). width * a .bounds .limit ≤ length out) (sym (g .wrote .kept)) (rw (length-written (a .out .now) (a .start .row) (a .bounds .limit) (g .these) (l .room)) (l .room));
+            room = subst (λ (out : List ℕ). placeIn (a .bounds .packed) (a .bounds .limit) ≤ length out) (sym (g .wrote .kept)) (rw (length-written (a .bounds .packed) (a .out .now) (a .start .row) (a .bounds .limit) (l .room) (g .these)) (l .room));
           },
           c .before .if1 .taken,
         ),
@@ -280,7 +280,7 @@ module _ (t : ℕ) where
       let begun = looping .before .before .before in
       let a = begun .args in
       let g = looping .loop .inv in
-      ap length (g .wrote .kept) ∙ length-written (a .out .now) (a .start .row) (a .bounds .limit) (g .these) (begun .pre .1 .room)
+      ap length (g .wrote .kept) ∙ length-written (a .bounds .packed) (a .out .now) (a .start .row) (a .bounds .limit) (begun .pre .1 .room) (g .these)
 
   list-returns : list-lts.Need-returns list-calls list-at list.Post list-Inv-loop list-μ-loop
   list-returns c =
@@ -292,7 +292,7 @@ module _ (t : ℕ) where
       let all : g .these ≡ rowsAt (a .bytes .now) (a .start) (a .bounds .end) (a .around) =
       sym (g .split ∙ ap (λ (l : List Row). g .these ++ l) (shown-end (a .bytes .now) spot (a .bounds .end) (a .around) done) ∙ append-nil (g .these)) in
       record {
-        wrote = subst (λ (l : List Row). Wrote l (a .start .row) (a .bounds .limit) (a .out .now) (spot .row) (looping .loop .out)) all (g .wrote);
+        wrote = subst (λ (l : List Row). Wrote (a .bounds .packed) l (a .start .row) (a .bounds .limit) (a .out .now) (spot .row) (looping .loop .out)) all (g .wrote);
         few = omega (arith, g .few);
       }
 

@@ -46,8 +46,8 @@ returns c =
       λ k e.
           let rows : rowOf item ++ rowOf own ≡ ownRows (line k) (fitExtent (a .fit)) (a .row) (a .around) =
           ap₂ (λ (l m : List Row). l ++ m) (items .item-entry .ensures k e) (owns .own-entry .ensures k e) in
-          subst (λ (l : List Row). Wrote l (a .row) (a .limit) (a .out .now) (second .put2 .result) (second .put2 .last .1 .1 .1 .0)) rows
-          (wrote-two (a .out .now) (first .put .last .1 .1 .1 .0) _ (a .row) (first .put .result) _ (a .limit) _ _ (start .pre .2) (first .put .ensures) (second .put2 .ensures)),
+          subst (λ (l : List Row). Wrote (a .bounds .packed) l (a .row) (a .bounds .limit) (a .out .now) (second .put2 .result) (second .put2 .last .1 .1 .1 .0)) rows
+          (wrote-two (a .bounds .packed) (a .out .now) (first .put .last .1 .1 .1 .0) _ (a .row) (first .put .result) _ (a .bounds .limit) _ _ (start .pre .2) (first .put .ensures) (second .put2 .ensures)),
       omega (arith, second .put2 .ensures .next-row, first .put .ensures .next-row, one-at-most (item .kind) (entryExtent item) (item .parent), one-at-most (own .kind) (entryExtent own) (own .parent)),
     )
 

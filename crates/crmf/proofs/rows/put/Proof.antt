@@ -1,68 +1,36 @@
--- `crmf::rows::put` meets its contract: five stores are one row. Assumes nothing.
+-- `crmf::rows::put` meets its contract: one store of a packed row, or five, are one row. Assumes nothing.
 use borrow.Author.Needs.{needs}
+use Prim.Native.Nat.{ℕ, _+_}
 use native.Mathlib.Omega.{arith}
-use lib.ListN.{length-set}
-use Rattle.crmf.proofs.theorems.rows.Writing.{put-none, put-past, put-row}
+use mathlib.Core.Path.{sym, subst}
+use lib.ListN.{length-set, set}
+use Rattle.crmf.specs.steps.rows.Fill.{rowOf, Wrote}
+use Rattle.crmf.proofs.theorems.rows.Writing.{put-none, put-past, one-fits, five-fit, put-packed, put-row}
 use Rattle.crmf.proofs.rows.put.Statement.{statement}
 use Rattle.crmf.proofs.rows.put.Tie as tie
 
 returns : tie.Need-returns
 returns c =
-    let a = c .before .before .args in
-    put-none (a .out .now) (a .row) (a .limit) (a .new) (c .if1 .taken)
+    let a = c .before .before .before .args in
+    put-none (a .bounds .packed) (a .out .now) (a .row) (a .bounds .limit) (a .new) (c .if1 .taken)
 
 add-result : tie.Need-add-result
 add-result c = search needs
 
 returns-2 : tie.Need-returns-2
 returns-2 c =
-    let a = c .before .before .before .args in
-    put-past (a .out .now) (a .row) (a .limit) (a .new) (c .before .if1 .left) (c .if2 .taken)
+    let a = c .before .before .before .before .before .args in
+    put-past (a .bounds .packed) (a .out .now) (a .row) (a .bounds .limit) (a .new) (c .before .before .if1 .left) (c .if2 .taken)
 
-mul-at : tie.Need-mul-at
-mul-at c = search needs
+number-requires : tie.Need-number-requires
+number-requires c κs = search needs
 
 mul-out : tie.Need-mul-out
 mul-out c = search needs
 
 slice-write-out : tie.Need-slice-write-out
-slice-write-out c = search needs
-
-add-out : tie.Need-add-out
-add-out c = search needs
-
-mul-out-2 : tie.Need-mul-out-2
-mul-out-2 c = search needs
-
-slice-write-out-2 : tie.Need-slice-write-out-2
-slice-write-out-2 c = simp length-set (omega arith)
-
-add-out-2 : tie.Need-add-out-2
-add-out-2 c = search needs
-
-mul-out-3 : tie.Need-mul-out-3
-mul-out-3 c = search needs
-
-slice-write-out-3 : tie.Need-slice-write-out-3
-slice-write-out-3 c = simp length-set (omega arith)
-
-add-out-3 : tie.Need-add-out-3
-add-out-3 c = search needs
-
-mul-out-4 : tie.Need-mul-out-4
-mul-out-4 c = search needs
-
-slice-write-out-4 : tie.Need-slice-write-out-4
-slice-write-out-4 c = simp length-set (omega arith)
-
-add-out-4 : tie.Need-add-out-4
-add-out-4 c = search needs
-
-mul-out-5 : tie.Need-mul-out-5
-mul-out-5 c = search needs
-
-slice-write-out-5 : tie.Need-slice-write-out-5
-slice-write-out-5 c = simp length-set (omega arith)
+slice-write-out c =
+    one-fits (c .before .if3 .taken) (c .before .before .if2 .left) (c .before .before .before .before .before .before .before .pre .1)
 
 add-result-2 : tie.Need-add-result-2
 add-result-2 c = search needs
@@ -72,9 +40,69 @@ same-length c = search needs
 
 returns-3 : tie.Need-returns-3
 returns-3 c =
-    let start = c .before .before .before in
+    let fourth = c .before .before in
+    let start = fourth .before .before .before .before .before in
     let a = start .args in
-    put-row (a .out .now) (a .row) (a .limit) (a .new) (c .before .if1 .left) (c .if2 .left) (start .pre .1)
+    subst (λ (x : ℕ). Wrote (a .bounds .packed) (rowOf (a .new)) (a .row) (a .bounds .limit) (a .out .now) (a .row + 1) (set (a .out .now) (a .row) x)) (sym (c .number .ensures))
+    (put-packed (a .bounds .packed) (a .out .now) (a .row) (a .bounds .limit) (a .new) (fourth .before .before .if1 .left) (fourth .if2 .left) (start .pre .1) (c .before .if3 .taken))
+
+mul-at : tie.Need-mul-at
+mul-at c = search needs
+
+mul-out-2 : tie.Need-mul-out-2
+mul-out-2 c = search needs
+
+slice-write-out-2 : tie.Need-slice-write-out-2
+slice-write-out-2 c = omega (arith, five-fit (c .if3 .left) (c .before .if2 .left) (c .before .before .before .before .before .before .pre .1))
+
+add-out : tie.Need-add-out
+add-out c = search needs
+
+mul-out-3 : tie.Need-mul-out-3
+mul-out-3 c = search needs
+
+slice-write-out-3 : tie.Need-slice-write-out-3
+slice-write-out-3 c = simp length-set (omega (arith, five-fit (c .if3 .left) (c .before .if2 .left) (c .before .before .before .before .before .before .pre .1)))
+
+add-out-2 : tie.Need-add-out-2
+add-out-2 c = search needs
+
+mul-out-4 : tie.Need-mul-out-4
+mul-out-4 c = search needs
+
+slice-write-out-4 : tie.Need-slice-write-out-4
+slice-write-out-4 c = simp length-set (omega (arith, five-fit (c .if3 .left) (c .before .if2 .left) (c .before .before .before .before .before .before .pre .1)))
+
+add-out-3 : tie.Need-add-out-3
+add-out-3 c = search needs
+
+mul-out-5 : tie.Need-mul-out-5
+mul-out-5 c = search needs
+
+slice-write-out-5 : tie.Need-slice-write-out-5
+slice-write-out-5 c = simp length-set (omega (arith, five-fit (c .if3 .left) (c .before .if2 .left) (c .before .before .before .before .before .before .pre .1)))
+
+add-out-4 : tie.Need-add-out-4
+add-out-4 c = search needs
+
+mul-out-6 : tie.Need-mul-out-6
+mul-out-6 c = search needs
+
+slice-write-out-6 : tie.Need-slice-write-out-6
+slice-write-out-6 c = simp length-set (omega (arith, five-fit (c .if3 .left) (c .before .if2 .left) (c .before .before .before .before .before .before .pre .1)))
+
+add-result-3 : tie.Need-add-result-3
+add-result-3 c = search needs
+
+same-length-2 : tie.Need-same-length-2
+same-length-2 c = search needs
+
+returns-4 : tie.Need-returns-4
+returns-4 c =
+    let fourth = c .before in
+    let start = fourth .before .before .before .before .before in
+    let a = start .args in
+    put-row (a .bounds .packed) (a .out .now) (a .row) (a .bounds .limit) (a .new) (fourth .before .before .if1 .left) (fourth .if2 .left) (start .pre .1) (c .if3 .left)
 
 pub put-spec : {M : Type 1} → statement M
 put-spec =
@@ -83,21 +111,27 @@ put-spec =
     returns
     add-result
     returns-2
-    mul-at
+    number-requires
     mul-out
     slice-write-out
-    add-out
-    mul-out-2
-    slice-write-out-2
-    add-out-2
-    mul-out-3
-    slice-write-out-3
-    add-out-3
-    mul-out-4
-    slice-write-out-4
-    add-out-4
-    mul-out-5
-    slice-write-out-5
     add-result-2
     same-length
-    returns-3)
+    returns-3
+    mul-at
+    mul-out-2
+    slice-write-out-2
+    add-out
+    mul-out-3
+    slice-write-out-3
+    add-out-2
+    mul-out-4
+    slice-write-out-4
+    add-out-3
+    mul-out-5
+    slice-write-out-5
+    add-out-4
+    mul-out-6
+    slice-write-out-6
+    add-result-3
+    same-length-2
+    returns-4)

@@ -155,6 +155,12 @@ right-way b id i s ns n e there = right-content b n (go b e)
     go true w = refl
     go false w = all-getElem quiet n ns w i there
 
+-- What holds of a part with the parts after it, and of those alone, holds of the parts that may come after an element of the part.
+pub after-element : (P : Parts → Type 0) (o : Occurs) (fs : List Form) (ps : Parts) → P (part o fs then ps) → P ps → P (partsAfter o fs ps)
+after-element P once fs ps whole past = past
+after-element P optional fs ps whole past = past
+after-element P repeated fs ps whole past = whole
+
 -- What right parts say: of each form, of the parts after one, and of the parts after the first.
 pub record RightPart (b : Bool) (o : Occurs) (fs : List Form) (ps : Parts) : Type 0 where
   pub form : {f : Form} → OneOf f fs → Right b f
@@ -171,11 +177,6 @@ right-part b o fs ps e =
     record {
       form = λ {f} m. right-form b f (forms-at (rightForm b) m (one .0));
       late = not-true (early (partsAfter o fs ps)) (two .0);
-      after-form = again o e (two .1);
+      after-form = after-element (λ qs. right b qs ≡ true) o fs ps e (two .1);
       past = two .1;
     }
-  where
-    again : (p : Occurs) → right b (part p fs then ps) ≡ true → right b ps ≡ true → right b (partsAfter p fs ps) ≡ true
-    again once whole past = past
-    again optional whole past = past
-    again repeated whole past = whole

@@ -2,7 +2,7 @@
 -- at one that can be named. Assumes nothing.
 use Prim.Native.Nat.{ℕ, zero, suc}
 use mathlib.Core.Bool.{Bool, true, false, _&&_, _||_, and-eq-true-iff, false≢true}
-use mathlib.Core.List.{List, [], _∷_}
+use mathlib.Core.List.{List, [], _∷_, _++_}
 use mathlib.Core.Logic.{_⊎_, inl, inr, ⊎-elim}
 use mathlib.Core.Option.{some}
 use mathlib.Core.Path.{_≡_, refl}
@@ -27,7 +27,14 @@ module _ {A : Type 0} (f : A → Bool) where
   any [] = false
   any (x ∷ xs) = f x || any xs
 
-  all-getD : (d : A) → f d ≡ true → (xs : List A) → all xs ≡ true → (k : ℕ) → f (getD xs k d) ≡ true
+  -- and so it does at all entries of two lists
+  pub all-append : (xs ys : List A) → all xs ≡ true → all ys ≡ true → all (xs ++ ys) ≡ true
+  all-append [] ys e h = h
+  all-append (x ∷ xs) ys e h =
+      let p = and-eq-true-iff (f x) (all xs) .0 e in
+      and-eq-true-iff (f x) (all (xs ++ ys)) .1 (p .0, all-append xs ys (p .1) h)
+
+  pub all-getD : (d : A) → f d ≡ true → (xs : List A) → all xs ≡ true → (k : ℕ) → f (getD xs k d) ≡ true
   all-getD d z [] e k = z
   all-getD d z (x ∷ xs) e zero = and-eq-true-iff (f x) (all xs) .0 e .0
   all-getD d z (x ∷ xs) e (suc k) = all-getD d z xs (and-eq-true-iff (f x) (all xs) .0 e .1) k

@@ -177,7 +177,7 @@ module _ (inPlace : Bool) (draft s : List ℕ) (q : Spot) (end : ℕ) (some : q 
   rs = draftRows draft
 
   abbrev z : Bounds
-  z = record { end = end; limit = 0 }
+  z = record { end = end; limit = 0; packed = false }
 
   -- it fits no line: there is nothing to compare
   pub step-misfit : q .row ≤ 2 * q .at → findLine (q .state) (readAt s (q .at) end .identifier) ≡ Nowhere

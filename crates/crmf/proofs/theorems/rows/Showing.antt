@@ -23,7 +23,7 @@ use Rattle.crmf.specs.steps.grammar.Lines.{start, startsFrom}
 use Rattle.crmf.specs.steps.explain.Walk.{line, findLine}
 use Rattle.crmf.specs.steps.grammar.Fitting.{FitsAt}
 use Rattle.crmf.specs.meaning.Rows.{Row, Extent, extentOf, noExtent, rowIf, parentIf, width}
-use Rattle.crmf.specs.steps.rows.Fill.{goes, rowsFrom, aroundExtent, fitExtent, rowsAt, ownRows, rowAbove, innerRows, written, fits, rowsOfInput, filled, Wrote, Going, Shown, Inner, aroundInside}
+use Rattle.crmf.specs.steps.rows.Fill.{goes, rowsFrom, aroundExtent, fitExtent, rowsAt, ownRows, rowAbove, innerRows, placeIn, writtenIn, written, fits, rowsOfInput, filled, Wrote, Going, Shown, Inner, aroundInside}
 use Rattle.crmf.proofs.theorems.lines.Fitting.{fitted, fit-read, fit-order, fit-content}
 use Rattle.crmf.proofs.theorems.explain.Walking.{tree-read, found-constructed, at-end}
 use Rattle.crmf.proofs.theorems.rows.RowsOfLines.{rowsOne, rowsWithin, inner-no-rows, rows-nowhere, rows-found}
@@ -93,7 +93,7 @@ module _ (s : List ℕ) (q : Spot) (z : Bounds) (some : q .at < z .end) (fits : 
         going = record {
           these = [];
           split = misfit-rows f ∙ sym (shown-end s (record { state = q .state; at = z .end; row = q .row }) (z .end) a refl);
-          wrote = wrote-none (q .row) (z .limit) old;
+          wrote = wrote-none (z .packed) (q .row) (z .limit) old;
           past = omega arith;
           within = omega arith;
           few = omega arith;
@@ -168,17 +168,17 @@ module _ (s : List ℕ) (q : Spot) (z : Bounds) (some : q .at < z .end) (fits : 
 
     -- The rows of the element are written: its own, then those inside it.
     pub shown-step : (old mid new : List ℕ) (m b st : ℕ)
-        → Wrote (ownRows (line (h .number)) (fitExtent f) (q .row) a) (q .row) (z .limit) old m mid
-        → Inner (h .number) s f (record { up = a .up; row = q .row; next = m }) (z .limit) mid b new
+        → Wrote (z .packed) (ownRows (line (h .number)) (fitExtent f) (q .row) a) (q .row) (z .limit) old m mid
+        → Inner (z .packed) (h .number) s f (record { up = a .up; row = q .row; next = m }) (z .limit) mid b new
         → st ≡ goes (line (h .number) .judge) (line (h .number) .next) (slice (f .content) (f .end) s)
-        → width * z .limit ≤ length old → b ≤ 2 * f .end
+        → placeIn (z .packed) (z .limit) ≤ length old → b ≤ 2 * f .end
         → Shown s q z a old (record { state = st; at = f .end; row = b }) new
     shown-step old mid new m b st own inner onward room few =
         let order = fit-order s (q .at) (z .end) (q .state) f h some fits high in
-        let outer : Wrote own-of (q .row) (z .limit) old m mid =
-        subst (λ (p : ℕ). Wrote (ownRows (line n) (fitted-at p f) (q .row) a) (q .row) (z .limit) old m mid) (h .first) own in
-        let within-it : Wrote (inner-of m) m (z .limit) mid b new =
-        subst (λ (p : ℕ). Wrote (innerRows n s (f .content) (f .end) m (here n p f (q .row) a)) m (z .limit) mid b new) (h .first) inner in
+        let outer : Wrote (z .packed) own-of (q .row) (z .limit) old m mid =
+        subst (λ (p : ℕ). Wrote (z .packed) (ownRows (line n) (fitted-at p f) (q .row) a) (q .row) (z .limit) old m mid) (h .first) own in
+        let within-it : Wrote (z .packed) (inner-of m) m (z .limit) mid b new =
+        subst (λ (p : ℕ). Wrote (z .packed) (innerRows n s (f .content) (f .end) m (here n p f (q .row) a)) m (z .limit) mid b new) (h .first) inner in
         let i = q .row + length own-of in
         let same : inner-of m ≡ inner-of i = ap inner-of (outer .next-row) in
         let size = ap length same in
@@ -187,7 +187,7 @@ module _ (s : List ℕ) (q : Spot) (z : Bounds) (some : q .at < z .end) (fits : 
           going = record {
             these = own-of ++ inner-of m;
             split = shown-found ∙ ap₂ (λ (l r : List Row). (own-of ++ l) ++ r) (sym same) (ap₂ rest-of (sym onward) number);
-            wrote = wrote-two old mid new (q .row) m b (z .limit) own-of (inner-of m) room outer within-it;
+            wrote = wrote-two (z .packed) old mid new (q .row) m b (z .limit) own-of (inner-of m) room outer within-it;
             past = omega (arith, order .headed, order .ordered);
             within = order .within;
             few = few;
@@ -207,22 +207,22 @@ held-inner k s f m start above starts is some =
     rw (innerRows, ne-eqb _ _ some) in
     ap₂ rows starts is ∙ held
 
-pub held-rows : (k : ℕ) (s : List ℕ) (f : Fit) (m : Numbers) (limit : ℕ) (old new : List ℕ) (next start above : ℕ) → start ≡ line k .inside
+pub held-rows : (packed : Bool) (k : ℕ) (s : List ℕ) (f : Fit) (m : Numbers) (limit : ℕ) (old new : List ℕ) (next start above : ℕ) → start ≡ line k .inside
     → above ≡ rowAbove (line k) (m .row) (m .up) → (line k .inside ≡ 0 → ⊥)
-    → Wrote (rowsAt s (record { state = start; at = f .content; row = m .next }) (f .end) (record { up = above; place = f .first; whole = f .end - f .first; content = f .content })) (m .next) limit old next new
-    → Inner k s f m limit old next new
-held-rows k s f m limit old new next start above starts is some wrote =
-    subst (λ (l : List Row). Wrote l (m .next) limit old next new) (held-inner k s f m start above starts is some) wrote
+    → Wrote packed (rowsAt s (record { state = start; at = f .content; row = m .next }) (f .end) (record { up = above; place = f .first; whole = f .end - f .first; content = f .content })) (m .next) limit old next new
+    → Inner packed k s f m limit old next new
+held-rows packed k s f m limit old new next start above starts is some wrote =
+    subst (λ (l : List Row). Wrote packed l (m .next) limit old next new) (held-inner k s f m start above starts is some) wrote
 
 -- A step after rows that are written already.
-pub going-on : (s : List ℕ) (p : Spot) (z : Bounds) (a : Around) (old mid new : List ℕ) (q r : Spot) → width * z .limit ≤ length old
+pub going-on : (s : List ℕ) (p : Spot) (z : Bounds) (a : Around) (old mid new : List ℕ) (q r : Spot) → placeIn (z .packed) (z .limit) ≤ length old
     → Going s p z a old q mid → Going s q z a mid r new → Going s p z a old r new
 going-on s p z a old mid new q r room first then =
     record {
       these = first .these ++ then .these;
       split = first .split ∙ ap (λ (l : List Row). first .these ++ l) (then .split)
           ∙ sym (append-assoc (first .these) (then .these) (rowsAt s r (z .end) a));
-      wrote = wrote-two old mid new (p .row) (q .row) (r .row) (z .limit) (first .these) (then .these) room (first .wrote) (then .wrote);
+      wrote = wrote-two (z .packed) old mid new (p .row) (q .row) (r .row) (z .limit) (first .these) (then .these) room (first .wrote) (then .wrote);
       past = omega (arith, first .past, then .past);
       within = then .within;
       few = then .few;
@@ -239,20 +239,23 @@ module _ (s : List ℕ) where
   unfolding rowsOfInput start startsFrom order
   all-rows short = rw (rowsOfInput, le-leb _ _ short) (ap (λ (l : List ℕ). rowsFrom 1 (tree 0 l) 0 0 noExtent) (sym (take-length s)))
 
--- A table with no room, an input that is too long, and the rows of a whole input.
+-- They are written into a table of a layout: an input that is too long leaves it as it is, and otherwise the list's rows are the input's.
+module _ (s : List ℕ) (packed : Bool) (limit : ℕ) (old : List ℕ) where
+  pub walk-long : longest < length s → old ≡ writtenIn packed old 0 limit (rowsOfInput s)
+  walk-long long = wrote-none packed 0 limit old .kept ∙ ap (writtenIn packed old 0 limit) (sym (no-rows s long))
+
+  pub walk-rows : length s ≤ longest → (new : List ℕ)
+      → new ≡ writtenIn packed old 0 limit (rowsAt s (record { state = 1; at = 0; row = 0 }) (length s) (record { up = 0; place = 0; whole = 0; content = 0 }))
+      → new ≡ writtenIn packed old 0 limit (rowsOfInput s)
+  walk-rows short new e = e ∙ ap (writtenIn packed old 0 limit) (sym (all-rows s short))
+
+-- A table without room for a count of rows, and one with room.
 module _ (s : List ℕ) (count : ℕ) (old : List ℕ) where
   pub fill-short : length old < width * count → (false ≡ fits count old) × (old ≡ filled s count old)
   unfolding filled fits
   fill-short few = (rw (fits, lt-leb _ _ few), rw (filled, lt-leb _ _ few))
 
-  module _ (room : width * count ≤ length old) where
-    fill-all : (true ≡ fits count old) × (written old 0 count (rowsOfInput s) ≡ filled s count old)
-    unfolding filled fits
-    fill-all = (rw (fits, le-leb _ _ room), rw (filled, le-leb _ _ room))
-
-    pub fill-long : longest < length s → (true ≡ fits count old) × (old ≡ filled s count old)
-    fill-long long = (fill-all .0, wrote-none 0 count old .kept ∙ ap (written old 0 count) (sym (no-rows s long)) ∙ fill-all .1)
-
-    pub fill-rows : length s ≤ longest → (new : List ℕ) → new ≡ written old 0 count (rowsAt s (record { state = 1; at = 0; row = 0 }) (length s) (record { up = 0; place = 0; whole = 0; content = 0 }))
-        → (true ≡ fits count old) × (new ≡ filled s count old)
-    fill-rows short new e = (fill-all .0, e ∙ ap (written old 0 count) (sym (all-rows s short)) ∙ fill-all .1)
+  pub fill-whole : width * count ≤ length old → (new : List ℕ) → new ≡ written old 0 count (rowsOfInput s)
+      → (true ≡ fits count old) × (new ≡ filled s count old)
+  unfolding filled fits
+  fill-whole room new e = (rw (fits, le-leb _ _ room), e ∙ rw (filled, le-leb _ _ room))

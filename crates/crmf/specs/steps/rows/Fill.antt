@@ -21,9 +21,10 @@ use Rattle.crmf.specs.declared.grammar.table.FoundLine.the-variants.{At,
 use Rattle.crmf.specs.meaning.Value.{selected}
 use Rattle.crmf.specs.meaning.Notation.{among, Top, Time, AlgId, Spki, OneName, Extension}
 use Rattle.crmf.specs.steps.grammar.Lines.{Judge, keep, choose, Line, start}
-use Rattle.crmf.specs.steps.grammar.Packed.{packed}
+use Rattle.crmf.specs.steps.grammar.Packed.{packed as words}
 use Rattle.crmf.specs.steps.explain.Walk.{line, findLine, ways, rowsOfKind as rowsGiven}
-use Rattle.crmf.specs.meaning.Rows.{Row, Extent, extentOf, noExtent, rowIf, parentIf, width, numbers}
+use Rattle.crmf.specs.meaning.Rows.{Row, Extent, extentOf, noExtent, rowWith, rowIf, parentIf, width, numbers}
+use Rattle.crmf.specs.steps.rows.Packing.{packedRows}
 
 -- the line to go on with after an element whose value is known to keep its rule; as in the code, a value that selects no way would take the
 -- line after those of the ways
@@ -55,9 +56,21 @@ rowsFrom k (element id p w c inside rest) n up extent =
 unfoldable pub rowless : ℕ → Bool
 rowless k = among (0 ∷ start Time ∷ start AlgId ∷ start Spki ∷ start OneName ∷ start Extension ∷ []) k
 
--- Rows written into a table of numbers, the first as row n, as far as their numbers are below a limit.
+-- A table's layout: each row packed into one number, if it is packed, or its five numbers. The place of row n, which is as many numbers as n
+-- rows have, and the numbers of rows.
+abbrev pub placeIn : (packed : Bool) → ℕ → ℕ
+placeIn packed n = elim packed [ true ↦ n | false ↦ width * n ]
+
+abbrev pub numbersIn : (packed : Bool) → List Row → List ℕ
+numbersIn packed rs = elim packed [ true ↦ packedRows rs | false ↦ numbers rs ]
+
+-- Rows written into a table of a layout, the first as row n, as far as their numbers are below a limit.
+abbrev pub writtenIn : (packed : Bool) → List ℕ → ℕ → ℕ → List Row → List ℕ
+writtenIn packed old n limit rs = over old (placeIn packed n) (numbersIn packed (take (limit - n) rs))
+
+-- the same with five numbers a row
 abbrev pub written : List ℕ → ℕ → ℕ → List Row → List ℕ
-written old n limit rs = over old (width * n) (numbers (take (limit - n) rs))
+written = writtenIn false
 
 -- whether a table has room for a count of rows
 unfoldable pub fits : ℕ → List ℕ → Bool
@@ -72,14 +85,14 @@ unfoldable pub filled : List ℕ → ℕ → List ℕ → List ℕ
 filled s count old = elim (fits count old) [ true ↦ written old 0 count (rowsOfInput s) | false ↦ old ]
 
 -- What the inner functions are lent: a part of an input, the number of the next row, at most two for each byte before it, the lines, and a
--- table with room up to the limit.
-pub record Room (bytes : List ℕ) (at end row limit : ℕ) (lines out : List ℕ) : Type 0 where
+-- table of a layout with room up to the limit.
+pub record Room (bytes : List ℕ) (at end row limit : ℕ) (packed : Bool) (lines out : List ℕ) : Type 0 where
   pub short : length bytes ≤ longest
   pub order : at ≤ end
   pub inside : end ≤ length bytes
   pub few : row ≤ 2 * at
-  pub right : lines ≡ packed
-  pub room : width * limit ≤ length out
+  pub right : lines ≡ words
+  pub room : placeIn packed limit ≤ length out
 
 -- the extent of an entry, of the element around some rows, and of an element that fits a line
 abbrev pub entryExtent : Entry → Extent
@@ -96,18 +109,21 @@ abbrev pub rowsAt : List ℕ → Spot → ℕ → Around → List Row
 rowsAt bytes spot end around =
     rowsFrom (spot .state) (tree (spot .at) (slice (spot .at) end bytes)) (spot .row) (around .up) (aroundExtent around)
 
--- the row that an entry gives, if it has a kind
+-- the row that an entry has, and the one that it gives if it has a kind
+abbrev pub entryRow : Entry → Row
+entryRow new = rowWith (new .kind) (entryExtent new) (new .parent)
+
 abbrev pub rowOf : Entry → List Row
 rowOf new = rowIf (new .kind) (entryExtent new) (new .parent)
 
 -- Rows are written, and the number of the next row is the one after theirs.
-pub record Wrote (rs : List Row) (row limit : ℕ) (old : List ℕ) (next : ℕ) (new : List ℕ) : Type 0 where
+pub record Wrote (packed : Bool) (rs : List Row) (row limit : ℕ) (old : List ℕ) (next : ℕ) (new : List ℕ) : Type 0 where
   pub next-row : next ≡ row + length rs
-  pub kept : new ≡ written old row limit rs
+  pub kept : new ≡ writtenIn packed old row limit rs
 
 -- The rows of a list of elements are written.
 pub record Listed (bytes : List ℕ) (spot : Spot) (bounds : Bounds) (around : Around) (old : List ℕ) (next : ℕ) (new : List ℕ) : Type 0 where
-  pub wrote : Wrote (rowsAt bytes spot (bounds .end) around) (spot .row) (bounds .limit) old next new
+  pub wrote : Wrote (bounds .packed) (rowsAt bytes spot (bounds .end) around) (spot .row) (bounds .limit) old next new
   pub few : next ≤ 2 * bounds .end
 
 -- the rows that an element in a line's form gives by itself, and the number of the row above its inside
@@ -128,15 +144,15 @@ innerRows k bytes at end row around =
     elim (eqb (line k .inside) 0) [ true ↦ [] | false ↦ rowsAt bytes (record { state = line k .inside; at = at; row = row }) end around ]
 
 -- The rows inside an element in a line's form are written.
-abbrev pub Inner : ℕ → List ℕ → Fit → Numbers → ℕ → List ℕ → ℕ → List ℕ → Type 0
-Inner k bytes fit n limit old next new =
-    Wrote (innerRows k bytes (fit .content) (fit .end) (n .next) (aroundInside (line k) fit n)) (n .next) limit old next new
+abbrev pub Inner : Bool → ℕ → List ℕ → Fit → Numbers → ℕ → List ℕ → ℕ → List ℕ → Type 0
+Inner packed k bytes fit n limit old next new =
+    Wrote packed (innerRows k bytes (fit .content) (fit .end) (n .next) (aroundInside (line k) fit n)) (n .next) limit old next new
 
 -- Some rows of a list of elements are written, and the list goes on after them.
 pub record Going (bytes : List ℕ) (spot : Spot) (bounds : Bounds) (around : Around) (old : List ℕ) (r : Spot) (new : List ℕ) : Type 0 where
   pub these : List Row
   pub split : rowsAt bytes spot (bounds .end) around ≡ these ++ rowsAt bytes r (bounds .end) around
-  pub wrote : Wrote these (spot .row) (bounds .limit) old (r .row) new
+  pub wrote : Wrote (bounds .packed) these (spot .row) (bounds .limit) old (r .row) new
   pub past : spot .at ≤ r .at
   pub within : r .at ≤ bounds .end
   pub few : r .row ≤ 2 * r .at
