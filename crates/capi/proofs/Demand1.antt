@@ -11,6 +11,12 @@ use Rattle.writer.proofs.join.join.Statement as join
 use Rattle.writer.proofs.join.join.Met as join-met
 use Rattle.writer.proofs.cut.cut.Statement as cut
 use Rattle.writer.proofs.cut.cut.Met as cut-met
+use Rattle.compare.proofs.compare.compare.Statement as compare
+use Rattle.compare.proofs.compare.compare.Met as compare-met
+use Rattle.compare.proofs.part.find_part.Statement as find-part
+use Rattle.compare.proofs.part.find_part.Met as find-part-met
+use Rattle.compare.proofs.part.entry_part.Statement as entry-part
+use Rattle.compare.proofs.part.entry_part.Met as entry-part-met
 use Rattle.verdict.proofs.verdict.judge.Statement as judge
 use Rattle.verdict.proofs.verdict.judge.Met as judge-met
 use Rattle.verdict.proofs.verdict.signed_part.Statement as part
@@ -27,6 +33,10 @@ use Rattle.capi.proofs.phagundro_join.Statement as c-join
 use Rattle.capi.proofs.phagundro_join.Met as c-join-met
 use Rattle.capi.proofs.phagundro_cut.Statement as c-cut
 use Rattle.capi.proofs.phagundro_cut.Met as c-cut-met
+use Rattle.capi.proofs.phagundro_compare.Statement as c-compare
+use Rattle.capi.proofs.phagundro_compare.Met as c-compare-met
+use Rattle.capi.proofs.phagundro_compare_part.Statement as c-compare-part
+use Rattle.capi.proofs.phagundro_compare_part.Met as c-compare-part-met
 use Rattle.capi.proofs.phagundro_verdict.Statement as c-verdict
 use Rattle.capi.proofs.phagundro_verdict.Met as c-verdict-met
 use Rattle.capi.proofs.phagundro_verdict_number.Statement as c-number
@@ -53,6 +63,18 @@ joining = join-met.met
 -- Cutting a message out of a batch: `writer/src/cut.rt`, by `Cuts`.
 pub cutting : {M : Type 1} → cut.statement M
 cutting = cut-met.met
+
+-- Comparing two batches: `compare/src/compare.rt`, by `Compares`.
+pub comparing : {M : Type 1} → compare.statement M
+comparing = compare-met.met
+
+-- Finding an entry's part: `compare/src/part.rt`, by `Finds`.
+pub finding-part : {M : Type 1} → find-part.statement M
+finding-part = find-part-met.met
+
+-- Handing back an entry's part: `compare/src/part.rt`, by `HandsBack`.
+pub handing-part : {M : Type 1} → entry-part.statement M
+handing-part = entry-part-met.met
 
 -- Judging a message's proof: `verdict/src/verdict.rt`, by `Judges`.
 pub judging : {M : Type 1} → judge.statement M
@@ -81,6 +103,12 @@ c-joining = c-join-met.met
 
 pub c-cutting : {M : Type 1} → c-cut.statement M
 c-cutting = c-cut-met.met
+
+pub c-comparing : {M : Type 1} → c-compare.statement M
+c-comparing = c-compare-met.met
+
+pub c-finding-part : {M : Type 1} → c-compare-part.statement M
+c-finding-part = c-compare-part-met.met
 
 pub c-judging : {M : Type 1} → c-verdict.statement M
 c-judging = c-verdict-met.met

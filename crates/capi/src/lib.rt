@@ -1,16 +1,19 @@
 // The C calls; their manual is include/phagundro.h. A slice comes as a pointer and a length.
+use compare::part::Part;
 use crmf::messages::Position;
 use der::refusal::ACCEPTED;
+use editions::pair::PairAnswer;
 use editions::reader::Answer;
 use verdict::duplicates::Duplicates;
 use verdict::verdict::Verdict;
-use writer::join::PairAnswer;
 ghost use Rattle.editions.specs.meaning.Reads.{Reads};
 ghost use Rattle.writer.specs.meaning.Writes.{Writes};
 ghost use Rattle.writer.specs.meaning.Joins.{Joins};
 ghost use Rattle.writer.specs.meaning.Cuts.{Cuts};
 ghost use Rattle.verdict.specs.meaning.Judges.{Judges};
 ghost use Rattle.verdict.specs.meaning.Searches.{Searches};
+ghost use Rattle.compare.specs.meaning.Compares.{Compares};
+ghost use Rattle.compare.specs.meaning.Parts.{Finds};
 ghost use Rattle.capi.specs.OneNumber.{AcceptsBy, JudgesBy};
 
 // What is added to a refusal's number if a verdict may come back in the same number. Verdicts are at most 7 (`number-tells`).
@@ -102,4 +105,32 @@ pub extern "C" fn phagundro_cut(
     ensures { λ r. ⌜ Cuts edition (now (bytes .entry)) position (now (output .entry)) (r .number) (r .place) (r .count) (now (output .exit)) ⌝ }
 {
     writer::cut::cut(edition, bytes, Position(position), output)
+}
+
+// Compares two batches of an edition and answers the number of entries, with all of them in the list; or answers the refusal and whose it is, and
+// leaves the list as it was.
+#[no_mangle]
+pub extern "C" fn phagundro_compare(
+    edition: usize,
+    first: &[u8],
+    second: &[u8],
+    entries: &mut [i64],
+) -> PairAnswer
+    ensures { λ r. ⌜ Compares edition (now (first .entry)) (now (second .entry)) (now (entries .entry)) (r .number) (r .place) (r .file) (r .count) (now (entries .exit)) ⌝ }
+{
+    compare::compare::compare(edition, first, second, entries)
+}
+
+// Finds the part of one of two batches that an entry speaks of and answers whose it is, its place and its length; or answers the refusal and whose
+// it is.
+#[no_mangle]
+pub extern "C" fn phagundro_compare_part(
+    edition: usize,
+    first: &[u8],
+    second: &[u8],
+    entry: usize,
+) -> Part
+    ensures { λ r. ⌜ Finds edition (now (first .entry)) (now (second .entry)) entry (r .number) (r .place) (r .file) (r .from) (r .length) ⌝ }
+{
+    compare::part::find_part(edition, first, second, entry)
 }

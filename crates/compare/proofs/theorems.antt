@@ -1,0 +1,23 @@
+-- The theorems and laws about the definitions.
+pub mod Counting
+pub mod RowOrder
+pub mod Aligning
+pub mod OneCounterpart
+pub mod Members
+pub mod MergeSteps
+pub mod Merged
+pub mod Complete
+pub mod Ordered
+pub mod OneList
+pub mod Existing
+pub mod EmptyLists
+pub mod Batches
+pub mod Windows
+pub mod TableRows
+pub mod WalkSteps
+pub mod Gathering
+pub mod ReadNumbers
+pub mod Comparing
+pub mod Bounded
+pub mod TheList
+pub mod OneAnswer

@@ -1,0 +1,3 @@
+-- Comparing two batches, by the rows that they have.
+pub mod meaning
+pub mod steps

@@ -1,0 +1,26 @@
+-- A list of entries as it is written, from a number on and as far as there is room. Assumes nothing.
+use Prim.Native.Nat.{ℕ, _*_, _/_}
+use mathlib.Core.Path.{_≡_}
+use mathlib.Core.Bool.{Bool, true, false}
+use mathlib.Core.List.{List, [], _∷_, _++_}
+use lib.IntN.{ℤ, pos}
+use lib.ListN.{length, take, drop}
+use Rattle.compare.specs.meaning.Changes.{Change, entryNumbers, entry, entries}
+
+-- the entries from a number on that a list has room for
+abbrev pub kept : ℕ → List Change → List ℤ → List Change
+kept from cs old = take (length old / entryNumbers) (drop from cs)
+
+-- the list with these written into its first numbers
+abbrev pub window : ℕ → List Change → List ℤ → List ℤ
+window from cs old = entries (kept from cs old) ++ drop (entryNumbers * length (kept from cs old)) old
+
+-- Some entries are added to a list that has all those before them, `count` in number: whatever the list was at first, it has them too.
+abbrev pub Added : (from count : ℕ) → List Change → (old new : List ℤ) → Type 0
+Added from count cs old new =
+    (before : List Change) (base : List ℤ) → length before ≡ count → old ≡ window from before base → new ≡ window from (before ++ cs) base
+
+-- A test tells whether two lists of octets are the same.
+abbrev pub Tells : Bool → List ℕ → List ℕ → Type 0
+Tells true one two = one ≡ two
+Tells false one two = one ≡ two → ⊥
