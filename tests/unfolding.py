@@ -22,6 +22,7 @@ OPEN = {
     "der.meaning.Bounds": "document 01's bounds, which arithmetic compares with and counts down from",
     "der.meaning.Refusal": "document 01's numbers",
     "editions.meaning.Edition": "document 01's numbers",
+    "editions.meaning.TwoBatches": "the numbers that say whose refusal or part it is",
     "crmf.meaning.Kinds": "document 01's numbers",
     "crmf.meaning.Rows.width": "document 01's number, which arithmetic multiplies by",
     "crmf.meaning.Messages.proofs": "document 01's list of identifiers",
