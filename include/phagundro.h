@@ -1,4 +1,5 @@
-/* Phagundro reads, writes, judges, joins and cuts batches of certificate requests: CertReqMessages in DER, in one of two editions.
+/* Phagundro reads, writes, judges, joins, cuts and compares batches of certificate requests: CertReqMessages in DER, in one of two
+ * editions.
  *
  * This file is the manual of the C calls. The library keeps no state, allocates no memory and opens no file: a call looks at the bytes and
  * numbers that it is lent and returns its answer. Any bytes and any numbers may be given.
@@ -14,11 +15,11 @@
  *
  * What a caller owes, in every call:
  *   - a pointer points at as many bytes or numbers as the length, count or room beside it says; all of them can be read, and those of a
- *     table or an output can be written too;
+ *     table, an output or a list of entries can be written too;
  *   - NULL is passed only where the number beside it is 0;
- *   - the table or output that is written overlaps nothing that is read, and nothing else writes to any of them during the call;
+ *   - what is written overlaps nothing that is read, and nothing else writes to any of them during the call;
  *   - the stack has as many free bytes as PHAGUNDRO_STACK and the names after it say.
- * Several threads may call at once, on tables and outputs that do not overlap.
+ * Several threads may call at once, on tables, outputs and lists that do not overlap.
  *
  * Link with libphagundro.a, as it is named once installed, built for x86-64, which calls nothing outside itself but memset.
  * C11 and C++17.
@@ -37,18 +38,21 @@ extern "C" {
 
 /* Limits. */
 enum {
-    PHAGUNDRO_LONGEST   = 65535,                /* bytes of a batch, at most */
-    PHAGUNDRO_DEEPEST   = 20,                   /* the depth of an element, at most; the batch is at depth 1 */
-    PHAGUNDRO_MOST_ROWS = PHAGUNDRO_LONGEST / 2 /* rows of a batch: no batch has more */
+    PHAGUNDRO_LONGEST      = 65535,                  /* bytes of a batch, at most */
+    PHAGUNDRO_DEEPEST      = 20,                     /* the depth of an element, at most; the batch is at depth 1 */
+    PHAGUNDRO_MOST_ROWS    = PHAGUNDRO_LONGEST / 2,  /* rows of a batch: no batch has more */
+    PHAGUNDRO_MOST_ENTRIES = 2 * PHAGUNDRO_MOST_ROWS /* entries of a comparison: no two batches have more */
 };
 
-/* Bytes of stack that a call needs. A thread with 128 KB can make every call, if it writes only drafts of at most PHAGUNDRO_FEW_ROWS rows. */
+/* Bytes of stack that a call needs. A thread with 128 KB can make every call but the two that compare, if it writes only drafts of at most
+ * PHAGUNDRO_FEW_ROWS rows. */
 enum {
     PHAGUNDRO_STACK                = 16000,  /* each call but those of the next lines */
     PHAGUNDRO_STACK_DUPLICATES     = 80000,  /* phagundro_duplicates on a batch of more than PHAGUNDRO_FEW_MESSAGES messages */
     PHAGUNDRO_STACK_WRITE_SMALL    = 32000,  /* phagundro_write of a draft that describes a batch of at most PHAGUNDRO_SMALL_BATCH bytes */
     PHAGUNDRO_STACK_WRITE_FEW_ROWS = 120000, /* phagundro_write of any other draft of at most PHAGUNDRO_FEW_ROWS rows */
     PHAGUNDRO_STACK_WRITE          = 400000, /* phagundro_write of any draft */
+    PHAGUNDRO_STACK_COMPARE        = 600000, /* phagundro_compare and phagundro_compare_part */
     PHAGUNDRO_SMALL_BATCH          = 4096,
     PHAGUNDRO_FEW_ROWS             = 4096,
     PHAGUNDRO_FEW_MESSAGES         = 1024
@@ -70,6 +74,8 @@ enum {
  *     duplicates  those of reading without NO_ROOM
  *     joining     those of reading without NO_ROOM, for the first batch; the same for the second; TOO_LONG, for the join; NO_ROOM
  *     cutting     those of reading without NO_ROOM; NO_SUCH_MESSAGE; NO_ROOM
+ *     comparing   those of reading without NO_ROOM, for the first batch; the same for the second; NO_ROOM
+ *     its parts   those of reading without NO_ROOM, for the first batch; the same for the second; NO_SUCH_MESSAGE
  * Of several faults from TRUNCATED to TOO_DEEP the answer is the one that is decided first. A fault is decided at its element's first byte;
  * only the order of a SET's members is decided at the SET's last byte, after every fault inside it and before every fault after it. Of two
  * SETs that end together the inner one is decided first. Within one element the order is TOO_DEEP; TRUNCATED, if the identifier is missing;
@@ -86,10 +92,10 @@ enum {
     PHAGUNDRO_NOT_IN_GRAMMAR   = 8,  /* not in the grammar of either edition; the element at which reading in this edition stops */
     PHAGUNDRO_OTHER_EDITION    = 9,  /* not in this edition's grammar, but in the other's; the first element in a form of the other alone */
     PHAGUNDRO_LONG_CERT_REQ_ID = 10, /* a certReqId of more than 8 content octets; the first such */
-    PHAGUNDRO_NO_ROOM          = 11, /* the table is too short for the rows, or the output for the batch; place 0 */
+    PHAGUNDRO_NO_ROOM          = 11, /* the room is not enough for the rows, the batch or the entries; place 0 */
     PHAGUNDRO_NO_SUCH_BATCH    = 12, /* a draft describes no batch that is accepted in this edition; place 0 */
     PHAGUNDRO_UNKNOWN_EDITION  = 13, /* the edition is neither 1 nor 2; place 0 */
-    PHAGUNDRO_NO_SUCH_MESSAGE  = 14  /* the batch has no message at that position; place 0 */
+    PHAGUNDRO_NO_SUCH_MESSAGE  = 14  /* the batch has no message at that position, or the comparison no entry of that number; place 0 */
 };
 
 /* The answer of a reading, a writing or a cut. */
@@ -249,7 +255,7 @@ typedef struct {
  * several pairs it answers the one with the least later position, and of these the one with the least earlier. */
 phagundro_duplicate_answer phagundro_duplicates(size_t edition, const uint8_t *bytes, size_t length);
 
-/* Of the two batches of a call, the one that a refusal is about. */
+/* Of the two batches of a call, the one that a refusal is about, or that a part is of. */
 enum {
     PHAGUNDRO_FILE_NEITHER = 0, /* neither: both are accepted */
     PHAGUNDRO_FILE_FIRST   = 1, /* the first batch, or the edition */
@@ -261,7 +267,7 @@ typedef struct {
     size_t number; /* PHAGUNDRO_ACCEPTED, or the refusal */
     size_t place;  /* as said beside the number: an offset in the batch that `file` names */
     size_t file;   /* one of PHAGUNDRO_FILE_ .. */
-    size_t count;  /* the bytes of the batch that was written; 0 with a refusal */
+    size_t count;  /* the bytes of the batch that was written, or the entries that were listed; 0 with a refusal */
 } phagundro_pair_answer;
 
 /* Joins two batches of one edition: writes the batch that has the first's messages and then the second's, as they were sent. Messages with
@@ -295,6 +301,74 @@ phagundro_pair_answer phagundro_join(size_t edition, const uint8_t *first, size_
  *
  * Cutting at every position and joining what comes back, in order, gives the batch's bytes again. */
 phagundro_answer phagundro_cut(size_t edition, const uint8_t *bytes, size_t length, size_t position, uint8_t *output, size_t room);
+
+/* An entry: the numbers that a comparison has of each difference. A row is counted as phagundro_read shows it; row 0, the batch, is in no
+ * entry. */
+enum {
+    PHAGUNDRO_ENTRY_WHAT    = 0, /* what the difference is: one of the next three names */
+    PHAGUNDRO_ENTRY_FIRST   = 1, /* the field's row in the first batch; 0 where it has none */
+    PHAGUNDRO_ENTRY_SECOND  = 2, /* the field's row in the second batch; 0 where it has none */
+    PHAGUNDRO_ENTRY_NUMBERS = 3  /* the numbers of an entry */
+};
+
+/* What the difference of an entry is. */
+enum {
+    PHAGUNDRO_ONLY_FIRST    = 1, /* the field is in the first batch alone; if it is a container, with all that is below it */
+    PHAGUNDRO_ONLY_SECOND   = 2, /* the field is in the second batch alone, likewise */
+    PHAGUNDRO_LEAVES_DIFFER = 3  /* the field is a leaf of both batches, and its bytes differ */
+};
+
+/* Compares two batches of one edition: lists every difference between their fields, and is empty exactly when their bytes are equal. The
+ * two batches may overlap or be the same; the list overlaps neither.
+ *
+ *     static int64_t list[PHAGUNDRO_ENTRY_NUMBERS * PHAGUNDRO_MOST_ENTRIES];
+ *     phagundro_pair_answer answer = phagundro_compare(PHAGUNDRO_RFC4211, first, first_length, second, second_length, list,
+ *         PHAGUNDRO_ENTRY_NUMBERS * PHAGUNDRO_MOST_ENTRIES);
+ *     for (size_t i = 0; i < answer.count; i++) {
+ *         phagundro_part part = phagundro_compare_part(PHAGUNDRO_RFC4211, first, first_length, second, second_length, i);
+ *         const uint8_t *batch = part.file == PHAGUNDRO_FILE_FIRST ? first : second;
+ *         show(list[PHAGUNDRO_ENTRY_NUMBERS * i + PHAGUNDRO_ENTRY_WHAT], batch + part.from, part.length);
+ *     }
+ *
+ * The spot of a message in its batch, and of an item in controls or regInfo, is its position there. The spot of any other field is its
+ * kind, and which of that kind it is below its parent. A field's counterpart is the field of the same kind at the same spot below the
+ * counterpart of its parent; the two batches are each other's. So nothing is shifted: where a message was put in front, every message is
+ * compared with the one that has its position now. Items of different kinds at one position are no counterparts.
+ *
+ * A field whose parent has a counterpart and that has none itself is an entry; what is below it is none. A leaf that has a counterpart is
+ * an entry, together with it, exactly when their bytes differ. There are no other entries, so that no row is in two of them.
+ *
+ * The entries are in the order of one walk from the batch downwards, which goes through all that is below a field before it goes on: the
+ * messages of a batch, and the items of controls and of regInfo, by position; the children of any other field by the number of their kind,
+ * and those of one kind by position. At one spot the first batch's entry is before the second's.
+ *
+ * What phagundro_read would refuse of the first batch, given room, is refused with PHAGUNDRO_FILE_FIRST, and then what it would refuse of
+ * the second with PHAGUNDRO_FILE_SECOND. If both are accepted, the answer has PHAGUNDRO_FILE_NEITHER; it is PHAGUNDRO_NO_ROOM where the
+ * room is not enough.
+ *
+ * Accepted: the first PHAGUNDRO_ENTRY_NUMBERS times count numbers of the list are the entries, and the numbers after them are as they were.
+ * `room` counts numbers; the room is enough exactly when it is at least PHAGUNDRO_ENTRY_NUMBERS times count, and count is never more than
+ * PHAGUNDRO_MOST_ENTRIES, nor than the rows of both batches together. Refused: count is 0, and the whole list is as it was. */
+phagundro_pair_answer phagundro_compare(size_t edition, const uint8_t *first, size_t first_length, const uint8_t *second,
+    size_t second_length, int64_t *entries, size_t room);
+
+/* The answer of a call that hands back a part of one of two batches. With a refusal, from and length are 0. */
+typedef struct {
+    size_t number; /* PHAGUNDRO_ACCEPTED, or the refusal */
+    size_t place;  /* as said beside the number: an offset in the batch that `file` names */
+    size_t file;   /* one of PHAGUNDRO_FILE_ ..: with a refusal whose it is, else whose bytes the part is of */
+    size_t from;   /* the part is bytes[from .. from + length) of that batch, as it was lent: nothing is copied */
+    size_t length;
+} phagundro_part;
+
+/* Hands back the part of a batch that an entry of phagundro_compare speaks of, by the entry's number, counted from 0: the whole element of
+ * the field's row, in the first batch where the field is in both.
+ *
+ * What either batch is refused for is refused as in phagundro_compare. If both are accepted, the answer is PHAGUNDRO_NO_SUCH_MESSAGE, with
+ * PHAGUNDRO_FILE_NEITHER, where the comparison has no entry of that number. No list is lent, so it is never PHAGUNDRO_NO_ROOM, and nothing
+ * is written. Each call compares the batches again: a caller who wants many parts takes them from the rows of both batches. */
+phagundro_part phagundro_compare_part(size_t edition, const uint8_t *first, size_t first_length, const uint8_t *second,
+    size_t second_length, size_t entry);
 
 #ifdef __cplusplus
 }

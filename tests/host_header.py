@@ -9,12 +9,30 @@ import paper
 
 MEASURED = 200  # inputs on which the stack is measured; the longest, the deepest and those with the most rows are among them
 
+# What the header's examples leave to the caller, with document 01's S and a version of it; and what they show then
+CALLER = """
+static const uint8_t smallest[] = {0x30, 0x09, 0x30, 0x07, 0x30, 0x05, 0x02, 0x01, 0x00, 0x30, 0x00};
+static const uint8_t changed[] = {0x30, 0x09, 0x30, 0x07, 0x30, 0x05, 0x02, 0x01, 0x01, 0x30, 0x00};
+const uint8_t *bytes = smallest, *first = smallest, *second = changed;
+size_t length = sizeof smallest, first_length = sizeof smallest, second_length = sizeof changed;
+
+void show(size_t what, const uint8_t *part, size_t part_length)
+{
+    printf("%zu:", what);
+    for (size_t i = 0; i < part_length; i++)
+        printf(" %02X", part[i]);
+    putchar('\\n');
+}
+"""
+SHOWN = ["1: 30 07 30 05 02 01 00 30 00", "2: 30 05 02 01 00 30 00", "3: 02 01 00 30 00", "4: 00", "5:", "3: 02 01 00"]
+
 # The header's structs, with their members in order: each is a number
 STRUCTS = {
     "phagundro_answer": ["number", "place", "count"],
     "phagundro_verdict_answer": ["number", "place", "verdict", "from", "length"],
     "phagundro_duplicate_answer": ["number", "place", "found", "earlier", "later"],
     "phagundro_pair_answer": ["number", "place", "file", "count"],
+    "phagundro_part": ["number", "place", "file", "from", "length"],
 }
 
 # The header's calls, with what each answers and takes
@@ -27,6 +45,8 @@ CALLS = {
     "phagundro_duplicates": ("phagundro_duplicate_answer", "size_t, const uint8_t *, size_t"),
     "phagundro_join": ("phagundro_pair_answer", "size_t, const uint8_t *, size_t, const uint8_t *, size_t, uint8_t *, size_t"),
     "phagundro_cut": ("phagundro_answer", "size_t, const uint8_t *, size_t, size_t, uint8_t *, size_t"),
+    "phagundro_compare": ("phagundro_pair_answer", "size_t, const uint8_t *, size_t, const uint8_t *, size_t, int64_t *, size_t"),
+    "phagundro_compare_part": ("phagundro_part", "size_t, const uint8_t *, size_t, const uint8_t *, size_t, size_t"),
 }
 
 
@@ -39,11 +59,22 @@ def numbers():
     columns = ("KIND", "FIRST", "LENGTH", "PARENT", "CONTENT")
     found |= {f"PHAGUNDRO_ROW_{name}": column for column, name in enumerate(columns)}
     found |= {f"PHAGUNDRO_FILE_{name}": file for file, name in enumerate(("NEITHER", "FIRST", "SECOND"))}
+    found |= {f"PHAGUNDRO_ENTRY_{name}": column for column, name in enumerate(("WHAT", "FIRST", "SECOND", "NUMBERS"))}
+    found |= {f"PHAGUNDRO_{name}": what for what, name in enumerate(("ONLY_FIRST", "ONLY_SECOND", "LEAVES_DIFFER"), 1)}
     return found | {"PHAGUNDRO_ROW_NUMBERS": paper.ROW_NUMBERS, "PHAGUNDRO_LONGEST": paper.LONGEST, "PHAGUNDRO_DEEPEST": paper.DEEPEST}
 
 
+def examples():
+    """The header's examples as functions, and what they leave to the caller, as declared."""
+    blocks = re.findall(r"(?:^ \*     .*\n)+", host.HEADER.read_text(), re.MULTILINE)
+    found = [re.sub(r"^ \*", "", block, flags=re.MULTILINE) for block in blocks if "phagundro_" in block]
+    return ["extern const uint8_t *bytes, *first, *second;", "extern size_t length, first_length, second_length;",
+            "void show(size_t what, const uint8_t *part, size_t part_length);", "void examples(void);",
+            "void examples(void)", "{", *(f"{{\n{block}}}" for block in found), "}"]
+
+
 def user():
-    """A program that includes the header alone, and uses every call by the type that the manual gives."""
+    """A program that includes the header alone, has its examples and uses every call by the type that the manual gives."""
     lines = [f'#include "{host.HEADER}"', "#ifndef __cplusplus", "#define static_assert _Static_assert", "#endif"]
     for name, members in STRUCTS.items():
         lines.append(f'static_assert(sizeof({name}) == {len(members)} * sizeof(size_t), "numbers alone");')
@@ -52,7 +83,7 @@ def user():
     lines += [f'static_assert({name} == {number}, "{name}");' for name, number in numbers().items()]
     for name, (answer, taken) in CALLS.items():
         lines += [f"extern {answer} (*use_{name})({taken});", f"{answer} (*use_{name})({taken}) = {name};"]
-    return "\n".join(lines) + "\n"
+    return "\n".join(lines + examples()) + "\n"
 
 
 def misread(compiler, language):
@@ -61,14 +92,23 @@ def misread(compiler, language):
     return [] if ended.returncode == 0 else ended.stdout.splitlines() or [f"{compiler[0]} ended with status {ended.returncode}"]
 
 
+def other_examples():
+    """Where the header's examples, one after another, don't show what they should."""
+    lines = [f'#include "{host.HEADER}"', "#include <stdio.h>", *examples(), CALLER, "int main(void) { examples(); return 0; }"]
+    host.BUILT.mkdir(parents=True, exist_ok=True)
+    host.did([*host.C11, "-o", host.BUILT / "header_examples", "-x", "c", "-", "-x", "none", host.archive()], input="\n".join(lines))
+    shown = host.did([host.BUILT / "header_examples"]).splitlines()
+    return [] if shown == SHOWN else [f"the examples show {shown}"]
+
+
 def enumerators():
     """The header's constants, with the text of each value."""
     return dict(re.findall(r"(PHAGUNDRO_\w+) += ([^,}]*?),? *(?:/\*|\})", host.HEADER.read_text()))
 
 
 def other_names():
-    """Kinds, verdicts, columns and files of the header that the papers don't have."""
-    groups = re.compile(r"PHAGUNDRO_(KIND|VERDICT|ROW|FILE)_")
+    """Kinds, verdicts, columns, files and differences of the header that the papers don't have."""
+    groups = re.compile(r"PHAGUNDRO_(KIND|VERDICT|ROW|FILE|ENTRY|ONLY|LEAVES)_")
     return [f"the header has {name}" for name in enumerators()
             if groups.match(name) and name not in numbers() and name != "PHAGUNDRO_VERDICT_REFUSED"]
 
@@ -103,7 +143,8 @@ TESTS = [
         functools.partial(misread, host.C11, "c")),
     ("the header is C++17, its numbers are the papers', its structs are numbers in order and its calls have the types that it says",
         functools.partial(misread, host.CPP17, "c++")),
-    ("the header names no other kinds, verdicts, columns and files than the papers have", other_names),
+    ("the header's examples show the fields of a batch, and what has changed in it", other_examples),
+    ("the header names no other kinds, verdicts, columns, files and differences than the papers have", other_names),
     ("the archive has the header's calls, wants what the header says and keeps no state", other_symbols),
     ("the calls take no more stack than the header says", more_stack),
 ]
