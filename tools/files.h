@@ -20,6 +20,9 @@ typedef struct {
 /* Exit statuses. */
 enum { STATUS_ACCEPTED = 0, STATUS_REFUSED = 1, STATUS_TROUBLE = 2 };
 
+/* Those of a comparison, which are those of cmp and diff: what can't be compared is trouble. */
+enum { STATUS_SAME = 0, STATUS_DIFFERENT = 1, STATUS_NOT_COMPARED = 2 };
+
 /* Says what is wrong and ends the program with STATUS_TROUBLE. */
 _Noreturn void trouble(const char *form, ...) __attribute__((format(printf, 1, 2)));
 

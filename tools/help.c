@@ -17,12 +17,15 @@
 #define STATUS_HELP \
     "Exit status: 0 accepted, 1 refused, 2 usage or file trouble.\n"
 
+#define BATCHES_HEX_HELP \
+    "  --hex          the batches are written in hex digits, with or without white space between them\n"
+
 #define FAULTS_HELP \
     "Of several faults in the elements, the one that is decided first is shown. A fault is decided at its element's first byte;\n" \
     "only the order of a SET's members is decided at the SET's last byte.\n"
 
 const char general_help[] =
-    "phagundro: batches of certificate requests (CertReqMessages in DER), read, written, judged, joined and cut\n"
+    "phagundro: batches of certificate requests (CertReqMessages in DER), read, written, judged, joined, cut and compared\n"
     "\n"
     "  phagundro read       --edition N [--hex] [--numbers | --json] [FILE]\n"
     "  phagundro write      --edition N [--hex] [--output FILE] ROWS SLICE\n"
@@ -32,10 +35,12 @@ const char general_help[] =
     "  phagundro join       --edition N [--hex] [--output FILE] FILE FILE..\n"
     "  phagundro cut        --edition N --position P [--output FILE] [--hex] [FILE]\n"
     "  phagundro cut        --edition N --all --output-dir DIR [--hex] [FILE]\n"
+    "  phagundro compare    --edition N [--hex] [--json] FIRST SECOND\n"
     "  phagundro COMMAND --help\n"
     "  phagundro --help\n"
     "  phagundro --version\n"
-    "\n" STATUS_HELP;
+    "\n" STATUS_HELP
+    "Of compare: 0 the same bytes, 1 different, 2 refused, or usage or file trouble.\n";
 
 const char read_help[] =
     "phagundro read --edition N [--hex] [--numbers | --json] [FILE]\n"
@@ -90,8 +95,7 @@ const char join_help[] =
     "\n"
     "Joins batches into one that has the messages of the first FILE, then those of the next, and so on. There may be any number of\n"
     "FILEs from two on. Each is a batch in DER, and one of them may be -, standard input.\n"
-    "  --hex          the batches are written in hex digits, with or without white space between them\n"
-    EDITION_HELP OUTPUT_HELP STATUS_HELP
+    BATCHES_HEX_HELP EDITION_HELP OUTPUT_HELP STATUS_HELP
     "After a refusal nothing is written. The FILEs are joined from the left, and the first refusal on the way is shown, with the FILE\n"
     "that it is about; or the join up to a FILE is refused with number 1, since it would be longer than 65,535 bytes.\n"
     "Messages with the same certReqId are joined too; duplicates finds them.\n";
@@ -109,3 +113,15 @@ const char cut_help[] =
     "                 and other files of DIR are left alone.\n"
     STATUS_HELP
     "After a refusal nothing is written. Joining the files of --all in the order of their names gives the batch again.\n";
+
+const char compare_help[] =
+    "phagundro compare --edition N [--hex] [--json] FIRST SECOND\n"
+    "\n"
+    "Compares two batches and shows every field that only one of them has, and every field of both whose bytes differ. Each is a batch\n"
+    "in DER, and one of them may be -, standard input. A message, a control, an item of regInfo and an extension is compared with the\n"
+    "one at the same position. A field is a line with its path from the message down. For one that differs, a line for each file has\n"
+    "its place and its text, and below it are the bytes around the first that differs, which is in brackets.\n"
+    BATCHES_HEX_HELP EDITION_HELP
+    "  --json         the answer and the entries as JSON\n"
+    "Exit status: 0 the same bytes, 1 different, 2 refused, or usage or file trouble.\n"
+    "A refusal is shown with the file that it is about: FIRST, or SECOND if FIRST is accepted.\n";

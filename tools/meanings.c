@@ -18,10 +18,10 @@ static const struct {
     [PHAGUNDRO_NOT_IN_GRAMMAR] = {"not in the grammar of either edition", true},
     [PHAGUNDRO_OTHER_EDITION] = {"not in this edition's grammar, but in the other's", true},
     [PHAGUNDRO_LONG_CERT_REQ_ID] = {"a certReqId of more than 8 content octets", true},
-    [PHAGUNDRO_NO_ROOM] = {"the table is too short for the rows, or the output for the batch", false},
+    [PHAGUNDRO_NO_ROOM] = {"the room is not enough for the rows, the batch or the entries", false},
     [PHAGUNDRO_NO_SUCH_BATCH] = {"a draft describes no batch that is accepted in this edition", false},
     [PHAGUNDRO_UNKNOWN_EDITION] = {"the edition is neither 1 nor 2", false},
-    [PHAGUNDRO_NO_SUCH_MESSAGE] = {"the batch has no message at that position", false},
+    [PHAGUNDRO_NO_SUCH_MESSAGE] = {"the batch has no message at that position, or the comparison no entry of that number", false},
 };
 
 static const char *const verdicts[] = {
@@ -33,6 +33,12 @@ static const char *const verdicts[] = {
     [PHAGUNDRO_VERDICT_KEY_ENCIPHERMENT] = "keyEncipherment with another choice than 82",
     [PHAGUNDRO_VERDICT_KEY_AGREEMENT] = "keyAgreement with another choice than 82, or with it and both subject and publicKey",
     [PHAGUNDRO_VERDICT_MISPLACED_DH_MAC] = "choice 82 under keyEncipherment, or without both subject and publicKey",
+};
+
+static const char *const differences[] = {
+    [PHAGUNDRO_ONLY_FIRST] = "only in the first",
+    [PHAGUNDRO_ONLY_SECOND] = "only in the second",
+    [PHAGUNDRO_LEAVES_DIFFER] = "differs",
 };
 
 static const char *const kinds[] = {
@@ -96,6 +102,11 @@ bool has_place(size_t number)
 const char *verdict_of(size_t verdict)
 {
     return verdict < LENGTH(verdicts) ? verdicts[verdict] : "unknown";
+}
+
+const char *difference_of(size_t what)
+{
+    return what < LENGTH(differences) && differences[what] != NULL ? differences[what] : "unknown";
 }
 
 const char *kind_name(size_t kind)

@@ -1,4 +1,4 @@
-/* What the numbers say: the answers, the verdicts, the row kinds and the editions. */
+/* What the numbers say: the answers, the verdicts, the differences, the row kinds and the editions. */
 #ifndef MEANINGS_H
 #define MEANINGS_H
 
@@ -13,6 +13,9 @@ bool has_place(size_t number);
 
 /* The meaning of a verdict. */
 const char *verdict_of(size_t verdict);
+
+/* What an entry of a comparison says of its field. */
+const char *difference_of(size_t what);
 
 /* The name of a row kind. */
 const char *kind_name(size_t kind);

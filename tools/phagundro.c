@@ -1,5 +1,6 @@
 /* The command line tool: each command hands its files to a call of the library and shows the answer. */
 #include "../include/phagundro.h"
+#include "compare.h"
 #include "files.h"
 #include "help.h"
 #include "meanings.h"
@@ -12,13 +13,15 @@
 
 enum {
     MOST_INPUT = PHAGUNDRO_LONGEST + 1, /* one byte more than a batch may have, so that what is longer is refused and not cut short */
-    MOST_NUMBERS = PHAGUNDRO_ROW_NUMBERS * PHAGUNDRO_MOST_ROWS
+    MOST_NUMBERS = PHAGUNDRO_ROW_NUMBERS * PHAGUNDRO_MOST_ROWS,
+    MOST_ENTRY_NUMBERS = PHAGUNDRO_ENTRY_NUMBERS * PHAGUNDRO_MOST_ENTRIES
 };
 
 enum { OLD_ROW_NUMBERS = 4 }; /* numbers of a row in version 0.1, which had no content's first byte */
 
 static size_t table[MOST_NUMBERS];
 static uint8_t output[PHAGUNDRO_LONGEST];
+static int64_t entries[MOST_ENTRY_NUMBERS];
 
 static octets batch_in(const options *given, const char *name)
 {
@@ -204,13 +207,13 @@ static int editions_command(const options *given)
     return status;
 }
 
-/* Shows why a file is not joined to those before it: one of the two batches is refused, or the join. */
-static void show_join_refusal(const options *given, size_t next, phagundro_pair_answer answer, octets joined, octets batch)
+/* Shows which of two batches is refused, the second of which is that of the file `next`, or that their join is. */
+static void show_pair_refusal(const options *given, size_t next, phagundro_pair_answer answer, octets first, octets second)
 {
-    bool first = answer.file == PHAGUNDRO_FILE_FIRST;
+    bool is_first = answer.file == PHAGUNDRO_FILE_FIRST;
     fprintf(stderr, "%s%s: ", answer.file == PHAGUNDRO_FILE_NEITHER ? "the join up to " : "",
-        shown_name(given->files[first ? next - 1 : next]));
-    show_refusal(stderr, given->edition, answer.number, answer.place, first ? joined : batch);
+        shown_name(given->files[is_first ? next - 1 : next]));
+    show_refusal(stderr, given->edition, answer.number, answer.place, is_first ? first : second);
 }
 
 static int join_command(const options *given)
@@ -228,7 +231,7 @@ static int join_command(const options *given)
         if (number == PHAGUNDRO_ACCEPTED)
             replace_octets(&joined, output, answer.count);
         else
-            show_join_refusal(given, next, answer, joined, batch);
+            show_pair_refusal(given, next, answer, joined, batch);
         free(batch.bytes);
     }
     if (number == PHAGUNDRO_ACCEPTED)
@@ -271,6 +274,35 @@ static int cut_command(const options *given)
     return status_of(answer.number);
 }
 
+static void json_compared(const comparison *of, phagundro_pair_answer answer)
+{
+    putchar('{');
+    json_answer(of->edition, answer.number, answer.place);
+    printf(", \"file\": %zu, \"count\": %zu, \"entries\": ", answer.file, answer.count);
+    json_entries(of);
+    puts("}");
+}
+
+static int compare_command(const options *given)
+{
+    if (given->count < SIDES)
+        trouble("compare: two files are needed");
+    check_standard_input(given, "compare");
+    octets first = batch_in(given, given->files[FIRST]), second = batch_in(given, given->files[SECOND]);
+    phagundro_pair_answer answer = phagundro_compare(given->edition, first.bytes, first.length, second.bytes, second.length, entries,
+        MOST_ENTRY_NUMBERS);
+    comparison of = {given->edition, {given->files[FIRST], given->files[SECOND]}, {first, second}, entries, answer.count};
+    if (given->given & JSON)
+        json_compared(&of, answer);
+    else if (answer.number != PHAGUNDRO_ACCEPTED)
+        show_pair_refusal(given, SECOND, answer, first, second);
+    else
+        show_comparison(&of);
+    free(first.bytes);
+    free(second.bytes);
+    return answer.number != PHAGUNDRO_ACCEPTED ? STATUS_NOT_COMPARED : answer.count > 0 ? STATUS_DIFFERENT : STATUS_SAME;
+}
+
 static const struct {
     const char *name;
     int (*run)(const options *given);
@@ -285,6 +317,7 @@ static const struct {
     {"editions", editions_command, editions_help, HEX | JSON, 0, 1},
     {"join", join_command, join_help, EDITION | HEX | OUTPUT, EDITION, SIZE_MAX},
     {"cut", cut_command, cut_help, EDITION | HEX | POSITION | OUTPUT | ALL | OUTPUT_DIR, EDITION, 1},
+    {"compare", compare_command, compare_help, EDITION | HEX | JSON, EDITION, SIDES},
 };
 
 enum { COMMANDS = sizeof commands / sizeof *commands };

@@ -1,12 +1,14 @@
 /* Answers shown. Places and lengths are decimal, as in the rows; bytes are hex. */
 #include "show.h"
 
+#include "elements.h"
 #include "meanings.h"
+
+#include <inttypes.h>
 
 enum { LINE = 16 }; /* bytes in a line */
 
-/* A line of bytes, with brackets around the place. */
-static void show_line(FILE *out, size_t start, size_t place, octets batch)
+void show_line(FILE *out, size_t start, size_t place, octets batch)
 {
     fprintf(out, "%8zu ", start);
     for (size_t at = start; at < start + LINE && at < batch.length; at++)
@@ -42,7 +44,7 @@ void show_count(size_t edition, size_t count)
     printf("edition %zu%s: accepted, %zu rows\n", edition, edition_name(edition), count);
 }
 
-static const size_t *row_of(const size_t *table, size_t row)
+const size_t *row_of(const size_t *table, size_t row)
 {
     return table + PHAGUNDRO_ROW_NUMBERS * row;
 }
@@ -56,14 +58,11 @@ static size_t depth_of(const size_t *table, size_t row)
     return depth;
 }
 
-/* The signed whole number of a certReqId's row; it has from 1 to 8 content octets. */
-static long long id_of(const size_t *row, octets batch)
+/* The number of a certReqId's row; it has from 1 to 8 content octets. */
+static int64_t id_of(const size_t *row, octets batch)
 {
-    size_t at = row[PHAGUNDRO_ROW_CONTENT], end = row[PHAGUNDRO_ROW_FIRST] + row[PHAGUNDRO_ROW_LENGTH];
-    uint64_t value = batch.bytes[at] & 0x80 ? UINT64_MAX : 0;
-    for (; at < end; at++)
-        value = value << 8 | batch.bytes[at];
-    return (long long)value;
+    size_t header = row[PHAGUNDRO_ROW_CONTENT] - row[PHAGUNDRO_ROW_FIRST];
+    return signed_number((span){batch.bytes + row[PHAGUNDRO_ROW_CONTENT], row[PHAGUNDRO_ROW_LENGTH] - header});
 }
 
 void show_tree(size_t edition, const size_t *table, size_t count, octets batch)
@@ -79,7 +78,7 @@ void show_tree(size_t edition, const size_t *table, size_t count, octets batch)
         if (row[PHAGUNDRO_ROW_KIND] == PHAGUNDRO_KIND_MESSAGE)
             printf(" at position %zu", position++);
         if (row[PHAGUNDRO_ROW_KIND] == PHAGUNDRO_KIND_CERT_REQ_ID)
-            printf(" %lld", id_of(row, batch));
+            printf(" %" PRId64, id_of(row, batch));
         putchar('\n');
     }
 }
@@ -94,6 +93,24 @@ void show_numbers(const size_t *table, size_t count)
 void json_answer(size_t edition, size_t number, size_t place)
 {
     printf("\"edition\": %zu, \"number\": %zu, \"meaning\": \"%s\", \"place\": %zu", edition, number, meaning_of(number), place);
+}
+
+void json_string(const char *words)
+{
+    putchar('"');
+    for (; *words != '\0'; words++) {
+        if (*words == '"' || *words == '\\')
+            putchar('\\');
+        putchar(*words);
+    }
+    putchar('"');
+}
+
+void json_line(size_t start, octets batch)
+{
+    for (size_t at = start; at < start + LINE && at < batch.length; at++)
+        printf("%s%02X", at == start ? "\"" : " ", batch.bytes[at]);
+    putchar('"');
 }
 
 void json_rows(const size_t *table, size_t count)

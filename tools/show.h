@@ -7,6 +7,12 @@
 
 #include <stdio.h>
 
+/* A row of a table. */
+const size_t *row_of(const size_t *table, size_t row);
+
+/* Shows a line of bytes, at most 16 from the start on, with brackets around the place. */
+void show_line(FILE *out, size_t start, size_t place, octets batch);
+
 /* Shows a refusal in words, and the bytes around its place. */
 void show_refusal(FILE *out, size_t edition, size_t number, size_t place, octets batch);
 
@@ -21,6 +27,12 @@ void show_numbers(const size_t *table, size_t count);
 
 /* Shows the members of a JSON object that every answer has: edition, number, meaning and place. */
 void json_answer(size_t edition, size_t number, size_t place);
+
+/* Shows words in which no control character is, as a JSON string. */
+void json_string(const char *words);
+
+/* Shows the bytes of such a line as a JSON string of hex digits; there is at least one. */
+void json_line(size_t start, octets batch);
 
 /* Shows the rows as a JSON array of objects. */
 void json_rows(const size_t *table, size_t count);
