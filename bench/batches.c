@@ -17,6 +17,9 @@ static const struct {
     {"read / strict walk", READ, STRICT},
     {"join / accepting both, memcpy", JOIN, ACCEPT_BOTH},
     {"cut / accept", CUT, ACCEPT},
+    {"compare / reading both", COMPARE, READ_BOTH},
+    {"compare, same bytes / reading both", COMPARE_SAME, READ_BOTH},
+    {"compare_part / reading both", COMPARE_PART, READ_BOTH},
 };
 
 static figures inputs[MOST_INPUTS];

@@ -17,6 +17,7 @@ static _Alignas(PAGE) uint8_t moved[1 + PHAGUNDRO_LONGEST];
 static _Alignas(PAGE) uint8_t lent[PAGE / 2 + PHAGUNDRO_LONGEST];
 static uint8_t *const output = lent + PAGE / 2;
 static size_t table[MOST_NUMBERS], moved_rows[MOST_NUMBERS];
+static int64_t entries[PHAGUNDRO_ENTRY_NUMBERS * PHAGUNDRO_MOST_ENTRIES];
 
 static bool copy(const uint8_t *bytes, size_t length)
 {
@@ -55,9 +56,14 @@ static bool do_accept(void)
     return accepts(now.bytes, now.length);
 }
 
+static bool reads(const uint8_t *bytes, size_t length)
+{
+    return phagundro_read(EDITION, bytes, length, table, MOST_NUMBERS).number == PHAGUNDRO_ACCEPTED;
+}
+
 static bool do_read(void)
 {
-    return phagundro_read(EDITION, now.bytes, now.length, table, MOST_NUMBERS).number == PHAGUNDRO_ACCEPTED;
+    return reads(now.bytes, now.length);
 }
 
 static bool do_cleared_read(void)
@@ -110,6 +116,36 @@ static bool do_cut(void)
     return phagundro_cut(EDITION, now.bytes, now.length, apart.position, output, PHAGUNDRO_LONGEST).count == apart.message.length;
 }
 
+// What comparing is measured by: it has to find the fields of both.
+static bool do_read_both(void)
+{
+    return reads(now.bytes, now.length) && reads(apart.changed.bytes, apart.changed.length);
+}
+
+static phagundro_pair_answer compared_with(const uint8_t *bytes)
+{
+    return phagundro_compare(EDITION, now.bytes, now.length, bytes, now.length, entries, sizeof entries / sizeof *entries);
+}
+
+static bool do_compare(void)
+{
+    return compared_with(apart.changed.bytes).count == 1 && entries[PHAGUNDRO_ENTRY_WHAT] == PHAGUNDRO_LEAVES_DIFFER
+        && entries[PHAGUNDRO_ENTRY_FIRST] == (int64_t)apart.changed_row && entries[PHAGUNDRO_ENTRY_SECOND] == (int64_t)apart.changed_row;
+}
+
+static bool do_compare_same(void)
+{
+    phagundro_pair_answer answer = compared_with(now.bytes);
+    return answer.number == PHAGUNDRO_ACCEPTED && answer.count == 0;
+}
+
+static bool do_compare_part(void)
+{
+    const size_t *changed = row_of(&now, apart.changed_row);
+    phagundro_part part = phagundro_compare_part(EDITION, now.bytes, now.length, apart.changed.bytes, apart.changed.length, 0);
+    return part.file == PHAGUNDRO_FILE_FIRST && part.from == changed[PHAGUNDRO_ROW_FIRST] && part.length == changed[PHAGUNDRO_ROW_LENGTH];
+}
+
 static bool do_openssl(void)
 {
     return openssl_decode(now.bytes, now.length);
@@ -131,6 +167,10 @@ static subject subjects[CALLS] = {
     [ACCEPT_BOTH] = {"accepting both, memcpy", do_accept_both},
     [JOIN] = {"phagundro_join", do_join},
     [CUT] = {"phagundro_cut", do_cut},
+    [READ_BOTH] = {"reading both", do_read_both},
+    [COMPARE] = {"phagundro_compare", do_compare},
+    [COMPARE_SAME] = {"phagundro_compare, same bytes", do_compare_same},
+    [COMPARE_PART] = {"phagundro_compare_part", do_compare_part},
     [OPENSSL] = {"OpenSSL", do_openssl},
 };
 

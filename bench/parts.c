@@ -1,4 +1,4 @@
-// Takes batches apart by their rows, and puts headers around the parts.
+// Takes batches apart by their rows, and puts headers around the parts; and changes an octet of a batch.
 #include "parts.h"
 #include "encoding.h"
 #include "rounds.h"
@@ -8,12 +8,12 @@
 static const uint8_t smallest[] = {0x30, 0x09, 0x30, 0x07, 0x30, 0x05, 0x02, 0x01, 0x00, 0x30, 0x00};
 enum { SMALLEST_HEADER = 2 };
 
-static const size_t *message_at(const input *of, size_t position)
+static size_t message_at(const input *of, size_t position)
 {
     size_t row = 1;
     for (; position > 0 || row_of(of, row)[PHAGUNDRO_ROW_KIND] != PHAGUNDRO_KIND_MESSAGE; row++)
         position -= row_of(of, row)[PHAGUNDRO_ROW_KIND] == PHAGUNDRO_KIND_MESSAGE;
-    return row_of(of, row);
+    return row;
 }
 
 // The batch with these messages, which are one after another.
@@ -53,12 +53,24 @@ static void take_one(const input *of, parts *taken)
     taken->join.length = take_encoding(taken->join.bytes);
 }
 
+// Changes the certReqId of a message, which is the first leaf below it.
+static void change_id(const input *of, size_t message, parts *taken)
+{
+    size_t row = message;
+    while (row_of(of, row)[PHAGUNDRO_ROW_KIND] != PHAGUNDRO_KIND_CERT_REQ_ID)
+        row++;
+    taken->changed_row = row;
+    copy_batch(of->bytes, of->length, &taken->changed);
+    taken->changed.bytes[row_of(of, row)[PHAGUNDRO_ROW_FIRST] + row_of(of, row)[PHAGUNDRO_ROW_LENGTH] - 1] ^= 1;
+}
+
 void take_parts(const input *of, parts *taken)
 {
     taken->position = of->messages / 2;
-    const size_t *message = message_at(of, taken->position);
-    size_t middle = message[PHAGUNDRO_ROW_FIRST];
-    make_batch(of->bytes + middle, message[PHAGUNDRO_ROW_LENGTH], &taken->message);
+    size_t row = message_at(of, taken->position);
+    size_t middle = row_of(of, row)[PHAGUNDRO_ROW_FIRST];
+    make_batch(of->bytes + middle, row_of(of, row)[PHAGUNDRO_ROW_LENGTH], &taken->message);
+    change_id(of, row, taken);
     if (of->messages > 1)
         take_halves(of, middle, taken);
     else
