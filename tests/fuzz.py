@@ -1,9 +1,9 @@
 """The fuzz target of fuzz/, built with clang's libFuzzer and run for a while on mutations of the corpus and of the tables' batches.
 
 What it can find is shown by planted faults, which it meets at its starts. In 20 s it doesn't find OWN_IDS, which needs a carried certReqId
-of 9 octets; nor can it find BYTE_OF_MESSAGES and BYTE_OF_POSITIONS, which need more messages than its inputs have, nor the faults about
-drafts and about joins that are too long. The comparisons of host_reading.py, host_writing.py, host_verdict.py and host_joining.py find all
-of these.
+of 9 octets; nor can it find BYTE_OF_MESSAGES, BYTE_OF_POSITIONS and BYTE_OF_ENTRIES, which need more messages or entries than its inputs
+have, nor the faults about drafts and about joins that are too long. The comparisons of host_reading.py, host_writing.py, host_verdict.py,
+host_joining.py and host_changes.py find all of these. Of the faults in what changed it is tried on one of each sort.
 
 By hand and longer: `python3 tests/fuzz.py SECONDS`, where the archive is built.
 """
@@ -15,6 +15,7 @@ import re
 import sys
 import tempfile
 
+import changes_cases
 import corpus
 import crmf_cases
 import editions_cases
@@ -28,7 +29,8 @@ LONGEST = 1024  # bytes of an input
 LEAST = 2_000  # inputs, or it was no run
 FINDS = ("SUBJECT_IS_NAME", "FALSE_ACCEPTED", "LAST_DIFFERENCE", "EITHER_NAMES", "CARRIED_IDS", "LEAST_EARLIER", "LAST_OCTETS",
     "ORDER_BEFORE_INSIDE", "CONTENTS_ORDERED", "TAGGED_ORDERED", "FIRST_PAIR_ORDERED", "EQUALS_REFUSED", "SHORT_HEADERS", "SECOND_WHOLE",
-    "FIRST_HEADER_SKIPPED", "FIRST_LENGTH_KEPT", "HEADER_NOT_GROWN", "OTHER_ORDER", "ROOM_BEFORE_POSITION", "NEXT_POSITION")
+    "FIRST_HEADER_SKIPPED", "FIRST_LENGTH_KEPT", "HEADER_NOT_GROWN", "OTHER_ORDER", "ROOM_BEFORE_POSITION", "NEXT_POSITION",
+    "REG_INFO_BY_KIND", "EXTENSIONS_FROM_LAST", "CHOICES_AT_ONE_SPOT", "CARRIED_AS_LEAF", "SECOND_PART")
 
 
 @functools.cache
@@ -48,6 +50,7 @@ def starts():
     found += [crmf_cases.built(batch)[0] for batch, _ in crmf_cases.table()[1]]
     found += [case.built()[0] for case in editions_cases.table()[1]]
     found += [case.octets for case in verdict_cases.table()] + [case.octets for case in joining_cases.table()]
+    found += [case.first + case.second for case in changes_cases.table()]
     return [octets for octets in found if len(octets) <= LONGEST]
 
 

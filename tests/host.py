@@ -1,7 +1,7 @@
 """The programs of host/, compiled and run: what the tests of the C boundary have in common.
 
-host/reference*.c is document 01 with document 02's A3, A11 and A13 in plain C, written from those papers alone; host/compare*.c check the
-archive against it, on inputs at random. A fault can be planted in the plain C, to show that a comparison finds it.
+host/reference*.c is document 01 with document 02's A3, A5, A11 and A13 in plain C, written from those papers alone; host/compare*.c check
+the archive against it, on inputs at random. A fault can be planted in the plain C, to show that a comparison finds it.
 """
 
 import functools
@@ -78,6 +78,28 @@ def made_lines(program, count):
     return did([built(program), count, SEED, *corpus.files()]).splitlines()
 
 
+def told(lines):
+    """From the lines of a program that answers questions about one batch or two: what is asked, as its words and octets; the answer's
+    numbers; what is shown beside them; and how much else changed."""
+    for line in lines:
+        asked, octets, numbers, shown, changed = line.split(",")
+        yield asked.split(), bytes.fromhex(octets), list(map(int, numbers.split())), shown, int(changed)
+
+
+def other_than_model(answers, modelled, wanted, least):
+    """Where answers, each with what is asked before it and how much else changed after it, differ from a model's; and which of the wanted
+    words and numbers, or how many answers, are too few."""
+    wrong, met = [], []
+    for asked, octets, answer, changed in answers:
+        met.append((asked[0], answer[0]))
+        right = modelled(asked, octets)
+        if answer != right or changed:
+            said = f"the model {right}, the plain C {answer}, {changed} more changed"
+            wrong.append(f"{' '.join(asked)} of {octets[:100].hex()}: {said}"[:1000])
+    wrong += [f"only {met.count(one)} times: {one}" for one in wanted if met.count(one) < least / 40]
+    return wrong if len(met) >= least else wrong + [f"only {len(met)} questions"]
+
+
 @functools.cache
 def faults():
     """The faults that can be planted: by name, the number and what the fault is."""
@@ -110,6 +132,20 @@ def overlooked(program, count, fault):
     if ended.returncode == DIFFERENT and "\ndifference: " in "\n" + ended.stdout:
         return []
     return [f"no difference is reported, status {ended.returncode}", *ended.stdout.splitlines()[:5]]
+
+
+def unsound(programs, count):
+    """What comparisons of two batches report under AddressSanitizer, with the archive or within themselves."""
+    return [line[:1000] for program in programs for line in other_than_archive(program, count, sanitized)]
+
+
+def law_tests(program, said, count, inputs, planted):
+    """The tests of a program that checks what document 02 says: that nothing is against it, and that the program finds each planted
+    fault."""
+    says = f"what document 02 says of {said}"
+    keeps = f"the archive keeps {says}, on {count:,} {inputs}", functools.partial(other_than_archive, program, count)
+    finds = {f"the check of {says} finds {planted_fault(fault)}": functools.partial(overlooked, program, count, fault) for fault in planted}
+    return [keeps, *finds.items()]
 
 
 def comparison_tests(program, what, count, inputs, planted):

@@ -8,7 +8,7 @@ import host
 import host_reading
 import joining_cases
 import joining_model
-from paper import Answer
+from paper import Answer, File
 
 TRIOS = 50_000  # that the archive is compared on
 MODELLED = 4_000  # questions that the model is asked, which takes its time
@@ -25,12 +25,10 @@ UNLAWFUL = ("SECOND_WHOLE", "FIRST_HEADER_SKIPPED", "FIRST_LENGTH_KEPT", "HEADER
 def answered(lines):
     """From the lines of the programs `answers_joining` and `archive_joining`: what is asked, as its words and octets; the answer as
     (number, place, file, batch); and how many octets of the output after the batch changed."""
-    for line in lines:
-        asked, octets, numbers, batch, changed = line.split(",")
-        number, place, file, count = map(int, numbers.split())
+    for asked, octets, (number, place, file, count), batch, changed in host.told(lines):
         if len(batch) != 2 * count:
             raise ValueError(f"{count} octets counted, {len(batch) // 2} shown")
-        yield asked.split(), bytes.fromhex(octets), (number, place, file, bytes.fromhex(batch)), int(changed)
+        yield asked, octets, (number, place, file, bytes.fromhex(batch)), changed
 
 
 def question(case, edition):
@@ -46,7 +44,7 @@ def modelled(asked, octets):
     if asked[0] == "join":
         return joining_model.join(edition, octets[:where], octets[where:], room)
     number, place, batch = joining_model.cut(edition, octets, where, room)
-    return number, place, joining_model.NEITHER, batch
+    return number, place, File.NEITHER, batch
 
 
 def other_than_cases(program, read, *more):
@@ -71,23 +69,9 @@ def archive_other_than_cases():
 
 def other_than_model():
     """Where the plain C differs from the model, on the comparison's own batches."""
-    wrong, told = [], []
-    for asked, octets, answer, changed in answered(host.made_lines("answers_joining", MODELLED)):
-        if len(octets) > LONGEST_MODELLED:
-            continue
-        told.append((asked[0], answer[0]))
-        if answer != modelled(asked, octets) or changed:
-            wrong.append(f"{' '.join(asked)} of {octets[:100].hex()}: the model {joining_cases.told(*modelled(asked, octets))}, "
-                         f"the plain C {joining_cases.told(*answer)}, {changed} other octets changed")
+    answers = [one for one in answered(host.made_lines("answers_joining", MODELLED)) if len(one[1]) <= LONGEST_MODELLED]
     wanted = [("join", Answer.ACCEPTED), ("join", Answer.NO_ROOM), ("cut", Answer.ACCEPTED), ("cut", Answer.NO_SUCH_MESSAGE)]
-    wrong += [f"only {told.count(one)} times: {one}" for one in wanted if told.count(one) < MODELLED / 40]
-    return wrong if len(told) >= LEAST_MODELLED else wrong + [f"only {len(told)} questions"]
-
-
-def unsound():
-    """What the comparison and the laws' program report under AddressSanitizer, with the archive or within themselves."""
-    return [line[:1000] for program in ("compare_joining", "laws_joining")
-            for line in host.other_than_archive(program, SANITIZED, host.sanitized)]
+    return host.other_than_model(answers, modelled, wanted, LEAST_MODELLED)
 
 
 TESTS = [
@@ -96,9 +80,7 @@ TESTS = [
     ("the archive gives the answers of the cases", archive_other_than_cases),
     ("joining and cutting in C and the model agree", other_than_model),
     *host.comparison_tests("compare_joining", "joining and cutting", TRIOS, "pairs", FAULTS),
-    (f"the archive keeps what document 02 says of grouping, of cutting and joining again and of a join's rows, on {TRIOS:,} trios",
-        functools.partial(host.other_than_archive, "laws_joining", TRIOS)),
-    *((f"the check of what document 02 says finds {host.planted_fault(fault)}",
-        functools.partial(host.overlooked, "laws_joining", TRIOS, fault)) for fault in UNLAWFUL),
-    (f"joining and cutting are sound under AddressSanitizer on {SANITIZED:,} trios", unsound),
+    *host.law_tests("laws_joining", "grouping, of cutting and joining again and of a join's rows", TRIOS, "trios", UNLAWFUL),
+    (f"joining and cutting are sound under AddressSanitizer on {SANITIZED:,} trios",
+        functools.partial(host.unsound, ("compare_joining", "laws_joining"), SANITIZED)),
 ]

@@ -11,7 +11,7 @@ import crmf_cases
 import editions_cases
 import grammar_model
 import joining_model
-from paper import EDITIONS, LONGEST, Answer, Row
+from paper import EDITIONS, LONGEST, Answer, File, Row
 
 TABLE = pathlib.Path(__file__).with_name("joining_cases.txt")
 OUTPUT = 70000  # octets of output, unless a case says otherwise
@@ -22,7 +22,7 @@ CASE = re.compile(
     rf"(?:(?P<edition>\d+)?(?:/(?P<room>\d+))?:)? *(?P<batch>.*?) *(?:\+ *(?P<second>.*?)|\bat (?P<position>\d+)) *"
     rf"-> (?P<one>{ANSWER})(?: / (?P<two>{ANSWER}))?"
 )
-FILES = {None: joining_model.NEITHER, "first": joining_model.FIRST, "second": joining_model.SECOND}
+FILES = {None: File.NEITHER, "first": File.FIRST, "second": File.SECOND}
 
 
 class Case:
@@ -34,9 +34,7 @@ class Case:
         self.octets = octets(match["batch"])
         self.second = None if match["second"] is None else octets(match["second"])
         self.position = int(match["position"] or 0)
-        self.answers = {1: answer(match["one"]), 2: answer(match["two"] or match["one"])}
-        if match["edition"]:
-            self.answers = {int(match["edition"]): answer(match["one"])}
+        self.answers = by_edition(match, answer)
         self.rows = []  # of the batch that is written, if the table has them
 
     def modelled(self, edition):
@@ -44,22 +42,34 @@ class Case:
         if self.second is not None:
             return joining_model.join(edition, self.octets, self.second, self.room)
         number, place, batch = joining_model.cut(edition, self.octets, self.position, self.room)
-        return number, place, joining_model.NEITHER, batch
+        return number, place, File.NEITHER, batch
 
 
 def octets(written):
     return crmf_cases.built(written, names())[0]
 
 
+def by_edition(match, meant):
+    """What the answers of a line stand for, by edition: that of the edition that it names, or of each."""
+    if match["edition"]:
+        return {int(match["edition"]): meant(match["one"])}
+    return {1: meant(match["one"]), 2: meant(match["two"] or match["one"])}
+
+
+def refusal(written):
+    """The (number, place, file) of a refusal; None if the answer is another."""
+    refused = re.fullmatch(r"(\d+)@(\d+)(?: (\w+))?", written)
+    return refused and (int(refused[1]), int(refused[2]), FILES[refused[3]])
+
+
 def answer(written):
     """What an answer of the table stands for: (number, place, file, batch)."""
-    refused = re.fullmatch(r"(\d+)@(\d+)(?: (\w+))?", written)
-    if refused:
-        return int(refused[1]), int(refused[2]), FILES[refused[3]], b""
+    if refusal(written):
+        return *refusal(written), b""
     length, batch = re.fullmatch(r"0 (\d+): (.*)", written).groups()
     if len(octets(batch)) != int(length):
         raise ValueError(f"the batch has {len(octets(batch))} octets: {written[:100]}")
-    return Answer.ACCEPTED, 0, joining_model.NEITHER, octets(batch)
+    return Answer.ACCEPTED, 0, File.NEITHER, octets(batch)
 
 
 @functools.cache

@@ -5,9 +5,16 @@ import itertools
 
 import grammar_model
 import writer_model
-from paper import LONGEST, Answer
+from paper import LONGEST, Answer, File
 
-NEITHER, FIRST, SECOND = 0, 1, 2  # whose refusal it is
+
+def refusal(edition, first, second):
+    """What refuses two batches, "the first's, the second's", as (number, place, file); None if both are accepted."""
+    for file, octets in (File.FIRST, first), (File.SECOND, second):
+        number, place, _ = grammar_model.read(edition, octets)
+        if number:
+            return number, place, file
+    return None
 
 
 def messages(octets):
@@ -22,14 +29,13 @@ def batch(parts):
 
 def join(edition, first, second, room):
     """The joining of two batches: (number, place, file, batch); a refusal has no batch."""
-    for file, octets in (FIRST, first), (SECOND, second):
-        number, place, _ = grammar_model.read(edition, octets)
-        if number:
-            return number, place, file, b""
+    refused = refusal(edition, first, second)
+    if refused:
+        return *refused, b""
     joined = batch(messages(first) + messages(second))
     if len(joined) > LONGEST:
-        return Answer.TOO_LONG, 0, NEITHER, b""
-    return (Answer.ACCEPTED, 0, NEITHER, joined) if len(joined) <= room else (Answer.NO_ROOM, 0, NEITHER, b"")
+        return Answer.TOO_LONG, 0, File.NEITHER, b""
+    return (Answer.ACCEPTED, 0, File.NEITHER, joined) if len(joined) <= room else (Answer.NO_ROOM, 0, File.NEITHER, b"")
 
 
 def cut(edition, octets, position, room):

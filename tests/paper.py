@@ -1,6 +1,6 @@
 """The papers' numbers, each named once: the answers, the row kinds, the verdicts, the columns of a row and the limits of document 01, and
-the fifth number of a row (document 02, A11) and the details of request A9. The models and the tests use these names, and a test checks the
-C header against them."""
+of document 02 the fifth number of a row (A11), the columns of an entry (A5) and the details of request A9; and whose refusal or part it is,
+of two batches. The models and the tests use these names, and a test checks the C header against them."""
 
 import enum
 import typing
@@ -113,6 +113,38 @@ def rows_of(numbers):
 def numbers_of(rows):
     """The numbers of a table that has these rows."""
     return [number for row in rows for number in row]
+
+
+class File(Number):
+    """Of the two batches of a call, the one that a refusal is about, or that a part is of."""
+
+    NEITHER = 0
+    FIRST = 1
+    SECOND = 2
+
+
+class What(Number):
+    """What an entry says of what changed between two batches."""
+
+    ONLY_FIRST = 1
+    ONLY_SECOND = 2
+    LEAVES_DIFFER = 3
+
+
+class Entry(typing.NamedTuple):
+    """An entry of what changed between two batches."""
+
+    what: int
+    first: int  # its row in the first batch, 0 where none
+    second: int  # its row in the second batch, 0 where none
+
+
+ENTRY_NUMBERS = len(Entry._fields)
+
+
+def entries_of(numbers):
+    """The entries that the numbers of a list are."""
+    return [Entry(*some) for some in zip(*[iter(numbers)] * ENTRY_NUMBERS)]
 
 
 class Difference(Number):

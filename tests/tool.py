@@ -234,7 +234,7 @@ def wrong_lines():
         (["write", "--edition", 2, minimal, minimal], "not a row's number"),
         (["verdict", "--edition", 2, "--position", 0, "--part", "absent/part", minimal], "absent/part: No such file"),
         (["verdict", "--edition", 2, "--position", 0, "--part", "-", minimal], "--part wants a file"),
-        *wrong_joins(minimal),
+        *wrong_joins(minimal), *wrong_comparisons(minimal),
     ]
 
 
@@ -260,6 +260,18 @@ def wrong_joins(minimal):
         ([*cut, "--all", "--output-dir", "-", minimal], "--output-dir wants a folder"),
         ([*cut, "--all", "--output-dir", absent, minimal], "absent/folder: No such file"),
         ([*cut, "--position", 0, "--output", "absent/cut", minimal], "absent/cut: No such file"),
+    ]
+
+
+def wrong_comparisons(minimal):
+    """Those of compare."""
+    compare = ["compare", "--edition", 2]
+    return [
+        (["compare", minimal, minimal], "--edition 1"), (compare, "two files"), ([*compare, minimal], "two files"),
+        ([*compare, minimal, minimal, minimal], "too many"), ([*compare, "-", "-"], "only one of the files"),
+        ([*compare, minimal, "absent.der"], "absent.der: No such file"), ([*compare, "absent.der", minimal], "absent.der: No such file"),
+        ([*compare, "--hex", minimal, minimal], "not hex"), ([*compare, "--numbers", minimal, minimal], "no such option"),
+        ([*compare, "--output", "differences", minimal, minimal], "no such option"), ([*compare, "--json=1", minimal], "takes no value"),
     ]
 
 

@@ -12,6 +12,7 @@ from layout import ROOT
 SANITIZED = 20  # corpus files that the tool built with AddressSanitizer runs on: the shortest, and a long one beside them
 WATCHED = 2  # those that it runs on under valgrind
 LONG_FILE = "openssl-batch-259-ec-sig-near-64k"
+OTHER_FILE = "openssl-batch-10-ec-sig"  # what each is compared with
 MEASURED = ("openssl-minimal", "openssl-sig-rsa2048")
 COUNTED = {  # what the benchmarks show of these and of a batch that they make, and how often
     ("", "openssl-minimal", "one RSA", "names"): 4,
@@ -23,8 +24,10 @@ COUNTED = {  # what the benchmarks show of these and of a batch that they make, 
 TIMED = {  # rows of times, and how often
     **dict.fromkeys(("memcpy", "least walk", "strict walk", "strict walk, compiled by gcc"), 2),
     **dict.fromkeys(("phagundro_read, rows cleared first", "phagundro_write, leaves elsewhere", "accepting both, memcpy"), 2),
+    **dict.fromkeys(("reading both", "phagundro_compare, same bytes"), 2),
     **dict.fromkeys(("write / read", "write, leaves elsewhere / read", "duplicates / accept", "read / strict walk"), 1),
     **dict.fromkeys(("join / accepting both, memcpy", "cut / accept"), 1),
+    **dict.fromkeys((f"{call} / reading both" for call in ("compare", "compare, same bytes", "compare_part")), 1),
     **{f"phagundro_{call}, {fault}": 1 for call in ("accept", "read") for fault in ("accepted", "nest (3)", "grammar (8)", "other edition (9)")},
 }
 TEXTS = ("ASCII", *(f"ASCII, {which} another" for which in ("the last character", "every 100th character", "every 9th character")), "Cyrillic")
@@ -72,7 +75,8 @@ def every_call(folder, name, *program):
     words = [["read", "--edition", 1], ["read", "--edition", 2, "--json"], ["verdict", "--edition", 2, "--position", 0],
              ["duplicates", "--edition", 2], ["editions"], ["write", "--edition", 2, "-"],
              ["join", "--edition", 2, *[tool.path("openssl-minimal")] * 2], ["cut", "--edition", 2, "--position", 0],
-             ["cut", "--edition", 2, "--all", "--output-dir", folder]]
+             ["cut", "--edition", 2, "--all", "--output-dir", folder], ["compare", "--edition", 2, tool.path(OTHER_FILE)],
+             ["compare", "--edition", 2, "--json", tool.path(OTHER_FILE)]]
     answers = [tool.call(*program[1:], *some, tool.path(name), octets=rows, program=program[0]) for some in words]
     return answers, {path.name: path.read_bytes() for path in folder.iterdir()}
 

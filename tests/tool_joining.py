@@ -7,6 +7,7 @@ from host_texts import CERT_REQ_ID_AND_TEMPLATE, REG_TOKEN
 from paper import EDITIONS, LONGEST, Answer
 
 SEQUENCE, UTF8_STRING = 0x30, 0x0C
+EDITION_NAMES = {1: " (RFC 2511)", 2: " (RFC 4211)"}
 SMALLEST = tool.SMALLEST
 LEFT_BY_SMALLEST = LONGEST - len(SMALLEST) + 2  # bytes of a batch that it can be joined with; one header of two octets falls away
 
@@ -55,7 +56,7 @@ def accepted():
 
 def refused(name, edition, number, place=0):
     """How the tool's words on a refused file begin."""
-    edition_name = {1: " (RFC 2511)", 2: " (RFC 4211)"}.get(edition, "")
+    edition_name = EDITION_NAMES.get(edition, "")
     return f"{name}: edition {edition}{edition_name}: refused with {tool.refusal(number, place)}{tool_texts.meanings()[number][0]}\n"
 
 

@@ -15,7 +15,7 @@ CHANGELOG = ROOT / "CHANGELOG.md"
 MANUAL = ROOT / "tools/phagundro.1"
 MEANINGS = ROOT / "tools/meanings.c"
 NUMBERS, VERDICTS, KINDS = "The number of an answer", "The verdict on a message's proof", "The kind of a row"  # headings of the header
-COMMANDS = ["read", "write", "verdict", "duplicates", "editions", "join", "cut"]
+COMMANDS = ["read", "write", "verdict", "duplicates", "editions", "join", "cut", "compare"]
 ENUMERATOR = re.compile(r"(PHAGUNDRO_\w+) += (\d+),? +/\* (.*) \*/")
 
 

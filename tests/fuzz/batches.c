@@ -1,9 +1,10 @@
-/* A fuzz target for clang's libFuzzer: any bytes, read, judged, joined and cut by the archive and by documents 01 and 02 in plain C, whose
- * code guides the fuzzer. It checks that both are equal, that the rows are written back, that a batch cut at every position is joined again,
- * and how the two editions' answers relate. A difference aborts. */
+/* A fuzz target for clang's libFuzzer: any bytes, read, judged, joined, cut and compared by the archive and by documents 01 and 02 in plain
+ * C, whose code guides the fuzzer. It checks that both are equal, that the rows are written back, that a batch cut at every position is
+ * joined again, that only equal batches have no changes, and how the two editions' answers relate. A difference aborts. */
 #include "../../include/phagundro.h"
 #include "../host/reference.h"
 
+#include <stdbool.h>
 #include <stdio.h>
 #include <stdlib.h>
 #include <string.h>
@@ -19,6 +20,9 @@ enum {
 
 static size_t rows[EDITIONS][NUMBERS], expected[NUMBERS];
 static uint8_t output[MOST], made[2 * MOST + MORE], wanted_made[2 * MOST + MORE];
+static int64_t list[PHAGUNDRO_ENTRY_NUMBERS * (MOST + MORE)], wanted_list[PHAGUNDRO_ENTRY_NUMBERS * (MOST + MORE)];
+
+static const uint8_t least[] = {0x30, 0x09, 0x30, 0x07, 0x30, 0x05, 0x02, 0x01, 0x00, 0x30, 0x00}; /* document 01's S */
 
 static void hold(int holds, size_t edition, const char *what)
 {
@@ -28,11 +32,17 @@ static void hold(int holds, size_t edition, const char *what)
     abort();
 }
 
+/* Fills what is lent to both with the same, before a call. */
+static void lend(void *ours, void *theirs, size_t size)
+{
+    memset(ours, UNTOUCHED, size);
+    memset(theirs, UNTOUCHED, size);
+}
+
 /* Reads in an edition; the table after the rows, or all of it after a refusal, is as it was. */
 static phagundro_answer read_alike(size_t edition, const uint8_t *bytes, size_t length)
 {
-    memset(rows[edition], UNTOUCHED, sizeof rows[edition]);
-    memset(expected, UNTOUCHED, sizeof expected);
+    lend(rows[edition], expected, sizeof expected);
     phagundro_answer answer = phagundro_read(edition, bytes, length, rows[edition], NUMBERS);
     reference_answer wanted = reference_read(edition, bytes, length, expected, NUMBERS);
     hold(answer.number == wanted.number && answer.place == wanted.place && answer.count == wanted.count, edition, "another answer");
@@ -67,8 +77,7 @@ static void judge_alike(size_t edition, const uint8_t *bytes, size_t length)
 static void join_alike(size_t edition, const uint8_t *first, size_t first_length, const uint8_t *second, size_t second_length, size_t room)
 {
     size_t size = first_length + second_length + MORE;
-    memset(made, UNTOUCHED, size);
-    memset(wanted_made, UNTOUCHED, size);
+    lend(made, wanted_made, size);
     phagundro_pair_answer answer = phagundro_join(edition, first, first_length, second, second_length, made, room);
     reference_pair_answer wanted = reference_join(edition, first, first_length, second, second_length, wanted_made, room);
     hold(memcmp(&answer, &wanted, sizeof answer) == 0, edition, "another answer in joining");
@@ -78,8 +87,7 @@ static void join_alike(size_t edition, const uint8_t *first, size_t first_length
 static void cut_alike(size_t edition, const uint8_t *bytes, size_t length, size_t position, size_t room)
 {
     size_t size = length + MORE;
-    memset(made, UNTOUCHED, size);
-    memset(wanted_made, UNTOUCHED, size);
+    lend(made, wanted_made, size);
     phagundro_answer answer = phagundro_cut(edition, bytes, length, position, made, room);
     reference_answer wanted = reference_cut(edition, bytes, length, position, wanted_made, room);
     hold(memcmp(&answer, &wanted, sizeof answer) == 0, edition, "another answer in cutting");
@@ -104,7 +112,6 @@ static void join_again(size_t edition, const uint8_t *bytes, size_t length)
 
 static void join_and_cut(size_t edition, phagundro_answer answer, const uint8_t *bytes, size_t length)
 {
-    static const uint8_t least[] = {0x30, 0x09, 0x30, 0x07, 0x30, 0x05, 0x02, 0x01, 0x00, 0x30, 0x00}; /* document 01's S */
     join_alike(edition, least, sizeof least, bytes, length, sizeof made);
     cut_alike(edition, bytes, length, POSITIONS, 0);
     if (answer.number != PHAGUNDRO_ACCEPTED)
@@ -115,6 +122,59 @@ static void join_and_cut(size_t edition, phagundro_answer answer, const uint8_t 
     for (size_t position = 0; position < POSITIONS; position++)
         cut_alike(edition, bytes, length, position, position % 2 == 0 ? sizeof made : length / 2);
     join_again(edition, bytes, length);
+}
+
+/* Compares, with room for so many entries; the list after them, or all of it after a refusal, is as it was. Answers how many there are. */
+static phagundro_pair_answer compare_alike(size_t edition, const uint8_t *first, size_t first_length, const uint8_t *second,
+    size_t second_length, size_t entries)
+{
+    size_t size = PHAGUNDRO_ENTRY_NUMBERS * ((first_length + second_length) / 2 + MORE) * sizeof *list;
+    size_t room = PHAGUNDRO_ENTRY_NUMBERS * entries;
+    lend(list, wanted_list, size);
+    phagundro_pair_answer answer = phagundro_compare(edition, first, first_length, second, second_length, list, room);
+    reference_pair_answer wanted = reference_compare(edition, first, first_length, second, second_length, wanted_list, room);
+    hold(memcmp(&answer, &wanted, sizeof answer) == 0, edition, "another answer in comparing");
+    hold(memcmp(list, wanted_list, size) == 0, edition, "another list");
+    return answer;
+}
+
+static void compare_parts(size_t edition, const uint8_t *first, size_t first_length, const uint8_t *second, size_t second_length)
+{
+    size_t most = (first_length + second_length) / 2 + MORE;
+    phagundro_pair_answer answer = compare_alike(edition, first, first_length, second, second_length, most);
+    size_t asked[] = {0, 1, answer.count / 2, answer.count, SIZE_MAX};
+    for (size_t i = 0; i < sizeof asked / sizeof *asked; i++) {
+        phagundro_part part = phagundro_compare_part(edition, first, first_length, second, second_length, asked[i]);
+        reference_part wanted = reference_compare_part(edition, first, first_length, second, second_length, asked[i]);
+        hold(memcmp(&part, &wanted, sizeof part) == 0, edition, "another part");
+    }
+    if (answer.number != PHAGUNDRO_ACCEPTED)
+        return;
+    bool same = first_length == second_length && memcmp(first, second, first_length) == 0;
+    hold(same == (answer.count == 0), edition, "equal batches have changes, or others have none");
+    compare_alike(edition, first, first_length, second, second_length, answer.count / 2);
+}
+
+/* The length of the first element, as far as there is one. */
+static size_t first_element(const uint8_t *bytes, size_t length)
+{
+    size_t header = 2, content = length > 1 ? bytes[1] : 0;
+    for (size_t left = content > 0x80 && content <= 0x82 ? content - 0x80 : 0; left > 0 && header < length; left--) {
+        content = (header == 2 ? 0 : content << 8) + bytes[header];
+        header++;
+    }
+    return header + content < length ? header + content : length;
+}
+
+/* Compares the first element with what follows it, both ways, or the whole with S. */
+static void compare(size_t edition, const uint8_t *bytes, size_t length)
+{
+    size_t first = first_element(bytes, length);
+    bool two = first < length;
+    const uint8_t *second = two ? bytes + first : least;
+    size_t second_length = two ? length - first : sizeof least;
+    compare_parts(edition, bytes, first, second, second_length);
+    compare_parts(edition, second, second_length, bytes, first);
 }
 
 /* What demand 3 says of the answer in an edition beside that in the opposite one. */
@@ -163,6 +223,7 @@ int LLVMFuzzerTestOneInput(const uint8_t *bytes, size_t length)
         write_back(edition, answers[edition], bytes, length);
         judge_alike(edition, bytes, length);
         join_and_cut(edition, answers[edition], bytes, length);
+        compare(edition, bytes, length);
     }
     agree(PHAGUNDRO_RFC2511, answers[PHAGUNDRO_RFC2511], answers[PHAGUNDRO_RFC4211]);
     agree(PHAGUNDRO_RFC4211, answers[PHAGUNDRO_RFC4211], answers[PHAGUNDRO_RFC2511]);

@@ -299,7 +299,7 @@ static Node *validity(void)
     return node;
 }
 
-static Node *extensions(void)
+Node *extensions(void)
 {
     Node *node = box(0xA9);
     for (size_t left = slip() ? 0 : 1 + below(3); left > 0; left--) {

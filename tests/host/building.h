@@ -21,6 +21,7 @@ Node *chain(size_t depth);
 Node *integer_of(uint8_t id, size_t size);
 
 /* The constructs of the grammar. */
+Node *extensions(void);
 Node *template(void);
 Node *controls(void);
 Node *cert_req(void);

@@ -5,43 +5,40 @@
  * The batches and the output are each lent at the edge of memory that must not be touched; of two equal batches one is sometimes lent for
  * both. See comparison.h for the command line and the exit statuses. */
 #include "comparison.h"
+#include "lent_pair.h"
 #include "memory.h"
 #include "random.h"
 #include "reference.h"
 #include "trios.h"
 
 #include <stdio.h>
-#include <string.h>
 
 enum { USUAL = 50000, OUTPUT = 70000 };
 
 /* -- What is being compared -- */
 
 static Trio trio;
-static Buffer first, second, output;
-static const uint8_t *first_bytes, *second_bytes;
+static Buffer output;
 
-static void show_pair(void)
+static void next(void)
 {
-    printf("seed %llu, trio %zu, %s\n", (unsigned long long)seed, number, trio_sorts[trio.sort].name);
-    show_batch("first", &trio.first);
-    show_batch("second", &trio.second);
-    fflush(stdout);
+    trios_next(&trio);
 }
 
-static void differs(const char *what, size_t edition, size_t room)
+static void show(void)
 {
-    comparison_differs(what, edition, "room", room);
+    show_pair(&trio, trio_sorts);
 }
 
 /* -- What occurred -- */
 
-enum { FILES = 3, HEADERS = 5 };
-static size_t joins[EDITIONS][NUMBERS][FILES], cuts[EDITIONS][NUMBERS];
+enum { HEADERS = 5 };
+static PairAnswers joins;
+static size_t cuts[EDITIONS][NUMBERS];
 static size_t grown[HEADERS][HEADERS][HEADERS]; /* by the headers of the first, of the second and of their join */
 static size_t shrunk[HEADERS][HEADERS];         /* by the headers of the batch and of what is cut out of it */
 static size_t wholes[PHAGUNDRO_LONGEST + 2];    /* joins by their lengths, the last one too long */
-static size_t calls, wrong_editions, far_cuts, lent_once;
+static size_t far_cuts;
 
 /* Both batches of a pair are accepted. */
 static void joinable(void)
@@ -63,45 +60,17 @@ static void lend_output(size_t room)
     fill_alike(&output, expected);
 }
 
-static bool is_edition(size_t edition)
-{
-    return edition == PHAGUNDRO_RFC2511 || edition == PHAGUNDRO_RFC4211;
-}
-
 /* -- Joining -- */
 
 static void compare_join(size_t edition, size_t room)
 {
-    static const char *const names[] = {"number", "place", "file", "count"};
     lend_output(room);
     reference_pair_answer right = reference_join(edition, trio.first.octets, trio.first.length, trio.second.octets, trio.second.length,
         expected, room);
     phagundro_pair_answer answer =
         phagundro_join(edition, first_bytes, trio.first.length, second_bytes, trio.second.length, lent(&output), room);
-    calls++;
-    if (!alike(4, names, &answer, &right))
-        differs("other answers in joining", edition, room);
+    check_answer(joins, answer, right, edition, room);
     check_output(&output, expected, edition, room, right.count);
-    if (is_edition(edition))
-        joins[edition][right.number][right.file]++;
-    wrong_editions += right.number == PHAGUNDRO_UNKNOWN_EDITION;
-}
-
-/* Compares in several rooms; `count` is what is written, given room, or 0 with a refusal. */
-static void in_rooms(void (*compare)(size_t edition, size_t room), size_t edition, size_t count)
-{
-    if (count > 0) {
-        compare(edition, count);
-        compare(edition, count - 1);
-        compare(edition, count + 1 + below(40));
-        compare(edition, number % 4 == 0 ? 0 : below(count));
-    } else { /* sometimes room for any batch, so that one written too early would be seen */
-        compare(edition, 0);
-        if (number % 2 == 0)
-            compare(edition, below(1000));
-        if (number % 8 == 0)
-            compare(edition, PHAGUNDRO_LONGEST + below(40));
-    }
 }
 
 static void compare_joins(size_t edition)
@@ -111,7 +80,7 @@ static void compare_joins(size_t edition)
         batch, OUTPUT);
     if (right.number == PHAGUNDRO_ACCEPTED || (right.number == PHAGUNDRO_TOO_LONG && right.file == 0))
         joinable();
-    in_rooms(compare_join, edition, right.count);
+    in_rooms(compare_join, edition, right.count, PHAGUNDRO_LONGEST);
 }
 
 /* -- Cutting -- */
@@ -127,7 +96,7 @@ static void compare_cut(size_t edition, size_t room)
     calls++;
     if (!alike(3, names, &answer, &right)) {
         printf("position %zu\n", position);
-        differs("other answers in cutting", edition, room);
+        comparison_differs("other answers in cutting", edition, "room", room);
     }
     check_output(&output, expected, edition, room, right.count);
     if (is_edition(edition))
@@ -144,7 +113,7 @@ static void compare_position(size_t edition, size_t which)
         shrunk[header_of(trio.first.octets)][header_of(batch)]++;
         far_cuts += position > UINT8_MAX;
     }
-    in_rooms(compare_cut, edition, right.count);
+    in_rooms(compare_cut, edition, right.count, PHAGUNDRO_LONGEST);
 }
 
 /* The messages of the first batch; 0 if it is refused. */
@@ -169,27 +138,9 @@ static void compare_cuts(size_t edition)
 
 /* -- One pair -- */
 
-static void check_lent(const Buffer *buffer, const Batch *batch, const char *what)
-{
-    if (memcmp(buffer->start, batch->octets, batch->length) != 0 || beside_changed(buffer))
-        differs(what, 0, 0);
-}
-
-static void lend_pair(void)
-{
-    bool same = trio.first.length == trio.second.length && memcmp(trio.first.octets, trio.second.octets, trio.first.length) == 0;
-    place(&first, trio.first.length, number % 2 == 0);
-    place(&second, trio.second.length, number / 2 % 2 == 0);
-    memcpy(first.start, trio.first.octets, first.size);
-    memcpy(second.start, trio.second.octets, second.size);
-    first_bytes = lent(&first);
-    second_bytes = same && number % 4 < 2 ? first_bytes : lent(&second);
-    lent_once += first_bytes != NULL && first_bytes == second_bytes;
-}
-
 static void compare_pair(void)
 {
-    lend_pair();
+    lend_pair(&trio.first, &trio.second);
     for (size_t edition = PHAGUNDRO_RFC2511; edition <= PHAGUNDRO_RFC4211; edition++) {
         compare_joins(edition);
         compare_cuts(edition);
@@ -198,31 +149,17 @@ static void compare_pair(void)
         compare_joins(no_edition(number / 4));
         compare_cuts(no_edition(number / 4));
     }
-    check_lent(&first, &trio.first, "the first batch or memory beside it is changed");
-    check_lent(&second, &trio.second, "the second batch or memory beside it is changed");
+    check_lent_pair();
 }
 
 /* -- The account -- */
-
-/* Shows how often each number from 1 to 10 was a file's refusal. */
-static int account_file(size_t edition, size_t file)
-{
-    int lacking = 0;
-    printf("; of file %zu", file);
-    for (size_t n = PHAGUNDRO_TOO_LONG; n <= PHAGUNDRO_LONG_CERT_REQ_ID; n++) {
-        printf("%s %zu: %zu", n > PHAGUNDRO_TOO_LONG ? "," : "", n, joins[edition][n][file]);
-        lacking += missing(joins[edition][n][file] > 0, file == 1 ? "the first's number" : "the second's number", n, edition);
-    }
-    return lacking;
-}
 
 static int account_joins(size_t edition)
 {
     int lacking = 0;
     printf("edition %zu: %zu joined; refused 1: %zu, 11: %zu", edition, joins[edition][PHAGUNDRO_ACCEPTED][0],
         joins[edition][PHAGUNDRO_TOO_LONG][0], joins[edition][PHAGUNDRO_NO_ROOM][0]);
-    lacking += account_file(edition, 1) + account_file(edition, 2);
-    putchar('\n');
+    lacking += account_files(joins, edition);
     lacking += missing(joins[edition][PHAGUNDRO_ACCEPTED][0] > 0, "a join with number", PHAGUNDRO_ACCEPTED, edition);
     lacking += missing(joins[edition][PHAGUNDRO_TOO_LONG][0] > 0, "a join's own number", PHAGUNDRO_TOO_LONG, edition);
     return lacking + missing(joins[edition][PHAGUNDRO_NO_ROOM][0] > 0, "a join's own number", PHAGUNDRO_NO_ROOM, edition);
@@ -297,13 +234,7 @@ static int account(size_t trios)
 
 int main(int count, char **words)
 {
-    size_t trios = comparison_start(count, words, USUAL, show_pair);
-    first = buffer(INPUT_ROOM);
-    second = buffer(INPUT_ROOM);
+    size_t trios = comparison_start(count, words, USUAL, show);
     output = buffer(OUTPUT);
-    for (number = 0; number < trios; number++) {
-        trios_next(&trio);
-        compare_pair();
-    }
-    return account(trios);
+    return comparison_run(trios, next, compare_pair, account);
 }

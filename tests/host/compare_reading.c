@@ -69,18 +69,6 @@ static void occurred(size_t edition, reference_answer answer, const size_t *rows
 
 static Buffer table;
 
-static void compare_table(size_t edition, const size_t *expected, size_t room, size_t rows)
-{
-    const size_t *numbers = (const size_t *)table.start;
-    for (size_t i = 0; i < room; i++)
-        if (numbers[i] != expected[i]) {
-            printf("number %zu of the table: the archive %zu, the reference %zu\n", i, numbers[i], expected[i]);
-            differs(i < PHAGUNDRO_ROW_NUMBERS * rows ? "other rows" : "the table is changed where it should be as it was", edition, room);
-        }
-    if (beside_changed(&table))
-        differs("memory beside the table is changed", edition, room);
-}
-
 static void compare_reading(size_t edition, const uint8_t *bytes, size_t room)
 {
     static const char *const names[] = {"number", "place", "count"};
@@ -92,7 +80,7 @@ static void compare_reading(size_t edition, const uint8_t *bytes, size_t room)
     calls++;
     if (!alike(3, names, &answer, &right))
         differs("other answers", edition, room);
-    compare_table(edition, expected, room, right.count);
+    check_numbers(&table, expected, edition, room, PHAGUNDRO_ROW_NUMBERS * right.count);
     short_tables += right.number == PHAGUNDRO_NO_ROOM;
     wrong_editions += right.number == PHAGUNDRO_UNKNOWN_EDITION;
 }

@@ -46,6 +46,15 @@ size_t comparison_start(int count, char **words, size_t usual, void (*show)(void
     return usual;
 }
 
+int comparison_run(size_t inputs, void (*next)(void), void (*compare)(void), int (*account)(size_t inputs))
+{
+    for (number = 0; number < inputs; number++) {
+        next();
+        compare();
+    }
+    return account(inputs);
+}
+
 /* -- The input -- */
 
 uint8_t input[INPUT_ROOM];
@@ -130,16 +139,33 @@ bool alike(size_t count, const char *const *names, const void *answer, const voi
     return false;
 }
 
-void check_output(const Buffer *output, const uint8_t *expected, size_t edition, size_t room, size_t written)
+/* A byte or a number, at a place where there are such of `unit` bytes each. */
+static long long shown_at(const void *lent, size_t unit, size_t i)
 {
-    for (size_t i = 0; i < room; i++)
-        if (output->start[i] != expected[i]) {
-            printf("octet %zu of the output: the archive %02X, the reference %02X\n", i, output->start[i], expected[i]);
-            const char *what = i < written ? "another batch" : "the output is changed where it should be as it was";
-            comparison_differs(what, edition, "room", room);
-        }
+    return unit == 1 ? ((const uint8_t *)lent)[i] : ((const int64_t *)lent)[i];
+}
+
+static void check_written(const Buffer *output, const void *expected, size_t unit, size_t edition, size_t room, size_t written)
+{
+    size_t i = 0;
     if (beside_changed(output))
         comparison_differs("memory beside the output is changed", edition, "room", room);
+    if (room == 0 || memcmp(output->start, expected, unit * room) == 0)
+        return;
+    while (shown_at(output->start, unit, i) == shown_at(expected, unit, i))
+        i++;
+    printf("at %zu: the archive %lld, the reference %lld\n", i, shown_at(output->start, unit, i), shown_at(expected, unit, i));
+    comparison_differs(i < written ? "another output" : "the output is changed where it should be as it was", edition, "room", room);
+}
+
+void check_output(const Buffer *output, const uint8_t *expected, size_t edition, size_t room, size_t written)
+{
+    check_written(output, expected, 1, edition, room, written);
+}
+
+void check_numbers(const Buffer *output, const void *expected, size_t edition, size_t room, size_t written)
+{
+    check_written(output, expected, sizeof(int64_t), edition, room, written);
 }
 
 /* -- The account -- */

@@ -28,6 +28,9 @@ extern size_t number; /* of the input or draft, from 0 */
  * or drafts to make, `usual` if not said. Ends the program with 2 if a word or a file is wrong. */
 size_t comparison_start(int count, char **words, size_t usual, void (*show)(void));
 
+/* Runs a comparison: makes each input by `next`, has it compared, and shows the account at the end. Answers the exit status. */
+int comparison_run(size_t inputs, void (*next)(void), void (*compare)(void), int (*account)(size_t inputs));
+
 /* -- The input that is compared, of the comparisons that have one -- */
 
 extern uint8_t input[INPUT_ROOM];
@@ -61,9 +64,10 @@ _Noreturn void comparison_differs(const char *what, size_t edition, const char *
 /* Whether the archive's answer, which is numbers alone, is the reference's; shows both, with the names of the numbers, if it isn't. */
 bool alike(size_t count, const char *const *names, const void *answer, const void *right);
 
-/* It is a difference, in an edition and with this room, if an output, of which `written` bytes are a batch, isn't what is expected or what is
- * beside it has changed. */
+/* It is a difference, in an edition and with this room, if an output, of which `written` bytes are the answer, isn't what is expected or
+ * what is beside it has changed; the same of a table or list of numbers, of which `written` are the answer. */
 void check_output(const Buffer *output, const uint8_t *expected, size_t edition, size_t room, size_t written);
+void check_numbers(const Buffer *output, const void *expected, size_t edition, size_t room, size_t written);
 
 /* -- The account -- */
 

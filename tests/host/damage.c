@@ -259,6 +259,20 @@ void disorder_tree(Node *root)
         swapped_around(root, set);
 }
 
+bool change_octet(Node *root)
+{
+    enum { TRIES = 20 };
+    for (int tries = 0; tries < TRIES; tries++) {
+        size_t nth = below(tally(root));
+        Node *parent = NULL, *node = pick(root, &nth, &parent);
+        if (node && !node->first && node->size > 0) {
+            octet_changed(parent, node);
+            return true;
+        }
+    }
+    return false;
+}
+
 void damage_tree(Node *root)
 {
     static void (*const damages[])(Node *parent, Node *node) = {dropped, doubled, swapped_with_the_next, identifier_changed,

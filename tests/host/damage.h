@@ -7,6 +7,9 @@
 /* Damages an element inside the root. */
 void damage_tree(Node *root);
 
+/* Changes an octet of an element inside the root that has no elements inside; answers whether one was found. */
+bool change_octet(Node *root);
+
 /* Takes a SET with two members or more inside the root and swaps two neighbours; answers whether there is one. */
 bool disorder(Node *root);
 

@@ -1,74 +1,59 @@
 /* Shows the answers of a joining and a cutting: see joining_lines.h. */
 #include "joining_lines.h"
 
-#include "../../include/phagundro.h"
 #include "answering.h"
+#include "questions.h"
 #include "random.h"
 #include "trios.h"
 
-#include <stdbool.h>
 #include <stdio.h>
 #include <string.h>
 
 enum { OUTPUT = 70000, UNTOUCHED = 0xA5 };
+enum { JOIN, CUT };
+static const char *const words_of[] = {[JOIN] = "join", [CUT] = "cut"};
 
-/* What is asked: where the second batch begins, or the position of the message that is cut. */
-static bool cuts;
-static size_t edition, room, where, length;
-static uint8_t octets[2 * INPUT_ROOM];
+/* The amount is the room; `where` is the length of the first batch, or the position of the message that is cut. */
+static Question asked;
 
 static joining *join_by;
 static cutting *cut_by;
 
 static bool take(const char *line)
 {
-    int used = 0;
-    cuts = strncmp(line, "cut ", 4) == 0;
-    if (sscanf(line, cuts ? "cut %zu %zu %zu,%n" : "join %zu %zu %zu,%n", &edition, &room, &where, &used) < 3 || used == 0)
-        return false;
-    return take_hex(line + used, octets, sizeof octets, &length) && room <= OUTPUT && (cuts || where <= length);
-}
-
-static void copy_in(const Batch *batch)
-{
-    memcpy(octets + length, batch->octets, batch->length);
-    length += batch->length;
+    return take_question(line, words_of, &asked) && asked.amount <= OUTPUT && (asked.word == CUT || asked.where <= asked.length);
 }
 
 /* Each trio's first two batches joined, and the first cut, in turn. */
 static void make(void)
 {
-    static Trio trio;
-    static size_t made;
-    cuts = made++ % 2 == 1;
-    if (!cuts)
-        trios_next(&trio);
-    length = 0;
-    copy_in(&trio.first);
-    if (!cuts)
-        copy_in(&trio.second);
-    where = cuts ? below(4) : trio.first.length;
-    edition = chance(20) ? 3 * below(2) : PHAGUNDRO_RFC2511 + below(2);
-    room = chance(2) ? OUTPUT : below(length + 20);
+    ask_next(&asked, trios_next);
+    if (asked.word == CUT) {
+        asked.length = asked.where;
+        asked.where = below(4);
+    }
+    asked.amount = chance(2) ? OUTPUT : below(asked.length + 20);
+}
+
+static reference_pair_answer answer_to(uint8_t *output)
+{
+    if (asked.word == JOIN)
+        return join_by(asked.edition, asked.octets, asked.where, asked.octets + asked.where, asked.length - asked.where, output,
+            asked.amount);
+    reference_answer cut = cut_by(asked.edition, asked.octets, asked.length, asked.where, output, asked.amount);
+    return (reference_pair_answer){cut.number, cut.place, 0, cut.count};
 }
 
 static void show(void)
 {
     static uint8_t output[OUTPUT];
     size_t changed = 0;
-    reference_pair_answer answer;
     memset(output, UNTOUCHED, sizeof output);
-    if (cuts) {
-        reference_answer cut = cut_by(edition, octets, length, where, output, room);
-        answer = (reference_pair_answer){cut.number, cut.place, 0, cut.count};
-    } else {
-        answer = join_by(edition, octets, where, octets + where, length - where, output, room);
-    }
+    reference_pair_answer answer = answer_to(output);
     for (size_t i = answer.count; i < OUTPUT; i++)
         changed += output[i] != UNTOUCHED;
-    printf("%s %zu %zu %zu,", cuts ? "cut" : "join", edition, room, where);
-    show_hex(octets, length);
-    printf(",%zu %zu %zu %zu,", answer.number, answer.place, answer.file, answer.count);
+    show_question(&asked, words_of);
+    printf("%zu %zu %zu %zu,", answer.number, answer.place, answer.file, answer.count);
     show_hex(output, answer.count);
     printf(",%zu\n", changed);
 }

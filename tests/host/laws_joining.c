@@ -8,6 +8,7 @@
  * They are checked of the archive's calls; with a planted fault, of the references', which must break one. See comparison.h for the
  * command line and the exit statuses. */
 #include "comparison.h"
+#include "lent_pair.h"
 #include "reference.h"
 #include "trios.h"
 
@@ -22,11 +23,14 @@ enum { USUAL = 50000, FEW_CUT = 40, MOST_CUT = 1000, MOST_CUT_IN = 8 };
 static Trio trio;
 static size_t edition;
 
+static void next(void)
+{
+    trios_next(&trio);
+}
+
 static void show_trio(void)
 {
-    printf("seed %llu, trio %zu, %s\n", (unsigned long long)seed, number, trio_sorts[trio.sort].name);
-    show_batch("first", &trio.first);
-    show_batch("second", &trio.second);
+    show_pair(&trio, trio_sorts);
     show_batch("third", &trio.third);
     fflush(stdout);
 }
@@ -83,11 +87,6 @@ static size_t read_rows(const Batch *whole, Rows *rows)
 
 static size_t grouped, longest_grouped, too_long, cut_apart, most_cut, moved, grown;
 
-static bool same(const Batch *one, const Batch *two)
-{
-    return one->length == two->length && memcmp(one->octets, two->octets, one->length) == 0;
-}
-
 /* -- Grouping -- */
 
 /* "Joining in any grouping gives the same bytes whenever the whole is at most 65,535 bytes, and then every smaller join fits too." */
@@ -107,7 +106,7 @@ static void check_grouping(void)
         differs("a smaller join doesn't fit", 0);
     if (join(&left, &trio.third, &from_left) != PHAGUNDRO_ACCEPTED || join(&trio.first, &right, &from_right) != PHAGUNDRO_ACCEPTED)
         differs("a join of three doesn't fit", 0);
-    if (from_left.length != whole || !same(&from_left, &from_right))
+    if (from_left.length != whole || !same_bytes(&from_left, &from_right))
         differs("the grouping gives other bytes", 0);
     grouped++;
     keep_most(&longest_grouped, whole);
@@ -132,7 +131,7 @@ static void check_cutting(const Batch *batch, size_t messages)
             differs("what was cut isn't joined again", position);
         now = 1 - now;
     }
-    if (!same(&parts[now], batch))
+    if (!same_bytes(&parts[now], batch))
         differs("what was cut and joined again is another batch", messages);
     if (cut(batch, messages, &one) != PHAGUNDRO_NO_SUCH_MESSAGE)
         differs("a message is cut that isn't there", messages);
@@ -177,7 +176,7 @@ static void check_rows(const Rows *first, const Rows *second)
 
 /* -- One trio -- */
 
-static void check_trio(void)
+static void check_edition(void)
 {
     static Rows first, second, third;
     if (read_rows(&trio.first, &first) != PHAGUNDRO_ACCEPTED)
@@ -188,6 +187,12 @@ static void check_trio(void)
     check_rows(&first, &second);
     if (read_rows(&trio.third, &third) == PHAGUNDRO_ACCEPTED)
         check_grouping();
+}
+
+static void check_trio(void)
+{
+    for (edition = PHAGUNDRO_RFC2511; edition <= PHAGUNDRO_RFC4211; edition++)
+        check_edition();
 }
 
 static int account(size_t trios)
@@ -204,11 +209,5 @@ static int account(size_t trios)
 
 int main(int count, char **words)
 {
-    size_t trios = comparison_start(count, words, USUAL, show_trio);
-    for (number = 0; number < trios; number++) {
-        trios_next(&trio);
-        for (edition = PHAGUNDRO_RFC2511; edition <= PHAGUNDRO_RFC4211; edition++)
-            check_trio();
-    }
-    return account(trios);
+    return comparison_run(comparison_start(count, words, USUAL, show_trio), next, check_trio, account);
 }

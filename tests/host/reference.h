@@ -1,5 +1,6 @@
-/* The reading, the writing, the verdict and the duplicate search by document 01 and by document 02's A3 and A11, and the joining and the
- * cutting by document 02's A13, written from those papers alone. The comparisons check the archive against them. */
+/* The reading, the writing, the verdict and the duplicate search by document 01 and by document 02's A3 and A11, and by document 02 the
+ * joining and the cutting (A13) and what changed between two batches (A5), written from those papers alone. The comparisons check the
+ * archive against them. */
 #ifndef REFERENCE_H
 #define REFERENCE_H
 
@@ -40,6 +41,18 @@ reference_pair_answer reference_join(size_t edition, const uint8_t *first, size_
 
 /* The batch of the one message at a position. */
 reference_answer reference_cut(size_t edition, const uint8_t *bytes, size_t length, size_t position, uint8_t *output, size_t room);
+
+/* What changed between two batches, as a list of entries; the room counts numbers, and the count entries. */
+reference_pair_answer reference_compare(size_t edition, const uint8_t *first, size_t first_length, const uint8_t *second,
+    size_t second_length, int64_t *entries, size_t room);
+
+/* The part of one of the batches that an entry speaks of. The file says whose part or whose refusal it is. */
+typedef struct {
+    size_t number, place, file, from, length;
+} reference_part;
+
+reference_part reference_compare_part(size_t edition, const uint8_t *first, size_t first_length, const uint8_t *second,
+    size_t second_length, size_t entry);
 
 /* A fault planted in them, to show that a comparison finds it; 0 for none. */
 enum {
@@ -86,7 +99,29 @@ enum {
     ROOM_BEFORE_LENGTH = 30,   /* NO_ROOM before TOO_LONG */
     EDITION_OF_NEITHER = 31,   /* UNKNOWN_EDITION said to be neither file's */
     ROOM_BEFORE_POSITION = 32, /* NO_ROOM before NO_SUCH_MESSAGE */
-    NEXT_POSITION = 33         /* the message at the next position cut */
+    NEXT_POSITION = 33,        /* the message at the next position cut */
+
+    /* in what changed between two batches */
+    CONTROLS_BY_KIND = 34,      /* items in controls matched by kind and occurrence */
+    REG_INFO_BY_KIND = 35,      /* items in regInfo matched by kind and occurrence */
+    EXTENSIONS_FROM_LAST = 36,  /* extensions matched from the last one, as if one in front had shifted them */
+    PROOFS_AT_ONE_SPOT = 37,    /* proofs of two kinds taken to be at one spot */
+    CHOICES_AT_ONE_SPOT = 38,   /* choices of two kinds taken to be at one spot */
+    SECOND_BEFORE_FIRST = 39,   /* at one spot the second batch's entry before the first's */
+    BELOW_LISTED = 40,          /* what is below a container that one batch alone has listed too */
+    CONTAINERS_DIFFER = 41,     /* an entry for containers whose bytes differ too */
+    CARRIED_AS_LEAF = 42,       /* an item that carries a certReq not entered, but compared as a leaf */
+    LENGTHS_COMPARED = 43,      /* leaves of one length taken to be equal */
+    FIRST_MESSAGE_LISTED = 44,  /* the list ended after the first message */
+    COMMON_POSITIONS = 45,      /* messages at a position that one batch alone has not listed */
+    ROOM_BEFORE_SECOND = 46,    /* NO_ROOM before the second batch's refusal */
+    ROOM_OF_ENTRIES = 47,       /* the room for the list counted in entries instead of numbers */
+    ENTRY_BEFORE_REFUSALS = 48, /* NO_SUCH_MESSAGE, for an entry past any list, before the batches' refusals */
+    SECOND_PART = 49,           /* the second batch's part where both have the row */
+    PART_OF_NEITHER = 50,       /* the part said to be neither batch's where both have the row */
+    PART_CUT_SHORT = 51,        /* a part one byte shorter than its row */
+    PART_OF_CONTENT = 52,       /* a part without its identifier and length octets */
+    BYTE_OF_ENTRIES = 53        /* an entry's number kept in a byte */
 };
 extern int reference_fault;
 

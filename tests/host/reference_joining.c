@@ -3,13 +3,13 @@
 #include "reference.h"
 
 #include "paper.h"
+#include "reference_pair.h"
 
 #include <stdbool.h>
 #include <string.h>
 
 #define NONE SIZE_MAX /* instead of a row's number */
 
-enum { NEITHER = 0, FIRST = 1, SECOND = 2 }; /* files */
 enum { SHORT_HEADER = 2, LONGEST_HEADER = 5 };
 
 static size_t rows[ROW_NUMBERS * MOST_ROWS], count; /* of the batch that was read last */
@@ -77,18 +77,6 @@ static bool written(uint8_t *output, size_t room)
 
 /* -- Joining -- */
 
-static reference_pair_answer refused_pair(reference_answer answer, size_t file)
-{
-    if (answer.number == UNKNOWN_EDITION && reference_fault == EDITION_OF_NEITHER)
-        file = NEITHER;
-    return (reference_pair_answer){answer.number, answer.place, file, 0};
-}
-
-static reference_pair_answer refused_join(size_t number)
-{
-    return (reference_pair_answer){number, 0, NEITHER, 0};
-}
-
 /* "the batch with the first's messages and then the second's"; each is given with its header's length. */
 static void join(Octets first, size_t header, Octets second, size_t second_header)
 {
@@ -116,19 +104,19 @@ reference_pair_answer reference_join(size_t edition, const uint8_t *first, size_
     Octets one = {first, first_length}, two = {second, second_length};
     reference_answer read = shown(edition, one);
     if (read.number != ACCEPTED)
-        return refused_pair(read, FIRST);
+        return refused_file(read, FIRST);
     size_t header = field(0, ROW_CONTENT);
     if (reference_fault == LENGTH_BEFORE_SECOND && first_length + second_length > LONGEST + LONGEST_HEADER)
-        return refused_join(TOO_LONG);
+        return refused_pair(TOO_LONG);
     read = shown(edition, two);
     if (read.number != ACCEPTED)
-        return refused_pair(read, SECOND);
+        return refused_file(read, SECOND);
     join(one, header, two, field(0, ROW_CONTENT));
     if (reference_fault == ROOM_BEFORE_LENGTH && length > room)
-        return refused_join(NO_ROOM);
+        return refused_pair(NO_ROOM);
     if (too_long(one, two))
-        return refused_join(TOO_LONG);
-    return written(output, room) ? (reference_pair_answer){ACCEPTED, 0, NEITHER, length} : refused_join(NO_ROOM);
+        return refused_pair(TOO_LONG);
+    return written(output, room) ? (reference_pair_answer){ACCEPTED, 0, NEITHER, length} : refused_pair(NO_ROOM);
 }
 
 /* -- Cutting -- */

@@ -4,6 +4,7 @@
 #include "reference.h"
 
 #include "paper.h"
+#include "reference_kinds.h"
 #include "reference_nest.h"
 
 #include <stdbool.h>
@@ -23,21 +24,6 @@ typedef struct {
 static const size_t *row(const Draft *draft, size_t i)
 {
     return draft->numbers + ROW_NUMBERS * i;
-}
-
-/* The identifier of a kind of container; 0 for a leaf's. */
-static uint8_t identifier(size_t kind)
-{
-    switch (kind) {
-    case KIND_BATCH: case KIND_MESSAGE: case KIND_CERT_REQ: case KIND_CERT_TEMPLATE: return 0x30;
-    case KIND_CONTROLS: case KIND_REG_INFO: case KIND_REG_INFO_CERT_REQ: return 0x30;
-    case KIND_VALIDITY: return 0xA4;
-    case KIND_EXTENSIONS: return 0xA9;
-    case KIND_SIGNATURE: return 0xA1;
-    case KIND_KEY_ENCIPHERMENT: return 0xA2;
-    case KIND_KEY_AGREEMENT: return 0xA3;
-    default: return 0;
-    }
 }
 
 static bool append(Draft *draft, const uint8_t *octets, size_t size)
@@ -76,7 +62,7 @@ static size_t build(Draft *draft, size_t i, int depth)
     static const uint8_t carried_type[] = {0x06, 0x09, 0x2B, 0x06, 0x01, 0x05, 0x05, 0x07, 0x05, 0x02, 0x02};
     size_t kind = row(draft, i)[ROW_KIND], first = row(draft, i)[ROW_FIRST], whole = row(draft, i)[ROW_LENGTH];
     size_t start = draft->length, next = i + 1;
-    if (identifier(kind) == 0) {
+    if (container_identifier(kind) == 0) {
         bool within = first <= draft->slice_length && whole <= draft->slice_length - first;
         return within && append(draft, draft->slice + first, whole) ? next : NOTHING;
     }
@@ -84,7 +70,7 @@ static size_t build(Draft *draft, size_t i, int depth)
         return NOTHING;
     while (next < draft->count && row(draft, next)[ROW_PARENT] == i)
         next = build(draft, next, depth + 1);
-    return next != NOTHING && enclose(draft, start, identifier(kind)) ? next : NOTHING;
+    return next != NOTHING && enclose(draft, start, container_identifier(kind)) ? next : NOTHING;
 }
 
 /* Whether the other numbers of a container's row pass: they are ignored, but for two planted faults. */
@@ -112,7 +98,7 @@ static bool alike(const Draft *draft, const size_t *ours, const size_t *theirs)
 {
     if (ours[ROW_KIND] != theirs[ROW_KIND] || ours[ROW_PARENT] != theirs[ROW_PARENT])
         return false;
-    if (identifier(ours[ROW_KIND]) != 0)
+    if (container_identifier(ours[ROW_KIND]) != 0)
         return container_passes(ours, theirs);
     if (reference_fault == LEAVES_UNCOMPARED)
         return true;

@@ -8,6 +8,7 @@
 #define _DEFAULT_SOURCE
 #include "comparison.h"
 #include "inputs.h"
+#include "pairs.h"
 
 #include <pthread.h>
 #include <stdio.h>
@@ -18,11 +19,13 @@
 enum { STACK = 1 << 21, MARK = 0xA5 };
 
 static uint8_t output[INPUT_ROOM], further[1 + INPUT_ROOM];
+static int64_t list[PHAGUNDRO_ENTRY_NUMBERS * PHAGUNDRO_MOST_ENTRIES];
+static const Batch *one, *other; /* that are compared */
 static size_t edition, rows, table[TABLE], draft[TABLE], drafted;
 static uint8_t *stack;
 
-/* Bytes taken: by the calls that need the least, by the search in many messages, and by writing. */
-static size_t others, searching, writing_small, writing_few_rows, writing;
+/* Bytes taken: by the calls that need the least, by the search in many messages, by writing, and by comparing. */
+static size_t others, searching, writing_small, writing_few_rows, writing, comparing;
 
 static void *nothing(void *unused)
 {
@@ -82,6 +85,16 @@ static void *cut_it(void *unused)
     return unused;
 }
 
+/* The list, with room and with none, the part of the first entry, and that of one past the last. */
+static void *compare_them(void *unused)
+{
+    phagundro_compare(edition, one->octets, one->length, other->octets, other->length, list, sizeof list / sizeof *list);
+    phagundro_compare(edition, one->octets, one->length, other->octets, other->length, NULL, 0);
+    phagundro_compare_part(edition, one->octets, one->length, other->octets, other->length, 0);
+    phagundro_compare_part(edition, one->octets, one->length, other->octets, other->length, SIZE_MAX);
+    return unused;
+}
+
 /* The bytes of stack that a thread takes. */
 static size_t taken(void *(*run)(void *))
 {
@@ -135,13 +148,47 @@ static void measure_writing(void)
     keep_most(&writing_few_rows, taken(write_draft));
 }
 
-static void measure(void)
+static void measure_pair(const Batch *first, const Batch *second)
+{
+    one = first;
+    other = second;
+    keep_most(&comparing, taken(compare_them));
+}
+
+/* The input with itself, and with the last one before it that was accepted. */
+static void measure_comparing(void)
+{
+    static Batch now, before[EDITIONS];
+    memcpy(now.octets, input, now.length = length);
+    measure_pair(&now, &now);
+    measure_pair(&now, &before[edition]);
+    measure_pair(&before[edition], &now);
+    if (rows > 0)
+        before[edition] = now;
+}
+
+/* Batches with the most rows: equal, with other leaves, and with other rows. */
+static void measure_most_rows(void)
+{
+    static Batch least, changed, keyed;
+    most_rows(&least, 0, false);
+    most_rows(&changed, 1, false);
+    most_rows(&keyed, 1, true);
+    measure_pair(&least, &least);
+    measure_pair(&least, &changed);
+    measure_pair(&keyed, &keyed);
+    measure_pair(&least, &keyed);
+    measure_pair(&keyed, &least);
+}
+
+static void measure_input(void)
 {
     keep_most(&others, taken(accept_it));
     keep_most(&others, taken(read_it));
     keep_most(&others, taken(judge_it));
     keep_most(&others, taken(join_it));
     keep_most(&others, taken(cut_it));
+    measure_comparing();
     keep_most(messages_of(table, rows) <= PHAGUNDRO_FEW_MESSAGES ? &others : &searching, taken(search_it));
     if (rows > 0)
         measure_writing();
@@ -157,13 +204,16 @@ int main(int count, char **words)
     for (size_t left = strtoull(words[1], NULL, 10); left > 0; left--) {
         length = inputs_next(input);
         for (edition = PHAGUNDRO_RFC2511; edition <= PHAGUNDRO_RFC4211; edition++)
-            measure();
+            measure_input();
     }
+    for (edition = PHAGUNDRO_RFC2511; edition <= PHAGUNDRO_RFC4211; edition++)
+        measure_most_rows();
     size_t thread = taken(nothing); /* takes some itself */
     printf("PHAGUNDRO_STACK %zu\n", others - thread);
     printf("PHAGUNDRO_STACK_DUPLICATES %zu\n", searching - thread);
     printf("PHAGUNDRO_STACK_WRITE_SMALL %zu\n", writing_small - thread);
     printf("PHAGUNDRO_STACK_WRITE_FEW_ROWS %zu\n", writing_few_rows - thread);
     printf("PHAGUNDRO_STACK_WRITE %zu\n", writing - thread);
+    printf("PHAGUNDRO_STACK_COMPARE %zu\n", comparing - thread);
     return 0;
 }
