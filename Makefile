@@ -37,7 +37,7 @@ includedir=$${prefix}/include
 libdir=$${prefix}/lib
 
 Name: phagundro
-Description: Batches of certificate requests, read, written, judged, joined and cut
+Description: Batches of certificate requests, read, written, judged, joined, cut and compared
 Version: $(VERSION)
 Cflags: -I$${includedir}
 Libs: -L$${libdir} -lphagundro
