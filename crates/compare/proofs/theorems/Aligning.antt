@@ -1,17 +1,16 @@
 -- Where a merge stands: the children of counterparts that it has passed are as many on both sides, by each kind that still comes. So what it pairs
 -- stands at one spot, and what it passes alone has no counterpart. Assumes nothing.
 use Prim.Native.Nat.{ℕ, zero, suc, _≤_, _<_}
-use native.Mathlib.Decide.{decLe}
 use native.Mathlib.Omega.{arith}
 use mathlib.Core.Path.{_≡_, refl, sym, ap, ap₂, subst, _∙_}
-use mathlib.Core.Bool.{Bool, true, false}
+use mathlib.Core.Bool.{false}
 use mathlib.Core.List.{List}
 use lib.ListN.{length}
-use Rattle.crmf.specs.meaning.Rows.{Row, container}
-use Rattle.compare.specs.meaning.Counterparts.{rowAt, Child, matchKind, counts, countBefore, spot, Counterpart, batches, children}
+use Rattle.crmf.specs.meaning.Rows.{Row}
+use Rattle.compare.specs.meaning.Counterparts.{Child, matchKind, counts, countBefore, spot, Counterpart, batches, children}
 use Rattle.compare.specs.steps.Arranged.{Arranged}
-use Rattle.compare.specs.steps.Merging.{Next, Alike}
-use Rattle.compare.proofs.theorems.Counting.{child-counts, elsewhere, of-another, one-more, no-more, count-past, later-more, one-row}
+use Rattle.compare.specs.steps.Merging.{Next}
+use Rattle.compare.proofs.theorems.Counting.{child-counts, elsewhere, of-another, one-more, no-more, count-past}
 use Rattle.compare.proofs.theorems.RowOrder.{Reached, same-or-not, child-or-not, child-after, reached-child, reached-next, no-later, matched-ascend}
 
 -- counterparts the other way round

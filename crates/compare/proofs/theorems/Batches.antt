@@ -1,16 +1,14 @@
 -- The rows of a batch stand as a merge asks, and each can be read back from the number that it is packed into. Assumes nothing.
-use Prim.Native.Nat.{ℕ, _+_, _*_, _≤_, _<_}
+use Prim.Native.Nat.{ℕ, _+_, _≤_, _<_}
 use native.Mathlib.Omega.{arith}
-use mathlib.Core.Path.{_≡_, refl, sym, ap, subst, _∙_}
-use mathlib.Core.Bool.{Bool, true, false, _||_, false≢true}
+use mathlib.Core.Path.{_≡_, sym, ap, subst, _∙_}
+use mathlib.Core.Bool.{true, false, false≢true}
 use mathlib.Core.List.{List}
-use lib.Dec.{eqb}
 use lib.ListN.{length, getD, take}
-use borrow.Author.Tests.{eq-eqb}
 use Rattle.der.specs.meaning.Bounds.{longest}
 use Rattle.der.specs.meaning.Refusal.{accepted}
 use Rattle.crmf.specs.meaning.Kinds as kinds
-use Rattle.crmf.specs.meaning.Rows.{Row, container, batchRows}
+use Rattle.crmf.specs.meaning.Rows.{Row, batchRows}
 use Rattle.crmf.specs.steps.rows.Fill.{rowsOfInput}
 use Rattle.crmf.specs.steps.rows.Packing.{packRow, packedRows, kindOf, firstOf, wholeOf, parentOf}
 use Rattle.crmf.specs.meaning.Lists.{over}

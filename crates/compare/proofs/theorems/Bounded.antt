@@ -1,16 +1,16 @@
 -- A merge lists no more entries than there are rows in both batches, and no row is in two entries. Assumes nothing.
-use Prim.Native.Nat.{ℕ, suc, _+_, _≤_}
+use Prim.Native.Nat.{ℕ, _+_, _≤_}
 use native.Mathlib.Omega.{arith}
-use mathlib.Core.Path.{_≡_, refl, sym, ap, _∙_}
-use mathlib.Core.List.{List, [], _∷_, _++_, List·Memᴰ}
+use mathlib.Core.Path.{_≡_, refl, ap}
+use mathlib.Core.List.{List, List·Memᴰ}
 use lib.ListN.{length, length-append}
 use Rattle.crmf.specs.meaning.Rows.{Row}
-use Rattle.compare.specs.meaning.Changes.{Change, only-first, only-second, leaves-differ, Changed, Changes}
+use Rattle.compare.specs.meaning.Changes.{Change, only-first, only-second, leaves-differ, Changes}
 use Rattle.compare.specs.steps.Arranged.{Arranged}
 use Rattle.compare.specs.steps.Merging.{Merge, over, first, second, unlike, same, within}
 use Rattle.compare.specs.steps.Merging as merging
 use Rattle.compare.proofs.theorems.Complete.{at-batches, next-batch, alone-first, alone-second, differ-pair}
-use Rattle.compare.proofs.theorems.Existing.{Merges, whole-merge, merged-changes}
+use Rattle.compare.proofs.theorems.Existing.{whole-merge, merged-changes}
 use Rattle.compare.proofs.theorems.MergeSteps.{merge-end}
 use Rattle.compare.proofs.theorems.OneCounterpart.{one-counterpart, one-counterpart-of}
 use Rattle.compare.proofs.theorems.OneList.{changes-once}

@@ -3,15 +3,13 @@ use Prim.Native.Nat.{ℕ, _+_, _*_, _/_, _≤_, _<_}
 use native.Mathlib.Omega.{arith}
 use mathlib.Core.Path.{_≡_, refl, sym, ap, ap₂, subst, _∙_}
 use mathlib.Core.Bool.{true, false}
-use mathlib.Core.List.{List, [], _∷_, _++_}
-use mathlib.Core.Option.{some}
-use lib.Dec.{leb}
+use mathlib.Core.List.{List, _++_}
 use lib.IntN.{ℤ}
-use lib.ListN.{length, drop, getD, getElem?}
+use lib.ListN.{length, drop}
 use lib.Seq.{take-all}
 use borrow.Author.Tests.{le-leb, lt-leb}
 use Rattle.der.specs.meaning.Refusal.{accepted, noRoom, noSuchMessage}
-use Rattle.crmf.specs.meaning.Rows.{Row, batchRows}
+use Rattle.crmf.specs.meaning.Rows.{Row}
 use Rattle.crmf.specs.steps.rows.Fill.{rowsOfInput}
 use Rattle.editions.specs.meaning.TwoBatches.{firstFile, secondFile, neitherFile, Accepted}
 use Rattle.editions.proofs.Laws.{nest-rows}
@@ -21,7 +19,7 @@ use Rattle.compare.specs.meaning.Compares.{rowsOf, Between, Compares, no
 use Rattle.compare.specs.meaning.Parts.{partFile, partRow, Finds, first-refused, second-refused, past, found}
 use Rattle.compare.specs.steps.Arranged.{Arranged}
 use Rattle.compare.specs.steps.Finding.{Listed, Gathered, gathered}
-use Rattle.compare.specs.steps.Lists.{kept, window}
+use Rattle.compare.specs.steps.Lists.{kept}
 use Rattle.compare.proofs.theorems.Batches.{in-place}
 use Rattle.compare.proofs.theorems.Gathering.{changeAt, member-at, entry-at, the-entry}
 use Rattle.compare.proofs.theorems.OneCounterpart.{counterpart-there}

@@ -1,17 +1,17 @@
 -- A merge of two batches' rows lists all that changed: every row of either is accounted for, and what changed can only be accounted for as an
 -- entry. Assumes nothing.
-use Prim.Native.Nat.{ℕ, zero, suc, _≤_, _<_}
+use Prim.Native.Nat.{ℕ, zero, suc, _<_}
 use native.Mathlib.Decide.{decLe}
 use native.Mathlib.Omega.{arith}
-use mathlib.Core.Path.{_≡_, refl, sym, ap, subst, _∙_}
+use mathlib.Core.Path.{_≡_, sym, ap, subst, _∙_}
 use mathlib.Core.Bool.{true, false, false≢true}
-use mathlib.Core.List.{List, [], _∷_, _++_, List·Memᴰ}
+use mathlib.Core.List.{List, List·Memᴰ}
 use lib.ListN.{length}
 use Rattle.crmf.specs.meaning.Kinds as kinds
 use Rattle.crmf.specs.meaning.Rows.{Row, container}
 use Rattle.crmf.proofs.Laws.{container-kinds}
 use Rattle.compare.specs.meaning.Counterparts.{rowAt, Child, Counterpart, batches, Below, child, deeper}
-use Rattle.compare.specs.meaning.Changes.{Change, only-first, only-second, leaves-differ, rowOctets, Changed, in-first, in-second, in-both, Accounted, matched, is-alone, differs, below, FirstAccounted, SecondAccounted}
+use Rattle.compare.specs.meaning.Changes.{Change, only-first, only-second, leaves-differ, rowOctets, Changed, in-first, in-second, in-both, matched, is-alone, differs, below, FirstAccounted, SecondAccounted}
 use Rattle.compare.specs.steps.Arranged.{Arranged}
 use Rattle.compare.specs.steps.Merging.{Next, Merge}
 use Rattle.compare.proofs.theorems.Aligning.{other-way, At, at-start}

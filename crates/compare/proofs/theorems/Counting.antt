@@ -1,14 +1,13 @@
 -- How many children of a row stand before another: the count grows by one at each child that is matched by the kind and stays elsewhere, so no
 -- two rows have one spot among the children of a row. Assumes nothing.
-use Prim.Native.Nat.{ℕ, zero, suc, _+_, _≤_, _<_}
+use Prim.Native.Nat.{ℕ, zero, suc, _≤_, _<_}
 use native.Mathlib.Decide.{decLe}
 use native.Mathlib.Omega.{arith}
-use mathlib.Core.Path.{_≡_, refl, sym, ap, subst, _∙_}
+use mathlib.Core.Path.{_≡_, refl, _∙_}
 use mathlib.Core.Bool.{Bool, true, false, _&&_}
 use mathlib.Core.List.{List}
 use lib.Dec.{eqb}
-use lib.ListN.{length}
-use borrow.Author.Tests.{eqb-true, eq-eqb, ne-eqb}
+use borrow.Author.Tests.{eq-eqb, ne-eqb}
 use Rattle.crmf.specs.meaning.Rows.{Row}
 use Rattle.compare.specs.meaning.Counterparts.{rowAt, Child, matchKind, counts, countBefore}
 

@@ -1,13 +1,12 @@
 -- A list of changes is empty exactly when the batches are the same: a merge without entries passes the same rows on both sides, and these show
 -- the same pieces, of which each batch is the assembly. Assumes nothing.
-use Prim.Native.Nat.{ℕ, zero, suc, _+_, _≤_, _<_}
+use Prim.Native.Nat.{ℕ, zero, suc, _≤_, _<_}
 use native.Mathlib.Decide.{decLe}
 use native.Mathlib.Omega.{arith}
 use mathlib.Core.Path.{_≡_, refl, sym, ap, ap₂, subst, _∙_}
 use mathlib.Core.Bool.{Bool, true, false, false≢true}
-use mathlib.Core.List.{List, [], _∷_, _++_, List·Memᴰ, List·Memᴰ·head}
+use mathlib.Core.List.{List, [], _∷_, List·Memᴰ·head}
 use lib.ListN.{length, length-append}
-use lib.Seq.{slice}
 use Rattle.crmf.specs.meaning.Rows.{Row, container}
 use Rattle.crmf.specs.meaning.Pieces.{Piece, pieceOf, piecesOf}
 use Rattle.crmf.proofs.Laws.{pieces-none, pieces-row}
@@ -18,8 +17,8 @@ use Rattle.compare.specs.steps.Merging.{Alike, Merge, over, first, secon
 use Rattle.compare.proofs.theorems.OneCounterpart.{one-counterpart, counterpart-there}
 use Rattle.compare.proofs.theorems.MergeSteps.{merge-end}
 use Rattle.compare.proofs.theorems.Complete.{at-batches, next-batch, batch-box}
-use Rattle.compare.proofs.theorems.OneList.{none, changes-once}
-use Rattle.compare.proofs.theorems.Existing.{Merges, whole-merge, merged-changes}
+use Rattle.compare.proofs.theorems.OneList.{changes-once}
+use Rattle.compare.proofs.theorems.Existing.{whole-merge, merged-changes}
 
 -- In its own batch each row is its own counterpart.
 own-counterpart : {s : List ℕ} {rs : List Row} → Arranged s rs → (bound i : ℕ) → i ≤ bound → i < length rs → Counterpart rs rs i i

@@ -1,32 +1,27 @@
 -- What a merge of two batches finds: the changes, counted and listed, and the part that an entry speaks of. Assumes nothing.
-use Prim.Native.Nat.{ℕ, zero, suc, _+_, _*_, _/_, _≤_, _<_}
+use Prim.Native.Nat.{ℕ, zero, suc, _*_, _/_, _≤_, _<_}
 use native.Mathlib.Omega.{arith}
 use mathlib.Core.Path.{_≡_, refl, sym, ap, ap₂, subst, _∙_}
-use mathlib.Core.Bool.{Bool, true, false, false≢true}
+use mathlib.Core.Bool.{true, false, false≢true}
 use mathlib.Core.List.{List, [], _∷_, _++_, List·Memᴰ, List·Memᴰ·head, List·Memᴰ·tail, append-nil}
 use mathlib.Core.Option.{Option, some, none as absent, Option·some-injective}
-use lib.Dec.{leb}
 use lib.IntN.{ℤ}
 use lib.ListN.{length, getD, getElem?, take, drop, drop-of-length-le}
-use lib.Seq.{drop-cons, take-nil, drop-nil}
+use lib.Seq.{drop-cons, take-nil}
 use borrow.Author.Tests.{le-leb, lt-leb}
-use Rattle.crmf.specs.meaning.Rows.{Row}
 use Rattle.crmf.specs.steps.rows.Fill.{rowsOfInput}
 use Rattle.crmf.specs.steps.rows.Packing.{firstOf, wholeOf}
 use Rattle.compare.specs.declared.found.Found.{Found}
 use Rattle.compare.specs.declared.merge.Cursor.{Cursor}
-use Rattle.compare.specs.declared.merge.Pair.{Pair}
-use Rattle.compare.specs.meaning.Counterparts.{rowAt}
-use Rattle.compare.specs.meaning.Changes.{Change, only-first, only-second, leaves-differ, entryNumbers, entry, entries, Changed, in-first, in-second, in-both, Changes}
-use Rattle.compare.specs.meaning.Parts.{partFile, partRow}
-use Rattle.compare.specs.steps.Finding.{Listed, Counted, Gathered, gathered, PartFound, InTables, Begins, rowOf}
+use Rattle.compare.specs.meaning.Changes.{Change, only-first, only-second, leaves-differ, entryNumbers, entry, entries, Changed, in-first, in-second, in-both}
+use Rattle.compare.specs.meaning.Parts.{partFile}
+use Rattle.compare.specs.steps.Finding.{Counted, Gathered, gathered, PartFound, InTables, Begins, rowOf}
 use Rattle.compare.specs.steps.Lists.{kept, window}
 use Rattle.compare.specs.steps.Tables.{Tabled}
 use Rattle.compare.specs.steps.Walking.{Gone}
 use Rattle.compare.proofs.theorems.Existing.{merged-changes}
 use Rattle.compare.proofs.theorems.OneCounterpart.{counterpart-there}
 use Rattle.compare.proofs.theorems.OneList.{changes-once}
-use Rattle.compare.proofs.theorems.Windows.{entries-length}
 
 -- a list stays if there are no entries from its first on
 pub window-beyond : (from : ℕ) (cs : List Change) (old : List ℤ) → length cs ≤ from → window from cs old ≡ old

@@ -5,7 +5,7 @@ use native.Mathlib.Omega.{arith}
 use mathlib.Core.Path.{_≡_, refl, sym, ap, subst, _∙_}
 use mathlib.Core.Logic.{_⊎_, inl, inr}
 use mathlib.Core.Bool.{true, false, false≢true}
-use mathlib.Core.List.{List, [], _∷_, _++_, List·Memᴰ, List·Memᴰ·head, List·Memᴰ·tail}
+use mathlib.Core.List.{List, _∷_, _++_, List·Memᴰ, List·Memᴰ·head, List·Memᴰ·tail}
 use Rattle.crmf.specs.meaning.Rows.{Row, container}
 use Rattle.compare.specs.meaning.Counterparts.{rowAt}
 use Rattle.compare.specs.meaning.Changes.{Change, only-first, only-second, leaves-differ, Changed, in-first, in-second, in-both, Accounted, matched, is-alone, differs, below, FirstAccounted, SecondAccounted}

@@ -1,10 +1,10 @@
 -- Comparing has one answer, and one list afterwards, for every input, and so has finding an entry's part; a refusal leaves the list as it was, and
 -- has an empty part. Assumes nothing.
-use Prim.Native.Nat.{ℕ, _*_, _≤_, _<_}
+use Prim.Native.Nat.{ℕ, _*_}
 use native.Mathlib.Omega.{arith}
 use mathlib.Core.Path.{_≡_, refl, sym, ap, ap₂, subst, _∙_}
 use mathlib.Core.List.{List, _++_}
-use mathlib.Core.Option.{some, Option·some-injective}
+use mathlib.Core.Option.{Option·some-injective}
 use lib.IntN.{ℤ}
 use lib.ListN.{length, drop, getElem?}
 use Rattle.der.specs.meaning.Octets.{Octets}

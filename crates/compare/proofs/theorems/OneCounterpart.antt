@@ -1,5 +1,5 @@
 -- A row has at most one counterpart, of its own kind; and what a merge passes alone has none. Assumes nothing.
-use Prim.Native.Nat.{ℕ, zero, suc, _≤_, _<_}
+use Prim.Native.Nat.{ℕ, _≤_, _<_}
 use native.Mathlib.Decide.{decLe}
 use native.Mathlib.Omega.{arith}
 use mathlib.Core.Path.{_≡_, refl, sym, ap, ap₂, subst, _∙_}
@@ -9,7 +9,7 @@ use Rattle.crmf.specs.meaning.Rows.{Row}
 use Rattle.compare.specs.meaning.Counterparts.{rowAt, Child, matchKind, countBefore, Spot, spot, Counterpart, batches, children, Below, child, deeper}
 use Rattle.compare.specs.steps.Arranged.{Arranged}
 use Rattle.compare.proofs.theorems.Counting.{count-grows, later-more, one-row}
-use Rattle.compare.proofs.theorems.Aligning.{other-way, Aligned, level, first-more, second-more, At, still-later, one-spot}
+use Rattle.compare.proofs.theorems.Aligning.{other-way, Aligned, level, first-more, second-more, At, still-later}
 
 module _ (A B : List Row) (i j : ℕ) (same : spot A i ≡ spot B j) where
   -- one spot: one kind that rows are matched by, and as many before them

@@ -1,13 +1,13 @@
 -- Two batches have only one list of changes: of two entries at most one comes before the other. Assumes nothing.
-use Prim.Native.Nat.{ℕ, _<_}
+use Prim.Native.Nat.{ℕ}
 use native.Mathlib.Omega.{arith}
 use mathlib.Core.Path.{_≡_, refl, sym, ap, ap₂, subst, _∙_}
-use mathlib.Core.Logic.{_⊎_, inl, inr}
+use mathlib.Core.Logic.{inl, inr}
 use lib.ListN.{length}
 use mathlib.Core.List.{List, [], _∷_, _++_, List·Memᴰ, List·Memᴰ·head, List·Memᴰ·tail}
 use Rattle.crmf.specs.meaning.Rows.{Row}
 use Rattle.compare.specs.meaning.Counterparts.{Spot, spot}
-use Rattle.compare.specs.meaning.Changes.{Change, only-first, only-second, leaves-differ, Path, batch, child, Way, first, second, both, Sooner, Earlier, parts, along, Before, by-spot, at-one-spot, InOrder, Changes}
+use Rattle.compare.specs.meaning.Changes.{Change, Path, batch, child, Way, first, second, both, Sooner, Earlier, parts, along, Before, by-spot, at-one-spot, InOrder, Changes}
 
 -- a row has one way
 path-once : {rs : List Row} {i : ℕ} {xs ys : List Spot} → Path rs i xs → Path rs i ys → xs ≡ ys

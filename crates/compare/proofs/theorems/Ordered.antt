@@ -1,20 +1,19 @@
 -- A merge lists its entries in order: each stands at or below a child that still comes, and what comes later is at a later spot. Assumes nothing.
 use Prim.Native.Nat.{ℕ, suc, _≤_, _<_}
-use native.Mathlib.Decide.{decLe}
 use native.Mathlib.Omega.{arith}
-use mathlib.Core.Path.{_≡_, refl, sym, ap, subst, _∙_}
+use mathlib.Core.Path.{_≡_, refl, sym, subst}
 use mathlib.Core.Logic.{_⊎_, inl, inr}
 use mathlib.Core.List.{List, [], _∷_, _++_, List·Memᴰ, List·Memᴰ·head, List·Memᴰ·tail, append-assoc}
 use Rattle.crmf.specs.meaning.Rows.{Row}
-use Rattle.compare.specs.meaning.Counterparts.{rowAt, Child, matchKind, countBefore, Spot, spot}
-use Rattle.compare.specs.meaning.Changes.{Change, only-first, only-second, leaves-differ, Path, batch, child, Way, first as in-one, second as in-two, both, Sooner, Earlier, parts, along, Before, by-spot, at-one-spot, InOrder}
+use Rattle.compare.specs.meaning.Counterparts.{Child, matchKind, Spot, spot}
+use Rattle.compare.specs.meaning.Changes.{Change, only-first, only-second, Path, child, Way, first as in-one, second as in-two, both, Sooner, Earlier, parts, along, Before, by-spot, at-one-spot, InOrder}
 use Rattle.compare.specs.steps.Arranged.{Arranged}
-use Rattle.compare.specs.steps.Merging.{Next, Alike, Merge, over, first, second, unlike, same, differing, within}
+use Rattle.compare.specs.steps.Merging.{Alike, Merge, over, first, second, unlike, same, differing, within}
 use Rattle.compare.proofs.theorems.Members.{either}
 use Rattle.compare.proofs.theorems.Counting.{later-more}
 use Rattle.compare.proofs.theorems.RowOrder.{matched-ascend, same-or-not}
 use Rattle.compare.proofs.theorems.Aligning.{At, at-first, at-both, still-later, one-spot}
-use Rattle.compare.proofs.theorems.MergeSteps.{at-second, at-inside, at-leaves, at-after, merge-end, leaf-one, leaf-two}
+use Rattle.compare.proofs.theorems.MergeSteps.{at-second, at-inside, at-leaves, at-after, merge-end}
 
 -- ways that part after the same spots
 earlier-after : (way : List Spot) {xs ys : List Spot} → Earlier xs ys → Earlier (way ++ xs) (way ++ ys)

@@ -1,16 +1,15 @@
 -- What a table of packed rows says of a batch's rows: which are children, and which comes next. Assumes nothing.
-use Prim.Native.Nat.{ℕ, suc, _≤_, _<_}
+use Prim.Native.Nat.{ℕ, _<_}
 use native.Mathlib.Omega.{arith}
-use mathlib.Core.Path.{_≡_, refl, sym, ap, subst, _∙_}
-use mathlib.Core.Bool.{Bool, true, false, _&&_, and-eq-true-iff, false≢true}
+use mathlib.Core.Path.{_≡_, sym, _∙_}
+use mathlib.Core.Bool.{true, false, and-eq-true-iff, false≢true}
 use mathlib.Core.List.{List}
 use lib.Dec.{eqb, ltb}
 use lib.ListN.{length, getD}
 use borrow.Author.Tests.{eqb-true, ltb-true, eq-eqb, lt-ltb}
-use Rattle.crmf.specs.meaning.Rows.{Row}
 use Rattle.crmf.specs.steps.rows.Fill.{rowsOfInput}
 use Rattle.crmf.specs.steps.rows.Packing.{parentOf}
-use Rattle.compare.specs.meaning.Counterparts.{rowAt, Child}
+use Rattle.compare.specs.meaning.Counterparts.{Child}
 use Rattle.compare.specs.steps.Merging.{Next}
 use Rattle.compare.specs.steps.Tables.{Tabled, childAt, Ended}
 

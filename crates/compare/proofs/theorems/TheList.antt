@@ -1,11 +1,10 @@
 -- What the list of changes between two accepted batches says: document 02's request A5, sentence by sentence. Assumes nothing.
 use Prim.Native.Nat.{ℕ, _+_, _≤_, _<_}
-use mathlib.Core.Path.{_≡_, refl, sym, ap, subst, _∙_}
+use mathlib.Core.Path.{_≡_, sym, ap, subst, _∙_}
 use mathlib.Core.Bool.{false}
-use mathlib.Core.List.{List, [], _∷_, List·Memᴰ}
+use mathlib.Core.List.{List, [], List·Memᴰ}
 use lib.ListN.{length}
-use Rattle.crmf.specs.meaning.Pieces.{piecesOf}
-use Rattle.crmf.specs.meaning.Rows.{Row, container, batchRows}
+use Rattle.crmf.specs.meaning.Rows.{Row, container}
 use Rattle.crmf.specs.steps.rows.Assembly.{assembled}
 use Rattle.crmf.specs.steps.rows.Fill.{rowsOfInput}
 use Rattle.crmf.proofs.Laws.{assembly}
@@ -19,7 +18,7 @@ use Rattle.compare.proofs.theorems.Batches.{in-place}
 use Rattle.compare.proofs.theorems.Bounded.{changes-few}
 use Rattle.compare.proofs.theorems.Complete.{alone-first, alone-second, all-first-accounted, all-second-accounted}
 use Rattle.compare.proofs.theorems.EmptyLists.{nothing-changed, unchanged-pieces}
-use Rattle.compare.proofs.theorems.Existing.{Merges, whole-merge, merged-changes, changes-there}
+use Rattle.compare.proofs.theorems.Existing.{whole-merge, merged-changes, changes-there}
 use Rattle.compare.proofs.theorems.OneCounterpart.{counterpart-kind}
 use Rattle.compare.proofs.theorems.OneList.{changes-once}
 

@@ -1,23 +1,21 @@
 -- The steps of the walk: each goes on from a cursor to another, with the entries that it lists, so that a merge from there on is one from here on.
 -- Assumes nothing.
-use Prim.Native.Nat.{ℕ, zero, suc, _+_, _≤_, _<_}
+use Prim.Native.Nat.{ℕ, suc, _+_, _<_}
 use native.Mathlib.Omega.{arith}
-use mathlib.Core.Path.{_≡_, refl, sym, ap, ap₂, subst, _∙_}
+use mathlib.Core.Path.{_≡_, refl, sym, ap, subst, _∙_}
 use mathlib.Core.Bool.{Bool, true, false}
 use mathlib.Core.List.{List, [], _∷_, _++_, append-assoc, append-nil}
 use lib.IntN.{ℤ}
-use lib.ListN.{length, getD, length-append}
+use lib.ListN.{length, length-append}
 use Rattle.crmf.specs.meaning.Rows.{Row, container}
 use Rattle.crmf.specs.steps.rows.Fill.{rowsOfInput}
-use Rattle.crmf.specs.steps.rows.Packing.{kindOf}
 use Rattle.compare.specs.declared.merge.Cursor.{Cursor}
 use Rattle.compare.specs.declared.merge.Pair.{Pair}
 use Rattle.compare.specs.meaning.Counterparts.{rowAt, Child, byPosition, matchKind}
 use Rattle.compare.specs.meaning.Changes.{Change, only-first, only-second, leaves-differ, rowOctets}
-use Rattle.compare.specs.steps.Arranged.{Arranged}
 use Rattle.compare.specs.steps.Lists.{Added}
-use Rattle.compare.specs.steps.Merging.{Next, Alike, Merge, over, first, second, unlike, same, differing, within}
-use Rattle.compare.specs.steps.Tables.{Tabled, childAt, Ended}
+use Rattle.compare.specs.steps.Merging.{over, first, second, unlike, same, differing, within}
+use Rattle.compare.specs.steps.Tables.{childAt, Ended}
 use Rattle.compare.specs.steps.Walking.{Merging, Standing, Went, Stepped, Gone, Facing}
 use Rattle.compare.proofs.theorems.RowOrder.{matched-none, matched-own}
 use Rattle.compare.proofs.theorems.TableRows.{table-child, table-no-child, table-next}

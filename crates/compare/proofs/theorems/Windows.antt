@@ -1,14 +1,13 @@
 -- Entries added to a list one after the other: each is written at its place, or not at all if it comes before the list's first entry or past its
 -- room. Assumes nothing.
-use Prim.Native.Nat.{ℕ, zero, suc, _+_, _-_, _*_, _/_, _≤_, _<_}
-use native.Mathlib.Decide.{decLe}
+use Prim.Native.Nat.{ℕ, _+_, _-_, _*_, _/_, _≤_, _<_}
 use native.Mathlib.Numerals.{add-one, add-two}
 use native.Mathlib.Omega.{arith}
-use mathlib.Core.Path.{_≡_, refl, sym, ap, ap₂, subst, _∙_}
+use mathlib.Core.Path.{_≡_, refl, sym, ap, ap₂, _∙_}
 use mathlib.Core.List.{List, [], _∷_, _++_, append-assoc, append-nil}
-use lib.IntN.{ℤ, pos}
+use lib.IntN.{ℤ}
 use lib.ListN.{length, take, drop, set, length-append, length-take, length-drop, drop-of-length-le}
-use lib.Seq.{take-all, drop-nil, take-append-le, drop-append-le, take-at, drop-at, drop-drop, sets-eq, drop-length, length-take-le}
+use lib.Seq.{take-all, take-append-le, drop-append-le, take-at, drop-at, drop-drop, sets-eq}
 use Rattle.compare.specs.meaning.Changes.{Change, only-first, only-second, leaves-differ, entryNumbers, entry, entries}
 use Rattle.compare.specs.steps.Lists.{kept, window, Added}
 

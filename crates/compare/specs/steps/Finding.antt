@@ -1,13 +1,12 @@
 -- What merging two batches' rows finds: the number of entries, those that are listed, and the part that one of them speaks of. Assumes nothing.
-use Prim.Native.Nat.{ℕ, _+_, _*_, _/_, _≤_, _<_}
+use Prim.Native.Nat.{ℕ, _+_, _*_, _≤_, _<_}
 use mathlib.Core.Path.{_≡_}
 use mathlib.Core.Bool.{Bool, true, false}
-use mathlib.Core.List.{List, [], _∷_, _++_}
+use mathlib.Core.List.{List}
 use mathlib.Core.Option.{some}
 use lib.Dec.{leb}
 use lib.IntN.{ℤ}
-use lib.ListN.{length, getD, getElem?, take}
-use Rattle.crmf.specs.meaning.Rows.{Row}
+use lib.ListN.{length, getD, getElem?}
 use Rattle.crmf.specs.steps.rows.Fill.{rowsOfInput}
 use Rattle.crmf.specs.steps.rows.Packing.{firstOf, wholeOf}
 use Rattle.compare.specs.declared.found.Found.{Found}

@@ -2,10 +2,10 @@
 use Prim.Native.Nat.{ℕ, _*_, _/_}
 use mathlib.Core.Path.{_≡_}
 use mathlib.Core.Bool.{Bool, true, false}
-use mathlib.Core.List.{List, [], _∷_, _++_}
-use lib.IntN.{ℤ, pos}
+use mathlib.Core.List.{List, _++_}
+use lib.IntN.{ℤ}
 use lib.ListN.{length, take, drop}
-use Rattle.compare.specs.meaning.Changes.{Change, entryNumbers, entry, entries}
+use Rattle.compare.specs.meaning.Changes.{Change, entryNumbers, entries}
 
 -- the entries from a number on that a list has room for
 abbrev pub kept : ℕ → List Change → List ℤ → List Change

@@ -1,10 +1,9 @@
 -- What the walk that merges two batches' rows is lent and answers. Assumes nothing.
-use Prim.Native.Nat.{ℕ, suc, _+_, _≤_, _<_}
+use Prim.Native.Nat.{ℕ, _+_, _≤_, _<_}
 use mathlib.Core.Path.{_≡_}
 use mathlib.Core.List.{List, _++_}
 use lib.IntN.{ℤ}
 use lib.ListN.{length}
-use Rattle.crmf.specs.meaning.Rows.{Row}
 use Rattle.crmf.specs.steps.rows.Fill.{rowsOfInput}
 use Rattle.compare.specs.declared.merge.Cursor.{Cursor}
 use Rattle.compare.specs.declared.merge.Pair.{Pair}

@@ -1,6 +1,5 @@
 -- The verdict on a message's proof, and the part that its signature covers: SPECIFICATION 7. Assumes nothing.
 use Prim.Native.Nat.{ℕ, _+_}
-use mathlib.Core.Path.{_≡_}
 use mathlib.Core.Bool.{Bool, true, false, not, _&&_}
 use mathlib.Core.List.{List}
 use mathlib.Core.Option.{some, none as absent}

@@ -10,7 +10,6 @@ use Rattle.der.specs.meaning.Refusal.{accepted}
 use Rattle.crmf.specs.meaning.Lists.{over}
 use Rattle.crmf.specs.meaning.Messages.{Message, messages}
 use Rattle.crmf.proofs.Laws.{position-within}
-use Rattle.editions.specs.meaning.Answers.{Answers}
 use Rattle.editions.proofs.Laws.{answers-once, not-refused, one-nest}
 use Rattle.editions.specs.meaning.TwoBatches.{Accepted}
 use Rattle.writer.specs.meaning.Joins.{join, joined, Joins, first-refused, second-refused, too-long, no-room, written}

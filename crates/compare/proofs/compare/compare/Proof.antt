@@ -5,7 +5,6 @@ use mathlib.Core.Path.{_≡_, refl, sym, subst}
 use mathlib.Core.List.{List}
 use lib.IntN.{ℤ}
 use Rattle.editions.specs.declared.pair.PairAnswer.{PairAnswer}
-use Rattle.editions.specs.meaning.TwoBatches.{Accepted}
 use Rattle.editions.proofs.Laws.{taken}
 use Rattle.compare.specs.meaning.Compares.{Compares, first-refused, second-refused}
 use Rattle.compare.proofs.theorems.Batches.{ready}

@@ -1,6 +1,6 @@
 -- `compare::found::gather` meets its contract: all are wanted, or one. Assumes nothing.
 use Prim.Native.Nat.{ℕ}
-use mathlib.Core.Path.{_≡_, sym, subst}
+use mathlib.Core.Path.{sym, subst}
 use mathlib.Core.Bool.{Bool}
 use Rattle.compare.specs.steps.Finding.{Wanted, Gathered}
 use borrow.Author.Needs.{needs}

@@ -1,7 +1,6 @@
 -- `compare::found::part_of` meets its contract: the row read back. Assumes nothing.
 use Prim.Native.Nat.{ℕ}
 use mathlib.Core.Path.{ap₂}
-use Rattle.compare.specs.declared.found.Found.{Found}
 use borrow.Author.Needs.{needs}
 use Rattle.compare.proofs.found.part_of.Statement.{statement}
 use Rattle.compare.proofs.found.part_of.Tie as tie

@@ -1,6 +1,6 @@
 -- `compare::merge::children`, `spot` and `both` meet their contracts, by one induction on the rows that are left: below two containers there are
 -- fewer. The loop always went from its start to its cursor. Assumes nothing.
-use Prim.Native.Nat.{ℕ, suc, _+_, _-_, _*_, _≤_, _<_}
+use Prim.Native.Nat.{ℕ, _+_, _-_, _*_, _≤_, _<_}
 use native.Mathlib.Decide.{decLe}
 use native.Mathlib.Omega.{arith}
 use mathlib.Core.Path.{_≡_, refl, sym, ap, ap₂, subst, _∙_}
@@ -20,7 +20,7 @@ use Rattle.compare.specs.meaning.Counterparts.{rowAt, Child, byPosition}
 use Rattle.compare.specs.meaning.Changes.{rowOctets, leaves-differ, entry}
 use Rattle.compare.specs.steps.Lists.{Tells}
 use Rattle.compare.specs.steps.Tables.{childAt}
-use Rattle.compare.specs.steps.Walking.{Standing, Facing, Went, Stepped, Gone}
+use Rattle.compare.specs.steps.Walking.{Standing, Went}
 use Rattle.compare.proofs.theorems.TableRows.{table-no-child, table-next}
 use Rattle.compare.proofs.theorems.WalkSteps.{child-first, child-second, one-position, kinds-first, kinds-second, alike, step-first, step-second, step-unlike, step-same, step-differing, step-inside, standing-inside, went-none, standing-there, went-on, gone}
 use Rattle.compare.proofs.merge.both.Reads as both

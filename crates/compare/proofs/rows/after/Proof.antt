@@ -2,12 +2,11 @@
 use Prim.Native.Nat.{ℕ, suc, _+_, _-_, _≤_, _<_}
 use native.Mathlib.Decide.{decLe}
 use native.Mathlib.Omega.{arith}
-use mathlib.Core.Path.{_≡_, sym, subst, _∙_}
+use mathlib.Core.Path.{_≡_}
 use mathlib.Core.List.{List}
 use lib.ListN.{length, getD}
 use borrow.Author.Needs.{needs}
 use Rattle.crmf.specs.steps.rows.Packing.{parentOf}
-use Rattle.compare.specs.steps.Tables.{Ended}
 use Rattle.compare.proofs.rows.after.Statement.{statement}
 use Rattle.compare.proofs.rows.after.Tie as tie
 

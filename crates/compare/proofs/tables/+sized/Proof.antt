@@ -1,8 +1,8 @@
 -- `compare::tables::sized` meets its contract, by induction on the size: a smaller one that has room is taken, and otherwise the size's own tables.
 -- Assumes nothing.
-use Prim.Native.Nat.{ℕ, zero, suc, _-_, _≤_, _<_}
+use Prim.Native.Nat.{ℕ, zero, suc, _≤_, _<_}
 use native.Mathlib.Omega.{arith}
-use mathlib.Core.Path.{_≡_, refl, sym, subst}
+use mathlib.Core.Path.{_≡_, subst}
 use mathlib.Core.Bool.{and-eq-true-iff}
 use lib.Dec.{leb}
 use borrow.Author.Needs.{needs}

@@ -1,5 +1,4 @@
 -- `compare::tables::in_front` meets its contract: the parts that are lent have as many numbers as there are rows. Assumes nothing.
-use Prim.Native.Nat.{ℕ}
 use mathlib.Core.Path.{sym, subst}
 use lib.Seq.{length-take-le}
 use Rattle.compare.specs.steps.Tables.{Ready}

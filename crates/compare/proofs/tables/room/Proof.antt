@@ -1,7 +1,6 @@
 -- `compare::tables::room` meets its contract: the room of each size. Assumes nothing.
 use Prim.Native.Nat.{ℕ, zero, suc}
 use mathlib.Core.Path.{_≡_, refl, sym, ap}
-use borrow.Author.Needs.{needs}
 use Rattle.compare.specs.steps.Tables.{roomOf}
 use Rattle.compare.proofs.tables.room.Statement.{statement}
 use Rattle.compare.proofs.tables.room.Tie as tie
