@@ -6,9 +6,7 @@ names the proof that must refuse it; `refused: fn ..` names a function that Ratt
 
 A caller relies on a function's contract alone, so a changed body breaks the proof of its own function, or of the cycle that it is in,
 and no other. A constant reaches the functions that use it. Whatever reaches further, as a definition or a contract, may break any proof,
-and a right program beside it could look refused: so it never stands beside a changed body. Several such may stand in one edit if each
-names the declaration that must refuse it and no two name the same. That none of them breaks the declaration that another one names shows
-only where each is tried by itself, in `tests/run --alone`.
+and a right program beside it could look refused: so it is changed in an edit of its own.
 """
 
 import re
@@ -68,11 +66,6 @@ def wrong_programs(edit):
 def edits():
     """Every edit as its wrong programs."""
     return [wrong_programs(edit) for edit in sorted(CRATES.glob("*/must-fail/*.edit"))]
-
-
-def beside(program):
-    """The other wrong programs of a wrong program's edit."""
-    return [other for programs in edits() if program in programs for other in programs if other != program]
 
 
 def facts(log):
@@ -196,27 +189,12 @@ def unseen(program, own):
     return [f"{program.edit}: {proof} doesn't see this: {program.says}" for proof in named]
 
 
-def undistinguished(programs):
-    """Wrong definitions of one edit that name no declaration, or one that another names too."""
-    found = []
-    for program in programs:
-        others = [proof for other in programs if other is not program for proof in other.proofs]
-        for proof in program.proofs:
-            if not parted(proof)[1]:
-                found.append(f"{program.edit}: beside other definitions, and {proof} names no declaration: {program.says}")
-            elif proof in others:
-                found.append(f"{program.edit}: {proof} must refuse this and another one: {program.says}")
-    return found
-
-
 def shared(programs, own):
-    """What the wrong programs of one edit touch together, or any of them everywhere beside one that doesn't."""
-    if all(reached is None for reached in own):
-        return undistinguished(programs)
+    """What the wrong programs of one edit touch together, or any of them everywhere."""
     found = []
     for n, program in enumerate(programs):
         if own[n] is None:
-            found.append(f"{program.edit}: beside a changed body, and it reaches further than the bodies of functions: {program.says}")
+            found.append(f"{program.edit}: beside others, and it reaches further than the bodies of functions: {program.says}")
             continue
         for proof in sorted(own[n] & set().union(*(other for other in own[:n] if other))):
             found.append(f"{program.edit}: {proof} sees this and an earlier one: {program.says}")
@@ -236,6 +214,6 @@ def entangled():
 
 
 TESTS = [
-    ("no two wrong programs of a must-fail edit touch one proof, and no two wrong definitions of one name the same declaration", entangled),
+    ("no two wrong programs of a must-fail edit touch one proof", entangled),
     ("every wrong program is refused by its own proof, for a fact and not for a missing name", unrefused),
 ]
