@@ -126,7 +126,7 @@ fn element(bytes: &[u8], cursor: Cursor, end: usize, table: &[usize; LINES]) -> 
             tally,
         };
     };
-    match inside(bytes, fit, tally::with_element(fit, tally), table) {
+    match inside(bytes, fit, tally::with_element(bytes, fit, tally), table) {
         Walked::Broken {
             place,
             detail,

@@ -3,5 +3,6 @@ pub(crate) mod codes;
 pub(crate) mod element;
 pub(crate) mod judge;
 pub(crate) mod lines;
+pub(crate) mod marking;
 pub(crate) mod table;
 pub(crate) mod value;

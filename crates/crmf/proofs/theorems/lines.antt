@@ -4,5 +4,6 @@ pub mod WordFields
 pub mod Fitting
 pub mod Judging
 pub mod LinesOfParts
+pub mod Markings
 pub mod Search
 pub mod TableChecks

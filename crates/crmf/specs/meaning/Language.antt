@@ -9,7 +9,7 @@ use lib.Dec.{T}
 use lib.ListN.{getElem?}
 use Rattle.der.specs.meaning.Tree.{Tree, none, element}
 use Rattle.crmf.specs.meaning.Value.{keeps, Selector, selected}
-use Rattle.crmf.specs.meaning.Notation.{named, Mark, both, alone, Name, Inside, free, holds, Form, Occurs, once, optional, repeated, part, Parts, done, _then_, select}
+use Rattle.crmf.specs.meaning.Notation.{named, Mark, both, alone, markOf, Name, Inside, free, holds, Form, Occurs, once, optional, repeated, part, Parts, done, _then_, select}
 use Rattle.crmf.specs.meaning.Grammar.{content}
 
 -- A form is readable if both editions allow it, or if R says that the forms of its edition alone may be read.
@@ -44,7 +44,7 @@ mutual
     end : Matches R done none
     pass : {o : Occurs} {fs : List Form} {ps : Parts} {t : Tree} → T (passable o) → Matches R ps t → Matches R (part o fs then ps) t
     take : {o : Occurs} {fs : List Form} {ps : Parts} {id first whole : ℕ} {c : List ℕ} {inside rest : Tree} (f : Form)
-        → OneOf f fs → T (named (f .identifiers) id) → T (readable R (f .mark)) → T (keeps (f .rule) c) → Within R (f .inside) inside
+        → OneOf f fs → T (named (f .identifiers) id) → T (readable R (markOf (f .marking) c)) → T (keeps (f .rule) c) → Within R (f .inside) inside
         → Matches R (partsAfter o fs ps) rest → Matches R (part o fs then ps) (element id first whole c inside rest)
     choose : {s : Selector} {names : List Name} {id first whole : ℕ} {c : List ℕ} {inside rest : Tree} (n : Name)
         → wayOf s c names ≡ some n → Matches R (content n) rest
@@ -62,7 +62,7 @@ pub record Occurrence : Type 0 where
   pub difference : ℕ
   pub detail : ℕ
 
--- the occurrence at an element's place, if its form's mark names one edition alone
+-- the occurrence at an element's place, if its mark names one edition alone
 abbrev pub occurs : Mark → ℕ → List Occurrence
 occurs both p = []
 occurs (alone e d detail) p = record { place = p; edition = e; difference = d; detail = detail } ∷ []
@@ -72,7 +72,7 @@ unfoldable mutual
   pub occurrences : {R : ℕ → Bool} {ps : Parts} {t : Tree} → Matches R ps t → List Occurrence
   occurrences end = []
   occurrences (pass ok m) = occurrences m
-  occurrences (take {first = p} f among fits read kept w m) = occurs (f .mark) p ++ (occurrencesIn w ++ occurrences m)
+  occurrences (take {first = p} {c = c} f among fits read kept w m) = occurs (markOf (f .marking) c) p ++ (occurrencesIn w ++ occurrences m)
   occurrences (choose n way m) = occurrences m
 
   pub occurrencesIn : {R : ℕ → Bool} {i : Inside} {t : Tree} → Within R i t → List Occurrence

@@ -5,7 +5,7 @@ use mathlib.Core.List.{List, [], _∷_}
 use lib.Dec.{eqb}
 use Rattle.crmf.specs.meaning.Kinds as kinds
 use Rattle.crmf.specs.meaning.Details.{fitsNoPart}
-use Rattle.crmf.specs.meaning.Value.{Rule, always, Selector}
+use Rattle.crmf.specs.meaning.Value.{Rule, always, Selector, isTwo}
 
 -- Which identifiers a form has.
 pub data Identifiers : Type 0 where
@@ -42,6 +42,15 @@ pub data Mark : Type 0 where
 abbrev pub detailOf : Mark → ℕ
 detailOf both = fitsNoPart
 detailOf (alone e d detail) = detail
+
+-- How the elements in a form are marked: whatever their value is, or unless it is 2.
+pub data Marking : Type 0 where
+  whatever unlessTwo : Mark → Marking
+
+-- the mark of an element in a form, by its content octets
+abbrev pub markOf : Marking → List ℕ → Mark
+markOf (whatever m) c = m
+markOf (unlessTwo m) c = elim (isTwo c) [ true ↦ both | false ↦ m ]
 
 -- The containers of the grammar, by the names of what they hold. Grammar.antt has their ASN.1 types.
 pub data Name : Type 0 where
@@ -108,14 +117,14 @@ pub data Inside : Type 0 where
   holds : Name → Inside
 
 -- A form of an element: its identifiers, its inside, the rule of its value, the kind of its row, the kind of the row that it gives the element
--- around it, and the editions that allow it.
+-- around it, and how its elements are marked.
 pub record Form : Type 0 where
   pub identifiers : Identifiers
   pub inside : Inside
   pub rule : Rule
   pub kind : ℕ
   pub item : ℕ
-  pub mark : Mark
+  pub marking : Marking
 
 -- How often a part occurs: once, `?` or `*`. A `+` is two parts: one that occurs once, and one that occurs any number of times.
 pub data Occurs : Type 0 where
@@ -135,31 +144,31 @@ pub data Parts : Type 0 where
 
 -- forms: an element with one identifier and a free inside; with a container's parts inside; with a rule for its value
 abbrev pub plain : ℕ → Form
-plain id = record { identifiers = octet id; inside = free; rule = always; kind = kinds.none; item = kinds.none; mark = both }
+plain id = record { identifiers = octet id; inside = free; rule = always; kind = kinds.none; item = kinds.none; marking = whatever both }
 
 abbrev pub holding : ℕ → Name → Form
-holding id name = record { identifiers = octet id; inside = holds name; rule = always; kind = kinds.none; item = kinds.none; mark = both }
+holding id name = record { identifiers = octet id; inside = holds name; rule = always; kind = kinds.none; item = kinds.none; marking = whatever both }
 
 abbrev pub ruled : Rule → Form → Form
 ruled r f =
-    record { identifiers = f .identifiers; inside = f .inside; rule = r; kind = f .kind; item = f .item; mark = f .mark }
+    record { identifiers = f .identifiers; inside = f .inside; rule = r; kind = f .kind; item = f .item; marking = f .marking }
 
 -- forms: a GeneralName, and "any"
 abbrev pub aGeneralName : Form
-aGeneralName = record { identifiers = generalName; inside = free; rule = always; kind = kinds.none; item = kinds.none; mark = both }
+aGeneralName = record { identifiers = generalName; inside = free; rule = always; kind = kinds.none; item = kinds.none; marking = whatever both }
 
 abbrev pub aValue : Form
-aValue = record { identifiers = anything; inside = free; rule = always; kind = kinds.none; item = kinds.none; mark = both }
+aValue = record { identifiers = anything; inside = free; rule = always; kind = kinds.none; item = kinds.none; marking = whatever both }
 
 -- a form with a row of a kind; with a row of a kind for the element around it; allowed by one edition alone
 abbrev pub row : ℕ → Form → Form
-row k f = record { identifiers = f .identifiers; inside = f .inside; rule = f .rule; kind = k; item = f .item; mark = f .mark }
+row k f = record { identifiers = f .identifiers; inside = f .inside; rule = f .rule; kind = k; item = f .item; marking = f .marking }
 
 abbrev pub itemRow : ℕ → Form → Form
-itemRow k f = record { identifiers = f .identifiers; inside = f .inside; rule = f .rule; kind = f .kind; item = k; mark = f .mark }
+itemRow k f = record { identifiers = f .identifiers; inside = f .inside; rule = f .rule; kind = f .kind; item = k; marking = f .marking }
 
 abbrev pub only : (edition difference detail : ℕ) → Form → Form
-only e d detail f = record { identifiers = f .identifiers; inside = f .inside; rule = f .rule; kind = f .kind; item = f .item; mark = alone e d detail }
+only e d detail f = record { identifiers = f .identifiers; inside = f .inside; rule = f .rule; kind = f .kind; item = f .item; marking = whatever (alone e d detail) }
 
 -- parts: a form, a form `?`, a form `*`, one of some forms, one of some forms `?`
 abbrev pub one : Form → Part

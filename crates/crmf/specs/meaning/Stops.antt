@@ -9,7 +9,7 @@ use lib.Dec.{T}
 use Rattle.der.specs.meaning.Tree.{Tree, none, element}
 use Rattle.crmf.specs.meaning.Details.{fitsNoPart, partMissing, valueBroken}
 use Rattle.crmf.specs.meaning.Value.{Selector, keeps, ruleDetail}
-use Rattle.crmf.specs.meaning.Notation.{Identifiers, octet, named, detailOf, Name, Inside, holds, Form, Occurs, part, Parts, _then_, select}
+use Rattle.crmf.specs.meaning.Notation.{Identifiers, octet, named, detailOf, markOf, Name, Inside, holds, Form, Occurs, part, Parts, _then_, select}
 use Rattle.crmf.specs.meaning.Grammar.{content}
 use Rattle.crmf.specs.meaning.Language.{readable, passable, partsAfter, wayOf, OneOf, Within}
 
@@ -42,7 +42,7 @@ pub data Needed : Parts → Type 0 where
 
 -- An element is as its form asks, with the elements inside it: the edition allows the form, "insides first", and then its value keeps its rule.
 pub record Kept (R : ℕ → Bool) (f : Form) (c : List ℕ) (inside : Tree) : Type 0 where
-  pub read : T (readable R (f .mark))
+  pub read : T (readable R (markOf (f .marking) c))
   pub within : Within R (f .inside) inside
   pub kept : T (keeps (f .rule) c)
 
@@ -57,15 +57,15 @@ mutual
         → Stops R ps around (element id first whole c inside rest) first fitsNoPart
     -- an element in a form that this edition doesn't allow; it isn't entered
     foreign : {ps qs : Parts} {around id first whole : ℕ} {c : List ℕ} {inside rest : Tree} {f : Form} → Has ps id (taking f qs)
-        → (T (readable R (f .mark)) → ⊥) → Stops R ps around (element id first whole c inside rest) first (detailOf (f .mark))
+        → (T (readable R (markOf (f .marking) c)) → ⊥) → Stops R ps around (element id first whole c inside rest) first (detailOf (markOf (f .marking) c))
     -- "insides first": a stop inside an element
     inner : {ps qs : Parts} {around id first whole place detail : ℕ} {c : List ℕ} {inside rest : Tree} {f : Form} → Has ps id (taking f qs)
-        → T (readable R (f .mark)) → StopsIn R (f .inside) first inside place detail
+        → T (readable R (markOf (f .marking) c)) → StopsIn R (f .inside) first inside place detail
         → Stops R ps around (element id first whole c inside rest) place detail
     -- "an element whose value breaks its rule .. is itself the place"; it is "judged after its inside", as is "the list of control 3 beside
     -- action 0"
     broken : {ps qs : Parts} {around id first whole : ℕ} {c : List ℕ} {inside rest : Tree} {f : Form} → Has ps id (taking f qs)
-        → T (readable R (f .mark)) → Within R (f .inside) inside → (T (keeps (f .rule) c) → ⊥)
+        → T (readable R (markOf (f .marking) c)) → Within R (f .inside) inside → (T (keeps (f .rule) c) → ⊥)
         → Stops R ps around (element id first whole c inside rest) first (ruleDetail (f .rule))
     -- the same of a value that selects: it selects none of the names
     astray : {ps : Parts} {around id first whole a : ℕ} {c : List ℕ} {inside rest : Tree} {s : Selector} {ns : List Name}

@@ -25,6 +25,10 @@ number n c = elim (isUpTo n c) [ true ↦ present (getD c 0 0) | false ↦ absen
 unfoldable pub isTrue : List ℕ → Bool
 isTrue c = same c (0xFF ∷ [])
 
+-- whether the content octets are those of the INTEGER 2
+unfoldable pub isTwo : List ℕ → Bool
+isTwo c = same c (0x02 ∷ [])
+
 -- whether an octet is a decimal digit
 abbrev pub digit : ℕ → Bool
 digit b = leb 0x30 b && leb b 0x39

@@ -1,11 +1,15 @@
 // What the exact walk tallies: the rows, the first form of each edition alone, and the first certReqId that is too long.
 use crate::grammar::codes;
 use crate::grammar::element::Fit;
+use crate::grammar::marking;
 use crate::grammar::table;
 use crate::kinds;
 ghost use Prim.Native.Nat.{ℕ, _+_, _-_, _≤_};
 ghost use mathlib.Core.Path.{_≡_};
-ghost use lib.ListN.{getD};
+ghost use mathlib.Core.List.{List};
+ghost use lib.ListN.{length, getD};
+ghost use lib.Seq.{slice};
+ghost use Rattle.crmf.specs.meaning.Notation.{markOf};
 ghost use Rattle.crmf.specs.steps.grammar.Packed.{packed, markCode};
 ghost use Rattle.crmf.specs.steps.explain.Walk.{line, withForm, withLongId, withRows, withElement, emptyTally};
 
@@ -46,14 +50,17 @@ pub(crate) fn empty() -> Tally
     }
 }
 
-// The tally after one more element, which fits a line.
-pub(crate) fn with_element(fit: Fit, tally: Tally) -> Tally
-    requires { ⌜ (fit .first ≤ fit .end) × (tally .count ≤ 131070) ⌝ }
-    ensures { λ r. ⌜ ((k : ℕ) → fit .word ≡ getD packed k 0 → r ≡ withElement (line k) (fit .first) (fit .end - fit .first) tally) × (r .count ≤ tally .count + 2) ⌝ }
+// The tally after one more element of the bytes, which fits a line.
+pub(crate) fn with_element(bytes: &[u8], fit: Fit, tally: Tally) -> Tally
+    requires { ⌜ (fit .first ≤ fit .content) × (fit .content ≤ fit .end) × (fit .end ≤ length (now bytes)) × (tally .count ≤ 131070) ⌝ }
+    ensures { λ r. ⌜ ((k : ℕ) → fit .word ≡ getD packed k 0 → r ≡ withElement (line k) (slice (fit .content) (fit .end) (now (bytes .entry))) (fit .first) (fit .end - fit .first) tally) × (r .count ≤ tally .count + 2) ⌝ }
 {
     let kind = table::kind_of(fit.word);
     let whole = fit.end - fit.first;
-    let marked = with_form(table::mark_of(fit.word), fit.first, tally);
+    let from = fit.content;
+    let to = fit.end;
+    let mark = marking::mark_of(fit.word, &bytes[from..to]);
+    let marked = with_form(mark, fit.first, tally);
     let mut after = with_long_id(kind, fit.first, whole, marked);
     after.count = add_rows(
         after.count,
@@ -80,9 +87,9 @@ fn with_long_id(kind: usize, place: usize, whole: usize, tally: Tally) -> Tally
     tally
 }
 
-// The tally after an element at a place, by the code of its form's mark. A form of one edition alone is noted if it is that edition's first.
+// The tally after an element at a place, by the code of its mark. A form of one edition alone is noted if it is that edition's first.
 fn with_form(mark: usize, place: usize, tally: Tally) -> Tally
-    ensures { λ r. ⌜ ((k : ℕ) → markCode (line k .mark) ≡ mark → r ≡ withForm (line k .mark) place tally) × (r .count ≡ tally .count) ⌝ }
+    ensures { λ r. ⌜ ((k : ℕ) (c : List ℕ) → markCode (markOf (line k .marking) c) ≡ mark → r ≡ withForm (markOf (line k .marking) c) place tally) × (r .count ≡ tally .count) ⌝ }
 {
     let one = tally.one;
     let two = tally.two;

@@ -11,7 +11,7 @@ pub const JUDGES: usize = 32;
 
 pub const KINDS: usize = 128;
 
-pub const MARKS: usize = 32;
+pub const MARKS: usize = 64;
 
 pub const ACTIONS: usize = 16;
 
@@ -30,11 +30,11 @@ pub const ITEM: usize = 0x8000_0000;
 
 pub const MARK: usize = 0x40_0000_0000;
 
-pub const NEXT: usize = 0x800_0000_0000;
+pub const NEXT: usize = 0x1000_0000_0000;
 
-pub const ACTION: usize = 0x8_0000_0000_0000;
+pub const ACTION: usize = 0x10_0000_0000_0000;
 
-pub const ROWS: usize = 0x80_0000_0000_0000;
+pub const ROWS: usize = 0x100_0000_0000_0000;
 
 // Passes, for an element that isn't in the line's form: the container ends here, the part is needed, another form of it follows, or it may be
 // passed over.
@@ -93,6 +93,9 @@ pub const BY_INFO_TYPE: usize = 19;
 
 // Marks: EDITION times the edition that alone allows the form, plus the number of the difference; 0 if both editions allow it.
 pub const EDITION: usize = 8;
+
+// The code of a mark that holds unless the value is 2 is this plus the mark's. All marks' codes are below it.
+pub const UNLESS_TWO: usize = 32;
 
 // The recogniser's actions. No element has the line's identifiers.
 pub const TAKE_NOTHING: usize = 0;

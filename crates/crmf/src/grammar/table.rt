@@ -10,7 +10,7 @@ ghost use Rattle.crmf.specs.declared.grammar.table.FoundLine.the-variant
 ghost use Rattle.crmf.specs.meaning.Notation.{Identifiers, named, among, generalNames};
 ghost use Rattle.crmf.specs.steps.grammar.Codes as codes;
 ghost use Rattle.crmf.specs.steps.grammar.Packed.{packed, identifiersCode, actionOf};
-ghost use Rattle.crmf.specs.steps.grammar.Packed.{insideField, judgeField, kindField, itemField, markField, nextField};
+ghost use Rattle.crmf.specs.steps.grammar.Packed.{insideField, judgeField, kindField, itemField, markingField, nextField};
 ghost use Rattle.crmf.specs.steps.explain.Walk as walk;
 ghost use Rattle.crmf.specs.steps.explain.Walk.{line, rowsBy};
 
@@ -64,9 +64,9 @@ pub(crate) fn item_of(word: usize) -> usize
     word / codes::ITEM % codes::KINDS
 }
 
-// The code of the edition that alone allows the form and of the difference; 0 if both editions allow it.
-pub(crate) fn mark_of(word: usize) -> usize
-    ensures { λ r. ⌜ r ≡ markField word ⌝ }
+// The code of how the elements in the line's form are marked; 0 if both editions allow them all.
+pub(crate) fn marking_of(word: usize) -> usize
+    ensures { λ r. ⌜ r ≡ markingField word ⌝ }
 {
     word / codes::MARK % codes::MARKS
 }

@@ -38,6 +38,16 @@ fn is_true(content: &[u8]) -> bool
     content[0] == 0xFF
 }
 
+// Whether the octets are the content of the INTEGER 2.
+pub(crate) fn is_two(content: &[u8]) -> bool
+    ensures { λ r. ⌜ r ≡ value.isTwo (now (content .entry)) ⌝ }
+{
+    if content.len() != 1 {
+        return false;
+    }
+    content[0] == 0x02
+}
+
 // Whether an octet is a decimal digit.
 fn is_digit(octet: u8) -> bool
     ensures { λ r. ⌜ r ≡ value.digit octet ⌝ }

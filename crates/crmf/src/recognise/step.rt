@@ -3,6 +3,7 @@ use crate::grammar::codes;
 use crate::grammar::judge;
 use crate::grammar::judge::Onward;
 use crate::grammar::lines::LINES;
+use crate::grammar::marking;
 use crate::grammar::table;
 use crate::recognise::common;
 use der::closing::closes;
@@ -121,7 +122,7 @@ fn take_by_fields(
     requires { ⌜ now table ≡ packed ⌝ }
     ensures { λ r. ⌜ ((k whole : ℕ) → word ≡ getD packed k 0 → eqb (line k .kind) certReqId ≡ false → (eqb (line k .inside) 0 ≡ false → order.closes id (now (content .entry)) ≡ true) → VisitJustified edition k whole left id (now (content .entry)) r) ⌝ }
 {
-    let mark = table::mark_of(word);
+    let mark = marking::mark_of(word, content);
     if (mark != 0) & (mark / codes::EDITION != edition) {
         return Visit::Refuse;
     }

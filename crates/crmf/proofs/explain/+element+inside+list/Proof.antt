@@ -144,7 +144,7 @@ module _ (t : ℕ) where
   element-with-element-requires : element-lts.Need-with-element-requires element-calls element-at element.Post
   element-with-element-requires c κs =
       let d = c .before in
-      (omega (arith, fits d .first, ordered d .headed, ordered d .ordered), omega (arith, lent d, start d .pre .1 .1))
+      (omega (arith, fits d .first, ordered d .headed), ordered d .ordered, omega (arith, ordered d .within, lent d .inside), omega (arith, lent d, start d .pre .1 .1))
 
   element-inside-requires : element-lts.Need-inside-requires element-calls element-at element.Post
   element-inside-requires c κs =
@@ -177,11 +177,11 @@ module _ (t : ℕ) where
     abbrev fitting : element-lts.After-fitting element-calls element-at element.Post
     fitting = c .before .before .before
 
-    walked : insideWalk (fits fitting .number) (withElement (line (fits fitting .number)) (fit fitting .first) (fit fitting .end - fit fitting .first) (start fitting .args .cursor .tally)) (fit fitting .first)
+    walked : insideWalk (fits fitting .number) (withElement (line (fits fitting .number)) (slice (fit fitting .content) (fit fitting .end) (start fitting .args .bytes .now)) (fit fitting .first) (fit fitting .end - fit fitting .first) (start fitting .args .cursor .tally)) (fit fitting .first)
         (tree (fit fitting .content) (slice (fit fitting .content) (fit fitting .end) (start fitting .args .bytes .now))) ≡ c .inside .result
     walked =
         let h = fits fitting in
-        inside-met (h .number) (fit fitting .first) (fit fitting .end - fit fitting .first) _ (start fitting .args .cursor .tally) _ (c .inside .result)
+        inside-met (h .number) (fit fitting .first) (fit fitting .end - fit fitting .first) _ _ (start fitting .args .cursor .tally) _ (c .inside .result)
         (c .before .with-element .ensures .0 (h .number) (h .word)) (c .inside .ensures .0 (h .number) (h .word))
 
   element-returns-2 : element-lts.Need-returns-2 element-calls element-at element.Post

@@ -12,7 +12,7 @@ use lib.ListN.{length, length-append}
 use Rattle.der.specs.meaning.Identifier.{constructed}
 use Rattle.der.specs.meaning.Tree.{Tree, none, element, header, encode, Formed, WellFormed}
 use Rattle.der.proofs.Laws.{header-some, encode-none, encode-length, well-formed-none, well-formed-deep, well-formed-element}
-use Rattle.crmf.specs.meaning.Notation.{Mark, both, alone, Inside, Parts}
+use Rattle.crmf.specs.meaning.Notation.{Mark, both, alone, markOf, Inside, Parts}
 use Rattle.crmf.specs.meaning.Language.{Matches, end, pass, take, choose, Within, unseen, parts, Occurrence, occurs, occurrences, occurrencesIn}
 use Rattle.crmf.specs.steps.explain.Walk.{line, trail}
 use Rattle.crmf.proofs.theorems.grammar.Choices.{never-both}
@@ -128,11 +128,11 @@ trail-ascends (suc left) place k (element id first whole c inside rest) formed =
 
     split : (n : ℕ) (later : List Occurrence) → Ascends (place + h) (place + h + length (encode inside)) (trail (line n .inside) inside)
         → Ascends (place + whole) (place + whole + length (encode rest)) later
-        → Ascends place (place + length (encode t)) (occurs (line n .mark) first ++ (trailIn (line n .inside) inside ++ later))
+        → Ascends place (place + length (encode t)) (occurs (markOf (line n .marking) c) first ++ (trailIn (line n .inside) inside ++ later))
     split n later inner after =
         let j = line n .inside in
-        element-ascends left place id first whole c inside rest formed (occurs (line n .mark) first) (trailIn j inside) later
-        (occurs-ascend (line n .mark) first) (ascends-within (place + h) (place + h + length (encode inside)) j inside inner) after
+        element-ascends left place id first whole c inside rest formed (occurs (markOf (line n .marking) c) first) (trailIn j inside) later
+        (occurs-ascend (markOf (line n .marking) c) first) (ascends-within (place + h) (place + h + length (encode inside)) j inside inner) after
 
     go : Way k id c inside → ((j : ℕ) → Ascends (place + h) (place + h + length (encode inside)) (trail j inside))
         → ((j : ℕ) → Ascends (place + whole) (place + whole + length (encode rest)) (trail j rest))
@@ -162,8 +162,8 @@ mutual
   occurrences-ascend (pass ok m) left place formed = occurrences-ascend m left place formed
   occurrences-ascend (take f among fits read kept w m) zero place formed = absurd (well-formed-deep _ _ _ _ _ _ _ formed)
   occurrences-ascend (take {id = id} {first = first} {whole = whole} {c = c} {inside = inside} {rest = rest} f among fits read kept w m) (suc left) place formed =
-      element-ascends left place id first whole c inside rest formed (occurs (f .mark) first) (occurrencesIn w) (occurrences m)
-      (occurs-ascend (f .mark) first)
+      element-ascends left place id first whole c inside rest formed (occurs (markOf (f .marking) c) first) (occurrencesIn w) (occurrences m)
+      (occurs-ascend (markOf (f .marking) c) first)
       (occurrencesIn-ascend w left (place + length (header id c)) (formed-inside left place id first whole c inside rest formed .0))
       (occurrences-ascend m (suc left) (place + whole) (well-formed-element left place id first whole c inside rest .0 formed .1))
   occurrences-ascend (choose n chosen m) zero place formed = absurd (well-formed-deep _ _ _ _ _ _ _ formed)

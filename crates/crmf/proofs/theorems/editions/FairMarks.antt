@@ -7,10 +7,10 @@ use mathlib.Core.List.{List, [], _∷_, _++_}
 use lib.Dec.{eqb}
 use borrow.Author.Tests.{not-true}
 use Rattle.der.specs.meaning.Tree.{Tree, none, element}
-use Rattle.crmf.specs.meaning.Notation.{Mark, both, alone}
+use Rattle.crmf.specs.meaning.Notation.{Mark, both, alone, markOf}
 use Rattle.crmf.specs.meaning.Language.{Occurrence, occurs}
 use Rattle.crmf.specs.steps.explain.Walk.{line, trail}
-use Rattle.crmf.proofs.theorems.lines.WordFields.{computed, at-line}
+use Rattle.crmf.proofs.theorems.lines.WordFields.{computed, at-mark}
 use Rattle.crmf.proofs.theorems.explain.WalkSteps.{trailIn, Way, lost, within, broken, onward, way, trail-end, trail-lost, trail-inside, trail-breaks, trail-on}
 
 -- a mark names edition 1 or 2 and a difference that is not 0
@@ -18,10 +18,10 @@ abbrev pub fair : Mark → Bool
 fair both = true
 fair (alone e d detail) = (eqb e 1 || eqb e 2) && not (eqb d 0)
 
--- The lines of the table have such marks, by computing, and so has the line of any number.
-pub line-fair : (n : ℕ) → fair (line n .mark) ≡ true
+-- The lines of the table have such marks, by computing, and so has an element in the form of the line of any number.
+pub line-fair : (n : ℕ) (c : List ℕ) → fair (markOf (line n .marking) c) ≡ true
 unfolding computed
-line-fair = at-line (λ x. fair (x .mark)) refl
+line-fair = at-mark fair refl refl
 
 -- occurrences of such marks
 unfoldable pub fairAll : List Occurrence → Bool
@@ -68,13 +68,13 @@ trail-fair k none = rw trail-end
 trail-fair k (element id first whole c inside rest) = go (way k id c inside) (λ j. trail-fair j inside) (λ j. trail-fair j rest)
   where
     here : ℕ → List Occurrence
-    here n = occurs (line n .mark) first
+    here n = occurs (markOf (line n .marking) c) first
 
     in-it : ℕ → List Occurrence
     in-it n = trailIn (line n .inside) inside
 
     good : (n : ℕ) → fairAll (here n) ≡ true
-    good n = fair-occurs (line n .mark) first (line-fair n)
+    good n = fair-occurs (markOf (line n .marking) c) first (line-fair n c)
 
     go : Way k id c inside → ((j : ℕ) → fairAll (trail j inside) ≡ true) → ((j : ℕ) → fairAll (trail j rest) ≡ true)
         → fairAll (trail k (element id first whole c inside rest)) ≡ true

@@ -14,7 +14,7 @@ use Rattle.crmf.specs.declared.explain.tally.Tally.{Tally}
 use Rattle.crmf.specs.declared.explain.Walked.{Walked}
 use Rattle.crmf.specs.declared.explain.Walked.the-variants.{Passed, Broken}
 pub use Rattle.crmf.specs.meaning.Edition.{Edition, first-edition, second-edition}
-use Rattle.crmf.specs.meaning.Notation.{Mark, both, alone}
+use Rattle.crmf.specs.meaning.Notation.{Mark, both, alone, markOf}
 use Rattle.crmf.specs.meaning.Language.{Occurrence, occurs}
 use Rattle.crmf.specs.steps.grammar.Lines.{Line}
 use Rattle.crmf.specs.meaning.Rows.{longId}
@@ -126,9 +126,9 @@ lengthy-seen ed kind p w s = go ed (longId kind w && eqb (s .long .whole) 0) ref
     go second-edition false t = rw (withLongId, t)
 
 -- An element's form is noted as the first of its edition, if none was known.
-pub met-seen : {e : ℕ} → Edition e → (x : Line) (p w : ℕ) (s : Tally) → firstSeen e (withElement x p w s) ≡ after e (firstSeen e s) (occurs (x .mark) p)
+pub met-seen : {e : ℕ} → Edition e → (x : Line) (c : List ℕ) (p w : ℕ) (s : Tally) → firstSeen e (withElement x c p w s) ≡ after e (firstSeen e s) (occurs (markOf (x .marking) c) p)
 unfolding withElement withForm after firstOf
-met-seen {e} ed x p w s = lengthy-seen ed (x .kind) p w (withForm (x .mark) p s) ∙ go (x .mark) ed
+met-seen {e} ed x c p w s = lengthy-seen ed (x .kind) p w (withForm (markOf (x .marking) c) p s) ∙ go (markOf (x .marking) c) ed
   where
     apart : (f : ℕ) → eqb f 1 ≡ true → eqb f 2 ≡ false
     apart f one = rw (eqb-true f 1 one)
@@ -177,21 +177,21 @@ walk-seen {e} ed s k around (element id first whole c inside rest) =
     h = firstSeen e s
 
     here : ℕ → List Occurrence
-    here n = occurs (line n .mark) first
+    here n = occurs (markOf (line n .marking) c) first
 
     in-it : ℕ → List Occurrence
     in-it n = trailIn (line n .inside) inside
 
     -- after the element's inside
-    settled : (n : ℕ) (w : Walked) → innerWalk all (withElement (line n) first whole s) (line n .inside) first inside ≡ w
+    settled : (n : ℕ) (w : Walked) → innerWalk all (withElement (line n) c first whole s) (line n .inside) first inside ≡ w
         → ((m : Tally) (j : ℕ) → firstSeen e (seenOf (walk all m j first inside)) ≡ after e (firstSeen e m) (trail j inside))
         → firstSeen e (seenOf w) ≡ after e h (here n ++ in-it n)
     settled n w is inner =
-        let m = withElement (line n) first whole s in
+        let m = withElement (line n) c first whole s in
         let j = line n .inside in
         rw (← is)
-        (seen-within e m j first inside (inner m j) ∙ ap (λ (x : ℕ × ℕ). after e x (in-it n)) (met-seen ed (line n) first whole s)
-        ∙ sym (after-append e h (here n) (in-it n) (fair-occurs (line n .mark) first (line-fair n))))
+        (seen-within e m j first inside (inner m j) ∙ ap (λ (x : ℕ × ℕ). after e x (in-it n)) (met-seen ed (line n) c first whole s)
+        ∙ sym (after-append e h (here n) (in-it n) (fair-occurs (markOf (line n .marking) c) first (line-fair n c))))
 
     go : Way k id c inside
         → ((m : Tally) (j : ℕ) → firstSeen e (seenOf (walk all m j first inside)) ≡ after e (firstSeen e m) (trail j inside))
@@ -201,30 +201,30 @@ walk-seen {e} ed s k around (element id first whole c inside rest) =
         rw (walk-nowhere all s k around id first whole c inside rest missing, trail-lost k id first whole c inside rest missing)
         (sym (after-none e h))
     go (within n found stops) inner later =
-        let m = withElement (line n) first whole s in
+        let m = withElement (line n) c first whole s in
         let j = line n .inside in
         let (q, d, r, is) = inner-broken m j first inside stops in
         rw (
-          walk-inner-broken all s k around id first whole c inside rest n q d r found (all-read (line n .mark)) is,
+          walk-inner-broken all s k around id first whole c inside rest n q d r found (all-read (markOf (line n .marking) c)) is,
           trail-inside k n id first whole c inside rest found stops,
         )
         (settled n (Broken q d r) is inner)
     go (broken n d found fine breaks) inner later =
-        let m = withElement (line n) first whole s in
+        let m = withElement (line n) c first whole s in
         let j = line n .inside in
         let (r, is) = inner-passed m j first inside fine in
         rw (
-          walk-breaks all s k around id first whole c inside rest n d r found (all-read (line n .mark)) is breaks,
+          walk-breaks all s k around id first whole c inside rest n d r found (all-read (markOf (line n .marking) c)) is breaks,
           trail-breaks k n id first whole c inside rest found d fine breaks,
         )
         (settled n (Passed r) is inner)
     go (onward n next found fine on) inner later =
-        let m = withElement (line n) first whole s in
+        let m = withElement (line n) c first whole s in
         let j = line n .inside in
         let (r, is) = inner-passed m j first inside fine in
-        let good = fair-append (here n) (in-it n) (fair-occurs (line n .mark) first (line-fair n)) (fair-within j inside (trail-fair j inside)) in
+        let good = fair-append (here n) (in-it n) (fair-occurs (markOf (line n .marking) c) first (line-fair n c)) (fair-within j inside (trail-fair j inside)) in
         rw (
-          walk-next all s k around id first whole c inside rest n next r found (all-read (line n .mark)) is on,
+          walk-next all s k around id first whole c inside rest n next r found (all-read (markOf (line n .marking) c)) is on,
           trail-on k n id first whole c inside rest found next fine on,
           ← append-assoc (here n) (in-it n) (trail next rest),
         )

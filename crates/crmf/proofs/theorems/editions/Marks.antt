@@ -11,7 +11,7 @@ use Rattle.crmf.specs.declared.explain.tally.Tally.{Tally}
 use Rattle.crmf.specs.declared.grammar.judge.Onward.the-variants.{To}
 use Rattle.crmf.specs.declared.grammar.table.FoundLine.the-variants.{At}
 use Rattle.crmf.specs.meaning.Value.{keeps}
-use Rattle.crmf.specs.meaning.Notation.{Name, Inside, free, holds, Form, Occurs, part, Parts, _then_}
+use Rattle.crmf.specs.meaning.Notation.{markOf, Name, Inside, free, holds, Form, Occurs, part, Parts, _then_}
 use Rattle.crmf.specs.meaning.Grammar.{content}
 use Rattle.crmf.specs.meaning.Language.{passable, Matches, end, pass, take, choose, Within, unseen, parts, Occurrence, occurs, occurrences, occurrencesIn}
 use Rattle.crmf.specs.steps.grammar.Lines.{start, insideLine}
@@ -29,7 +29,7 @@ use Rattle.crmf.proofs.theorems.editions.FirstSeen.{Edition, firstSeen,
 
 -- the occurrences in an element that keeps a choice, and after it
 abbrev keptOccurrences : (R : ℕ → Bool) (first : ℕ) (h : Choice) (c : List ℕ) (inside rest : Tree) → Keeps R h c inside rest → List Occurrence
-keptOccurrences R first (taking f ps) c inside rest k = occurs (f .mark) first ++ (occurrencesIn (k .within) ++ occurrences (k .further))
+keptOccurrences R first (taking f ps) c inside rest k = occurs (markOf (f .marking) c) first ++ (occurrencesIn (k .within) ++ occurrences (k .further))
 keptOccurrences R first (choosing id s ns) c inside rest k = occurrences (k .further)
 
 -- the occurrences in elements, by the first of them

@@ -14,7 +14,7 @@ use Rattle.crmf.specs.declared.explain.tally.Tally.{Tally}
 use Rattle.crmf.specs.declared.explain.Walked.{Walked}
 use Rattle.crmf.specs.declared.explain.Walked.the-variants.{Passed, Broken}
 use Rattle.crmf.specs.declared.grammar.table.FoundLine.the-variants.{At}
-use Rattle.crmf.specs.meaning.Notation.{Mark, both, alone, detailOf}
+use Rattle.crmf.specs.meaning.Notation.{Mark, both, alone, markOf, detailOf}
 use Rattle.crmf.specs.meaning.Language.{readable, Occurrence, occurs}
 use Rattle.crmf.specs.steps.explain.Walk.{line, findLine, closed, withElement, walk, trail}
 use Rattle.crmf.proofs.theorems.explain.Passing.{innerWalk, walk-closed, walk-open, walk-nowhere, walk-unread, walk-inner-broken, walk-breaks, walk-next}
@@ -123,30 +123,30 @@ follows-within R s j place t inner = go (eqb j 0)
 -- at an element that fits a line: the form itself, then the inside, then the rest of the trail
 follows-element : (R : ℕ → Bool) (s : Tally) (k n around id first whole : ℕ) (c : List ℕ) (inside rest : Tree) (tail : List Occurrence)
     → findLine k id ≡ At n
-    → trail k (element id first whole c inside rest) ≡ occurs (line n .mark) first ++ (trailIn (line n .inside) inside ++ tail)
-    → Follows (innerWalk R (withElement (line n) first whole s) (line n .inside) first inside) (innerWalk all (withElement (line n) first whole s) (line n .inside) first inside)
+    → trail k (element id first whole c inside rest) ≡ occurs (markOf (line n .marking) c) first ++ (trailIn (line n .inside) inside ++ tail)
+    → Follows (innerWalk R (withElement (line n) c first whole s) (line n .inside) first inside) (innerWalk all (withElement (line n) c first whole s) (line n .inside) first inside)
     (firstOf (unread R) (trailIn (line n .inside) inside))
-    → (readable R (line n .mark) ≡ true
-    → innerWalk R (withElement (line n) first whole s) (line n .inside) first inside ≡ innerWalk all (withElement (line n) first whole s) (line n .inside) first inside
+    → (readable R (markOf (line n .marking) c) ≡ true
+    → innerWalk R (withElement (line n) c first whole s) (line n .inside) first inside ≡ innerWalk all (withElement (line n) c first whole s) (line n .inside) first inside
     → Follows (walk R s k around (element id first whole c inside rest)) (walk all s k around (element id first whole c inside rest))
     (firstOf (unread R) tail))
     → Follows (walk R s k around (element id first whole c inside rest)) (walk all s k around (element id first whole c inside rest))
     (firstOf (unread R) (trail k (element id first whole c inside rest)))
-follows-element R s k n around id first whole c inside rest tail found split inner after = rw split (by-mark (readable R (line n .mark)) refl)
+follows-element R s k n around id first whole c inside rest tail found split inner after = rw split (by-mark (readable R (markOf (line n .marking) c)) refl)
   where
     t : Tree
     t = element id first whole c inside rest
 
     m : Tally
-    m = withElement (line n) first whole s
+    m = withElement (line n) c first whole s
 
     here : List Occurrence
-    here = occurs (line n .mark) first
+    here = occurs (markOf (line n .marking) c) first
 
     within' : List Occurrence
     within' = trailIn (line n .inside) inside
 
-    by-inner : readable R (line n .mark) ≡ true → (x : Option Occurrence) → firstOf (unread R) within' ≡ x
+    by-inner : readable R (markOf (line n .marking) c) ≡ true → (x : Option Occurrence) → firstOf (unread R) within' ≡ x
         → Follows (innerWalk R m (line n .inside) first inside) (innerWalk all m (line n .inside) first inside) x
         → Follows (walk R s k around t) (walk all s k around t) (firstOf (unread R) (within' ++ tail))
     by-inner read none clear alike = rw (first-right (unread R) within' tail clear) (after read alike)
@@ -154,13 +154,13 @@ follows-element R s k n around id first whole c inside rest tail found split inn
         rw (first-left (unread R) within' tail o stop)
         (breaks .0, walk-inner-broken R s k around id first whole c inside rest n (o .place) _ (breaks .0) found read (breaks .1))
 
-    by-mark : (b : Bool) → readable R (line n .mark) ≡ b
+    by-mark : (b : Bool) → readable R (markOf (line n .marking) c) ≡ b
         → Follows (walk R s k around t) (walk all s k around t) (firstOf (unread R) (here ++ (within' ++ tail)))
     by-mark true read =
-        rw (first-right (unread R) here (within' ++ tail) (occurs-read R (line n .mark) first read))
+        rw (first-right (unread R) here (within' ++ tail) (occurs-read R (markOf (line n .marking) c) first read))
         (by-inner read (firstOf (unread R) within') refl inner)
     by-mark false no-read =
-        let (o, stop, place, detail) = occurs-unread R (line n .mark) first no-read in
+        let (o, stop, place, detail) = occurs-unread R (markOf (line n .marking) c) first no-read in
         rw (first-left (unread R) here (within' ++ tail) o stop, place, detail)
         (s, walk-unread R s k around id first whole c inside rest n found no-read)
 
@@ -188,25 +188,25 @@ own-walk R s k around (element id first whole c inside rest) =
         rw (trail-lost k id first whole c inside rest missing)
         (walk-nowhere R s k around id first whole c inside rest missing ∙ sym (walk-nowhere all s k around id first whole c inside rest missing))
     go (within n found stops) inner later =
-        let m = withElement (line n) first whole s in
+        let m = withElement (line n) c first whole s in
         let j = line n .inside in
         let (q, d, r, e) = inner-broken m j first inside stops in
         follows-element R s k n around id first whole c inside rest [] found
         (rw append-nil (trail-inside k n id first whole c inside rest found stops))
         (follows-within R m j first inside (inner m j))
         (λ read alike. walk-inner-broken R s k around id first whole c inside rest n q d r found read (alike ∙ e)
-        ∙ sym (walk-inner-broken all s k around id first whole c inside rest n q d r found (all-read (line n .mark)) e))
+        ∙ sym (walk-inner-broken all s k around id first whole c inside rest n q d r found (all-read (markOf (line n .marking) c)) e))
     go (broken n d found fine breaks) inner later =
-        let m = withElement (line n) first whole s in
+        let m = withElement (line n) c first whole s in
         let j = line n .inside in
         let (r, e) = inner-passed m j first inside fine in
         follows-element R s k n around id first whole c inside rest [] found
         (rw append-nil (trail-breaks k n id first whole c inside rest found d fine breaks))
         (follows-within R m j first inside (inner m j))
         (λ read alike. walk-breaks R s k around id first whole c inside rest n d r found read (alike ∙ e) breaks
-        ∙ sym (walk-breaks all s k around id first whole c inside rest n d r found (all-read (line n .mark)) e breaks))
+        ∙ sym (walk-breaks all s k around id first whole c inside rest n d r found (all-read (markOf (line n .marking) c)) e breaks))
     go (onward n next found fine on) inner later =
-        let m = withElement (line n) first whole s in
+        let m = withElement (line n) c first whole s in
         let j = line n .inside in
         let (r, e) = inner-passed m j first inside fine in
         follows-element R s k n around id first whole c inside rest (trail next rest) found
@@ -214,7 +214,7 @@ own-walk R s k around (element id first whole c inside rest) =
         (follows-within R m j first inside (inner m j))
         (λ read alike. rw (
           walk-next R s k around id first whole c inside rest n next r found read (alike ∙ e) on,
-          walk-next all s k around id first whole c inside rest n next r found (all-read (line n .mark)) e on,
+          walk-next all s k around id first whole c inside rest n next r found (all-read (markOf (line n .marking) c)) e on,
         ) (later r next))
 
 -- if a walk passes, the walk that reads every form answers the same

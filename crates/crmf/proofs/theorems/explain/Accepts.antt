@@ -16,7 +16,7 @@ use Rattle.crmf.specs.declared.grammar.judge.Onward.the-variants.{To}
 use Rattle.crmf.specs.declared.grammar.table.FoundLine.{FoundLine}
 use Rattle.crmf.specs.declared.grammar.table.FoundLine.the-variants.{At, Nowhere}
 use Rattle.crmf.specs.meaning.Value.{keeps}
-use Rattle.crmf.specs.meaning.Notation.{Name, Inside, free, holds, Parts}
+use Rattle.crmf.specs.meaning.Notation.{markOf, Name, Inside, free, holds, Parts}
 use Rattle.crmf.specs.meaning.Grammar.{content}
 use Rattle.crmf.specs.meaning.Language.{readable, Matches, Within, unseen, parts}
 use Rattle.crmf.specs.steps.grammar.Lines.{Line, start, insideLine}
@@ -66,13 +66,13 @@ module _ (R : ℕ → Bool) where
 
   -- An element that a line passes keeps the choice that the line shows.
   keeps-sound : (m r : Tally) (x : Line) (h : Choice) (first next : ℕ) (c : List ℕ) (inside rest : Tree) → Shows h x
-      → readable R (x .mark) ≡ true → innerWalk R m (x .inside) first inside ≡ Passed r → judged (x .judge) (x .next) c ≡ To next
+      → readable R (markOf (x .marking) c) ≡ true → innerWalk R m (x .inside) first inside ≡ Passed r → judged (x .judge) (x .next) c ≡ To next
       → ((n : Name) → walk R m (start n) first inside ≡ Passed r → Matches R (content n) inside)
       → ((ps : Parts) → Stands next ps → Matches R ps rest) → Keeps R h c inside rest
   keeps-sound m r x (taking f ps) first next c inside rest shows read inner to each further =
       let j = kept-onward (f .rule) (x .next) next c (rw (shows .judging) at to) in
       record {
-        read = true-holds (readable R (f .mark)) (rw (shows .marked) at read);
+        read = true-holds (readable R (markOf (f .marking) c)) (rw (shows .marked) at read);
         kept = true-holds (keeps (f .rule) c) (j .0);
         within = within-sound m r (f .inside) first inside each (rw (shows .entered) at inner);
         further = further ps (subst (λ (k : ℕ). Stands k ps) (j .1) (shows .onward));
@@ -86,7 +86,7 @@ module _ (R : ℕ → Bool) where
   -- The first element that a walk passes is one of the choices and keeps it.
   first-sound : (s r : Tally) (k around id first whole : ℕ) (c : List ℕ) (inside rest : Tree) (ps : Parts) → Stands k ps
       → (e : Chosen R s k around id first whole c inside rest r)
-      → ((n : Name) → walk R (withElement (line (e .at)) first whole s) (start n) first inside ≡ Passed (e .seen) → Matches R (content n) inside)
+      → ((n : Name) → walk R (withElement (line (e .at)) c first whole s) (start n) first inside ≡ Passed (e .seen) → Matches R (content n) inside)
       → ((qs : Parts) → Stands (e .next) qs → Matches R qs rest) → FirstOf R ps id c inside rest
   first-sound s r k around id first whole c inside rest ps stands e each further =
       go (chosen (choices ps) id) refl (find-line-chooses ps k stands id)
@@ -101,7 +101,7 @@ module _ (R : ℕ → Bool) where
             choice = h;
             among = own .0;
             identified = own .1;
-            keeping = keeps-sound (withElement (line (e .at)) first whole s) (e .seen) (line (e .at)) h first (e .next) c inside rest shows (e .read) (e .inner)
+            keeping = keeps-sound (withElement (line (e .at)) c first whole s) (e .seen) (line (e .at)) h first (e .next) c inside rest shows (e .read) (e .inner)
                 (e .onward) each further;
           }
 
@@ -113,7 +113,7 @@ module _ (R : ℕ → Bool) where
       let e = passed-element R s k around id first whole c inside rest r passed in
       begin-matches R ps (element id first whole c inside rest)
       (first-sound s r k around id first whole c inside rest ps stands e
-      (λ n p. walk-sound inside (withElement (line (e .at)) first whole s) (e .seen) (start n) first (content n) (stands-start n) p)
+      (λ n p. walk-sound inside (withElement (line (e .at)) c first whole s) (e .seen) (start n) first (content n) (stands-start n) p)
       (λ qs st. walk-sound rest (e .seen) r (e .next) around qs st (e .further)))
 
   -- An element that keeps the choice that its line shows is passed.
@@ -123,15 +123,15 @@ module _ (R : ℕ → Bool) where
       → (r : Tally) × Chosen R s k around id first whole c inside rest r
   first-complete s k around id first whole n c inside rest (taking f ps) found shows kept each further =
       let x = line n in
-      let (m, inner) = within-complete (withElement x first whole s) (f .inside) first inside (each (withElement x first whole s)) (kept .within) in
+      let (m, inner) = within-complete (withElement x c first whole s) (f .inside) first inside (each (withElement x c first whole s)) (kept .within) in
       let (r, passed) = further m (x .next) ps (shows .onward) (kept .further) in (
         r,
         record {
           at = n;
           found = found;
-          read = rw (shows .marked) (holds-true (readable R (f .mark)) (kept .read));
+          read = rw (shows .marked) (holds-true (readable R (markOf (f .marking) c)) (kept .read));
           seen = m;
-          inner = ap (λ (i : ℕ). innerWalk R (withElement x first whole s) i first inside) (shows .entered) ∙ inner;
+          inner = ap (λ (i : ℕ). innerWalk R (withElement x c first whole s) i first inside) (shows .entered) ∙ inner;
           next = x .next;
           onward = rw (shows .judging) (judged-kept (f .rule) (x .next) c (holds-true (keeps (f .rule) c) (kept .kept)));
           further = passed;
@@ -139,7 +139,7 @@ module _ (R : ℕ → Bool) where
       )
   first-complete s k around id first whole n c inside rest (choosing a t ns) found shows kept each further =
       let x = line n in
-      let m = withElement x first whole s in
+      let m = withElement x c first whole s in
       let (w, is, there) = way-selected t c ns (kept .name) .0 (kept .way) in
       let (r, passed) = further m (start (kept .name)) (content (kept .name)) (stands-start (kept .name)) (kept .further) in (
         r,

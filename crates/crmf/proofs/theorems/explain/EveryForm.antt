@@ -9,7 +9,7 @@ use Rattle.der.specs.meaning.Tree.{Tree, none, element}
 use Rattle.crmf.specs.declared.explain.tally.Tally.{Tally}
 use Rattle.crmf.specs.declared.explain.Walked.{Walked}
 use Rattle.crmf.specs.declared.explain.Walked.the-variants.{Passed, Broken}
-use Rattle.crmf.specs.meaning.Notation.{Mark, both, alone}
+use Rattle.crmf.specs.meaning.Notation.{Mark, both, alone, markOf}
 use Rattle.crmf.specs.meaning.Language.{readable}
 use Rattle.crmf.specs.steps.explain.Walk.{line, closed, withElement, walk, passes}
 pub use Rattle.crmf.specs.steps.explain.Walk.{every as all}
@@ -65,22 +65,22 @@ walk-passes s k around (element id first whole c inside rest) =
     go (lost missing) inner later = ap isPassed (walk-nowhere all s k around id first whole c inside rest missing)
         ∙ sym (passes-lost k id first whole c inside rest missing)
     go (within n found stops) inner later =
-        let m = withElement (line n) first whole s in
+        let m = withElement (line n) c first whole s in
         let j = line n .inside in
         let (q, d, r, e) = is-broken (innerWalk all m j first inside) (passes-within m j first inside (inner m j) ∙ stops) in
-        ap isPassed (walk-inner-broken all s k around id first whole c inside rest n q d r found (all-read (line n .mark)) e)
+        ap isPassed (walk-inner-broken all s k around id first whole c inside rest n q d r found (all-read (markOf (line n .marking) c)) e)
         ∙ sym (passes-inside k n id first whole c inside rest found stops)
     go (broken n d found fine breaks) inner later =
-        let m = withElement (line n) first whole s in
+        let m = withElement (line n) c first whole s in
         let j = line n .inside in
         let (r, e) = is-passed (innerWalk all m j first inside) (passes-within m j first inside (inner m j) ∙ fine) in
-        ap isPassed (walk-breaks all s k around id first whole c inside rest n d r found (all-read (line n .mark)) e breaks)
+        ap isPassed (walk-breaks all s k around id first whole c inside rest n d r found (all-read (markOf (line n .marking) c)) e breaks)
         ∙ sym (passes-breaks k n id first whole c inside rest found d fine breaks)
     go (onward n next found fine on) inner later =
-        let m = withElement (line n) first whole s in
+        let m = withElement (line n) c first whole s in
         let j = line n .inside in
         let (r, e) = is-passed (innerWalk all m j first inside) (passes-within m j first inside (inner m j) ∙ fine) in
-        ap isPassed (walk-next all s k around id first whole c inside rest n next r found (all-read (line n .mark)) e on)
+        ap isPassed (walk-next all s k around id first whole c inside rest n next r found (all-read (markOf (line n .marking) c)) e on)
         ∙ later r next ∙ sym (passes-on k n id first whole c inside rest found next fine on)
 
 -- so the walk passes an inside that passes the test

@@ -12,7 +12,7 @@ use Rattle.der.specs.meaning.Tree.{Tree, none, element}
 use Rattle.crmf.specs.declared.explain.tally.Tally.{Tally}
 use Rattle.crmf.specs.declared.explain.Walked.the-variants.{Passed}
 use Rattle.crmf.specs.meaning.Kinds as kinds
-use Rattle.crmf.specs.meaning.Notation.{Mark, both, alone, Name}
+use Rattle.crmf.specs.meaning.Notation.{Mark, both, alone, markOf, Name}
 use Rattle.crmf.specs.meaning.Grammar.{content}
 use Rattle.crmf.specs.meaning.Language.{Matches}
 use Rattle.crmf.specs.steps.grammar.Lines.{Line, start}
@@ -87,10 +87,10 @@ lengthy-long kind p w s = go (longId kind w && eqb (s .long .whole) 0) refl
     go false t = rw (withLongId, longer, t)
 
 -- what is known with an element in a line's form
-pub met-long : (x : Line) (p w : ℕ) (s : Tally) → (withElement x p w s .long .whole, withElement x p w s .long .place) ≡ longer (s .long .whole, s .long .place) (x .kind) p w
+pub met-long : (x : Line) (c : List ℕ) (p w : ℕ) (s : Tally) → (withElement x c p w s .long .whole, withElement x c p w s .long .place) ≡ longer (s .long .whole, s .long .place) (x .kind) p w
 unfolding withElement
-met-long x p w s =
-    lengthy-long (x .kind) p w (withForm (x .mark) p s) ∙ ap (λ (h : ℕ × ℕ). longer h (x .kind) p w) (noted-long (x .mark) p s)
+met-long x c p w s =
+    lengthy-long (x .kind) p w (withForm (markOf (x .marking) c) p s) ∙ ap (λ (h : ℕ × ℕ). longer h (x .kind) p w) (noted-long (markOf (x .marking) c) p s)
 
 -- an element's rows: what is known goes from a to b with its own row and the rows inside it, and from b to d with those after it
 rows-one-long : (kind item : ℕ) (here : Extent) (inner : ℕ → ℕ → List Row) (later : ℕ → List Row) (n up : ℕ) (extent : Extent) (a b d : ℕ × ℕ)
@@ -134,7 +134,7 @@ rows-long R none s r k around n up extent passed = ap known (passed-none R s k a
 rows-long R (element id p w c inside rest) s r k around n up extent passed =
     let e = passed-element R s k around id p w c inside rest r passed in
     let x = line (e .at) in
-    let m = withElement x p w s in
+    let m = withElement x c p w s in
     let here = extentOf p w c in
     let inner : ℕ → ℕ → List Row = λ j u. rowsWithin (x .inside) inside j u here in
     let later : ℕ → List Row = λ j. rowsFrom (e .next) rest j up extent in
@@ -144,7 +144,7 @@ rows-long R (element id p w c inside rest) s r k around n up extent passed =
     λ j. rows-long R rest (e .seen) r (e .next) around j up extent (e .further) in
     ap (firstLong (known s)) (rows-from-element k id p w c inside rest n up extent (e .at) (e .next) (e .found) (e .onward))
     ∙ rows-one-long (x .kind) (x .item) here inner later n up extent (known s) (known (e .seen)) (known r) (item-not-id (e .at))
-    (λ j u. ap (λ (h : ℕ × ℕ). firstLong h (inner j u)) (sym (met-long x p w s)) ∙ within j u) further
+    (λ j u. ap (λ (h : ℕ × ℕ). firstLong h (inner j u)) (sym (met-long x c p w s)) ∙ within j u) further
 
 -- The long certReqId that a walk over a container's elements has met is the first of any derivation's rows that is one.
 pub walk-long : {R : ℕ → Bool} (Q : ℕ → Bool) (name : Name) {t : Tree} (m : Matches R (content name) t) (s r : Tally) (around n up : ℕ) (extent : Extent)
@@ -199,8 +199,8 @@ inner-short R m r i first inside passed =
     (inner-long R m r i first inside 0 0 noExtent (rows-long R inside m r i first 0 0 noExtent) passed)
 
 -- If no long certReqId is known after an element in a line's form, the element is not one.
-pub met-short : (x : Line) (p w : ℕ) (s : Tally) → withElement x p w s .long .whole ≡ 0 → not (longId (x .kind) w) ≡ true
-met-short x p w s zero =
-    let nothing = ap (λ (h : ℕ × ℕ). eqb (h .0) 0 && true) (sym (met-long x p w s)) ∙ ap (λ (n : ℕ). eqb n 0 && true) zero in
+pub met-short : (x : Line) (c : List ℕ) (p w : ℕ) (s : Tally) → withElement x c p w s .long .whole ≡ 0 → not (longId (x .kind) w) ≡ true
+met-short x c p w s zero =
+    let nothing = ap (λ (h : ℕ × ℕ). eqb (h .0) 0 && true) (sym (met-long x c p w s)) ∙ ap (λ (n : ℕ). eqb n 0 && true) zero in
     and-eq-true-iff (not (longId (x .kind) w)) true .0
     (and-eq-true-iff (eqb (s .long .whole) 0) _ .0 (sym (longer-none (known s) (x .kind) p w true) ∙ nothing) .1) .0

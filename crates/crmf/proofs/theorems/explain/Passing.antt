@@ -15,7 +15,7 @@ use Rattle.crmf.specs.declared.grammar.judge.Onward.the-variants.{To, Br
 use Rattle.crmf.specs.declared.grammar.table.FoundLine.{FoundLine}
 use Rattle.crmf.specs.declared.grammar.table.FoundLine.the-variants.{At, Nowhere}
 use Rattle.crmf.specs.meaning.Value.{Rule, keeps, Selector, selected}
-use Rattle.crmf.specs.meaning.Notation.{detailOf}
+use Rattle.crmf.specs.meaning.Notation.{markOf, detailOf}
 use Rattle.crmf.specs.meaning.Language.{readable}
 use Rattle.crmf.specs.steps.grammar.Lines.{keep, choose}
 use Rattle.crmf.specs.steps.explain.Walk.{line, findLine, closed, ruleDetail, judged, withElement, walk}
@@ -69,9 +69,9 @@ way-onward s next n c to = go (selected s c) refl
 pub record Chosen (R : ℕ → Bool) (s : Tally) (k around id first whole : ℕ) (c : List ℕ) (inside rest : Tree) (r : Tally) : Type 0 where
   pub at : ℕ
   pub found : findLine k id ≡ At at
-  pub read : readable R (line at .mark) ≡ true
+  pub read : readable R (markOf (line at .marking) c) ≡ true
   pub seen : Tally
-  pub inner : innerWalk R (withElement (line at) first whole s) (line at .inside) first inside ≡ Passed seen
+  pub inner : innerWalk R (withElement (line at) c first whole s) (line at .inside) first inside ≡ Passed seen
   pub next : ℕ
   pub onward : judged (line at .judge) (line at .next) c ≡ To next
   pub further : walk R seen next around rest ≡ Passed r
@@ -108,28 +108,28 @@ module _ (R : ℕ → Bool) (s : Tally) (k around id first whole : ℕ) (c : Lis
   walk-nowhere e = rw (e, walk)
 
   -- an element in a form that may not be read
-  pub walk-unread : (n : ℕ) → findLine k id ≡ At n → readable R (line n .mark) ≡ false
-      → walk R s k around (element id first whole c inside rest) ≡ Broken first (detailOf (line n .mark)) s
+  pub walk-unread : (n : ℕ) → findLine k id ≡ At n → readable R (markOf (line n .marking) c) ≡ false
+      → walk R s k around (element id first whole c inside rest) ≡ Broken first (detailOf (markOf (line n .marking) c)) s
   unfolding walk
   walk-unread n e u = rw (e, walk) (rw u)
 
   -- an element with a break inside
-  pub walk-inner-broken : (n q d : ℕ) (r : Tally) → findLine k id ≡ At n → readable R (line n .mark) ≡ true
-      → innerWalk R (withElement (line n) first whole s) (line n .inside) first inside ≡ Broken q d r
+  pub walk-inner-broken : (n q d : ℕ) (r : Tally) → findLine k id ≡ At n → readable R (markOf (line n .marking) c) ≡ true
+      → innerWalk R (withElement (line n) c first whole s) (line n .inside) first inside ≡ Broken q d r
       → walk R s k around (element id first whole c inside rest) ≡ Broken q d r
   unfolding walk innerWalk
   walk-inner-broken n q d r e u w = rw (e, walk) (rw u (rw w))
 
   -- an element whose value breaks its rule
-  pub walk-breaks : (n d : ℕ) (r : Tally) → findLine k id ≡ At n → readable R (line n .mark) ≡ true
-      → innerWalk R (withElement (line n) first whole s) (line n .inside) first inside ≡ Passed r → judged (line n .judge) (line n .next) c ≡ Breaks d
+  pub walk-breaks : (n d : ℕ) (r : Tally) → findLine k id ≡ At n → readable R (markOf (line n .marking) c) ≡ true
+      → innerWalk R (withElement (line n) c first whole s) (line n .inside) first inside ≡ Passed r → judged (line n .judge) (line n .next) c ≡ Breaks d
       → walk R s k around (element id first whole c inside rest) ≡ Broken first d r
   unfolding walk innerWalk
   walk-breaks n d r e u w j = rw (e, walk) (rw u (rw w (rw j)))
 
   -- an element that is passed: the walk goes on after it
-  pub walk-next : (n next : ℕ) (r : Tally) → findLine k id ≡ At n → readable R (line n .mark) ≡ true
-      → innerWalk R (withElement (line n) first whole s) (line n .inside) first inside ≡ Passed r → judged (line n .judge) (line n .next) c ≡ To next
+  pub walk-next : (n next : ℕ) (r : Tally) → findLine k id ≡ At n → readable R (markOf (line n .marking) c) ≡ true
+      → innerWalk R (withElement (line n) c first whole s) (line n .inside) first inside ≡ Passed r → judged (line n .judge) (line n .next) c ≡ To next
       → walk R s k around (element id first whole c inside rest) ≡ walk R r next around rest
   unfolding walk innerWalk
   walk-next n next r e u w j = rw (e, walk) (rw u (rw w (rw j)))
@@ -139,25 +139,25 @@ module _ (R : ℕ → Bool) (s : Tally) (k around id first whole : ℕ) (c : Lis
       → Chosen R s k around id first whole c inside rest r
   passed-element r passed = by-line (findLine k id) refl
     where
-      by-onward : (n : ℕ) (m : Tally) → findLine k id ≡ At n → readable R (line n .mark) ≡ true
-          → innerWalk R (withElement (line n) first whole s) (line n .inside) first inside ≡ Passed m → (o : Onward)
+      by-onward : (n : ℕ) (m : Tally) → findLine k id ≡ At n → readable R (markOf (line n .marking) c) ≡ true
+          → innerWalk R (withElement (line n) c first whole s) (line n .inside) first inside ≡ Passed m → (o : Onward)
           → judged (line n .judge) (line n .next) c ≡ o → Chosen R s k around id first whole c inside rest r
       by-onward n m e u w (Breaks d) j = passed-not-broken (sym (walk-breaks n d m e u w j) ∙ passed)
       by-onward n m e u w (To next) j =
           record { at = n; found = e; read = u; seen = m; inner = w; next = next; onward = j; further = sym (walk-next n next m e u w j) ∙ passed }
 
-      by-inner : (n : ℕ) → findLine k id ≡ At n → readable R (line n .mark) ≡ true → (w : Walked)
-          → innerWalk R (withElement (line n) first whole s) (line n .inside) first inside ≡ w → Chosen R s k around id first whole c inside rest r
+      by-inner : (n : ℕ) → findLine k id ≡ At n → readable R (markOf (line n .marking) c) ≡ true → (w : Walked)
+          → innerWalk R (withElement (line n) c first whole s) (line n .inside) first inside ≡ w → Chosen R s k around id first whole c inside rest r
       by-inner n e u (Broken q d m) w = passed-not-broken (sym (walk-inner-broken n q d m e u w) ∙ passed)
       by-inner n e u (Passed m) w = by-onward n m e u w (judged (line n .judge) (line n .next) c) refl
 
-      by-read : (n : ℕ) → findLine k id ≡ At n → (b : Bool) → readable R (line n .mark) ≡ b → Chosen R s k around id first whole c inside rest r
+      by-read : (n : ℕ) → findLine k id ≡ At n → (b : Bool) → readable R (markOf (line n .marking) c) ≡ b → Chosen R s k around id first whole c inside rest r
       by-read n e false u = passed-not-broken (sym (walk-unread n e u) ∙ passed)
-      by-read n e true u = by-inner n e u (innerWalk R (withElement (line n) first whole s) (line n .inside) first inside) refl
+      by-read n e true u = by-inner n e u (innerWalk R (withElement (line n) c first whole s) (line n .inside) first inside) refl
 
       by-line : (f : FoundLine) → findLine k id ≡ f → Chosen R s k around id first whole c inside rest r
       by-line Nowhere e = passed-not-broken (sym (walk-nowhere e) ∙ passed)
-      by-line (At n) e = by-read n e (readable R (line n .mark)) refl
+      by-line (At n) e = by-read n e (readable R (markOf (line n .marking) c)) refl
 
   -- From the same parts, the walk over the element passes.
   pub element-passes : (r : Tally) → Chosen R s k around id first whole c inside rest r

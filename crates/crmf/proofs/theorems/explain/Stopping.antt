@@ -16,7 +16,7 @@ use Rattle.crmf.specs.declared.grammar.judge.Onward.{Onward}
 use Rattle.crmf.specs.declared.grammar.judge.Onward.the-variants.{To, Breaks}
 use Rattle.crmf.specs.declared.grammar.table.FoundLine.the-variants.{At}
 use Rattle.crmf.specs.meaning.Value.{Selector, keeps, selected, ruleDetail}
-use Rattle.crmf.specs.meaning.Notation.{named, Name, Inside, free, holds, Form, part, Parts, done, _then_, select}
+use Rattle.crmf.specs.meaning.Notation.{named, markOf, Name, Inside, free, holds, Form, part, Parts, done, _then_, select}
 use Rattle.crmf.specs.meaning.Grammar.{content}
 use Rattle.crmf.specs.meaning.Language.{readable, passable, partsAfter, wayOf, Matches, Within}
 use Rattle.crmf.specs.meaning.Stops.{Choice, taking, choosing, identifiersOf, Reaches, form, value, past, Has, Needed, Stops, missing, misfit, foreign, inner, broken, astray, later, selected-later, StopsIn, parts}
@@ -153,17 +153,17 @@ module _ (R : ℕ → Bool) where
     t = element id first whole c inside rest
 
     abbrev m : Tally
-    m = withElement (line n) first whole s
+    m = withElement (line n) c first whole s
 
     -- an element in a form
     taking-stops : (f : Form) (qs : Parts) → Has ps id (taking f qs) → Takes f qs (line n) → (p d : ℕ) (r : Tally) → walk R s k around t ≡ Broken p d r
         → Stops R ps around t p d
-    taking-stops f qs has shows p d r breaks = by-read (readable R (line n .mark)) refl
+    taking-stops f qs has shows p d r breaks = by-read (readable R (markOf (line n .marking) c)) refl
       where
         within-it : (u : Tally) → innerWalk R m (line n .inside) first inside ≡ Passed u → Within R (f .inside) inside
         within-it u passed = within-sound R m u (f .inside) first inside (λ a. matched m u a) (sym (inner-at m first inside (shows .entered)) ∙ passed)
 
-        by-value : T (readable R (f .mark)) → readable R (line n .mark) ≡ true → (u : Tally) → innerWalk R m (line n .inside) first inside ≡ Passed u
+        by-value : T (readable R (markOf (f .marking) c)) → readable R (markOf (line n .marking) c) ≡ true → (u : Tally) → innerWalk R m (line n .inside) first inside ≡ Passed u
             → (o : Onward) → judged (line n .judge) (line n .next) c ≡ o → (b : Bool) → keeps (f .rule) c ≡ b → Stops R ps around t p d
         by-value may read u passed (Breaks e) to false lost =
             let says : Breaks (ruleDetail (f .rule)) ≡ Breaks e = sym (judged-lost (f .rule) (line n .next) c lost) ∙ rw (shows .judging) at to in
@@ -179,7 +179,7 @@ module _ (R : ℕ → Bool) where
             (further u r next p d qs (subst (λ (j : ℕ). Stands j qs) on (shows .onward))
             (sym (walk-next R s k around id first whole c inside rest n next u found read passed to) ∙ breaks))
 
-        by-inner : T (readable R (f .mark)) → readable R (line n .mark) ≡ true → (w : Walked) → innerWalk R m (line n .inside) first inside ≡ w
+        by-inner : T (readable R (markOf (f .marking) c)) → readable R (markOf (line n .marking) c) ≡ true → (w : Walked) → innerWalk R m (line n .inside) first inside ≡ w
             → Stops R ps around t p d
         by-inner may read (Broken q e u) is =
             stop-at (inner {qs = qs} has may (inner-stops m u (f .inside) first q e inside (λ a. each m u a q e) (sym (inner-at m first inside (shows .entered)) ∙ is)))
@@ -187,19 +187,19 @@ module _ (R : ℕ → Bool) where
         by-inner may read (Passed u) is =
             by-value may read u is (judged (line n .judge) (line n .next) c) refl (keeps (f .rule) c) refl
 
-        by-read : (b : Bool) → readable R (line n .mark) ≡ b → Stops R ps around t p d
+        by-read : (b : Bool) → readable R (markOf (line n .marking) c) ≡ b → Stops R ps around t p d
         by-read false unread =
             stop-at (foreign {qs = qs} has (false-fails (rw (shows .marked) at unread)))
             (rw (shows .marked) at (sym (walk-unread R s k around id first whole c inside rest n found unread) ∙ breaks))
         by-read true read =
-            by-inner (true-holds (readable R (f .mark)) (rw (shows .marked) at read)) read (innerWalk R m (line n .inside) first inside) refl
+            by-inner (true-holds (readable R (markOf (f .marking) c)) (rw (shows .marked) at read)) read (innerWalk R m (line n .inside) first inside) refl
 
     -- an element whose value selects
     choosing-stops : (a : ℕ) (v : Selector) (ns : List Name) → Has ps id (choosing a v ns) → lines.Selects a v ns (line n) → (p d : ℕ) (r : Tally)
         → walk R s k around t ≡ Broken p d r → Stops R ps around t p d
     choosing-stops a v ns has shows p d r breaks = by-value (judged (line n .judge) (line n .next) c) refl (selected v c) refl
       where
-        read : readable R (line n .mark) ≡ true
+        read : readable R (markOf (line n .marking) c) ≡ true
         read = rw (shows .marked)
 
         unentered : innerWalk R m (line n .inside) first inside ≡ Passed m
@@ -275,25 +275,25 @@ module _ (R : ℕ → Bool) where
       (each : (m : Tally) (n : Name) (p d : ℕ) → Stops R (content n) first inside p d → Breaks-at m (start n) first inside p d)
       (further : (m : Tally) (j p d : ℕ) (qs : Parts) → Stands j qs → Stops R qs around rest p d → Breaks-at m j around rest p d) where
     -- an element in a form whose line is found
-    taking-breaks : (f : Form) (qs : Parts) → Has ps id (taking f qs) → T (readable R (f .mark))
-        → (n : ℕ) × (findLine k id ≡ At n) × Takes f qs (line n) × (readable R (line n .mark) ≡ true)
+    taking-breaks : (f : Form) (qs : Parts) → Has ps id (taking f qs) → T (readable R (markOf (f .marking) c))
+        → (n : ℕ) × (findLine k id ≡ At n) × Takes f qs (line n) × (readable R (markOf (line n .marking) c) ≡ true)
     taking-breaks f qs has may =
         let (n, found, shows) = line-of k id ps stands (taking f qs) has in
-        (n, found, shows, rw (shows .marked) (holds-true (readable R (f .mark)) may))
+        (n, found, shows, rw (shows .marked) (holds-true (readable R (markOf (f .marking) c)) may))
 
     -- the inside of such an element, if it is what the form asks for
     taken-within : (f : Form) (qs : Parts) (n : ℕ) → Takes f qs (line n) → Within R (f .inside) inside
-        → (u : Tally) × (innerWalk R (withElement (line n) first whole s) (line n .inside) first inside ≡ Passed u)
+        → (u : Tally) × (innerWalk R (withElement (line n) c first whole s) (line n .inside) first inside ≡ Passed u)
     taken-within f qs n shows within =
-        let m = withElement (line n) first whole s in
+        let m = withElement (line n) c first whole s in
         let (u, passed) = within-passes m (f .inside) first inside within in
         (u, inner-at m first inside (shows .entered) ∙ passed)
 
     -- the inside of an element whose value selects isn't entered
     unentered : (a : ℕ) (v : Selector) (ns : List Name) (n : ℕ) → lines.Selects a v ns (line n)
-        → innerWalk R (withElement (line n) first whole s) (line n .inside) first inside ≡ Passed (withElement (line n) first whole s)
+        → innerWalk R (withElement (line n) c first whole s) (line n .inside) first inside ≡ Passed (withElement (line n) c first whole s)
     unentered a v ns n shows =
-        let m = withElement (line n) first whole s in
+        let m = withElement (line n) c first whole s in
         inner-at m first inside (shows .entered) ∙ inner-free R m 0 first inside refl
 
     -- a value that selects no name selects none of the ways
@@ -314,10 +314,10 @@ module _ (R : ℕ → Bool) where
     )
     element-breaks (foreign {qs = qs} {f = f} has unread) =
         let (n, found, shows) = line-of k id ps stands (taking f qs) has in
-        (s, rw (← shows .marked) (walk-unread R s k around id first whole c inside rest n found (rw (shows .marked) (fails-false (readable R (f .mark)) unread))))
+        (s, rw (← shows .marked) (walk-unread R s k around id first whole c inside rest n found (rw (shows .marked) (fails-false (readable R (markOf (f .marking) c)) unread))))
     element-breaks (inner {qs = qs} {place = p} {detail = d} {f = f} has may stop) =
         let (n, found, shows, read) = taking-breaks f qs has may in
-        let m = withElement (line n) first whole s in
+        let m = withElement (line n) c first whole s in
         let (r, breaks) = stops-in-break stop m (λ a. each m a p d) in
         (r, walk-inner-broken R s k around id first whole c inside rest n p d r found read (inner-at m first inside (shows .entered) ∙ breaks))
     element-breaks (broken {qs = qs} {f = f} has may within fails) =
@@ -329,7 +329,7 @@ module _ (R : ℕ → Bool) where
         )
     element-breaks (astray {a = a} {s = v} {ns = ns} has unselected) =
         let (n, found, shows) = line-of k id ps stands (choosing a v ns) has in (
-          withElement (line n) first whole s,
+          withElement (line n) c first whole s,
           walk-breaks R s k around id first whole c inside rest n 3 _ found (rw (shows .marked)) (unentered a v ns n shows)
               (rw (shows .judging) (judged-astray v (line n .next) c (no-way a v ns n shows unselected))),
         )
@@ -343,7 +343,7 @@ module _ (R : ℕ → Bool) where
         )
     element-breaks (selected-later {place = p} {detail = d} {a = a} {s = v} {ns = ns} {n = name} has way stop) =
         let (n, found, shows) = line-of k id ps stands (choosing a v ns) has in
-        let m = withElement (line n) first whole s in
+        let m = withElement (line n) c first whole s in
         let (w, is, there) = way-selected v c ns name .0 way in
         let (r, breaks) = further m (start name) p d (content name) (stands-start name) stop in (
           r,

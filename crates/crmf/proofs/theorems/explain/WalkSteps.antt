@@ -9,6 +9,7 @@ use Rattle.crmf.specs.declared.grammar.judge.Onward.{Onward}
 use Rattle.crmf.specs.declared.grammar.judge.Onward.the-variants.{To, Breaks}
 use Rattle.crmf.specs.declared.grammar.table.FoundLine.{FoundLine}
 use Rattle.crmf.specs.declared.grammar.table.FoundLine.the-variants.{At, Nowhere}
+use Rattle.crmf.specs.meaning.Notation.{markOf}
 use Rattle.crmf.specs.meaning.Language.{Occurrence, occurs}
 use Rattle.crmf.specs.steps.explain.Walk.{line, findLine, closed, judged, passes, trail}
 
@@ -74,7 +75,7 @@ module _ (k n id first whole : ℕ) (c : List ℕ) (inside rest : Tree) (found :
 
   -- and the trail is its form and what is met inside it
   pub trail-inside : passesIn (line n .inside) inside ≡ false
-      → trail k (element id first whole c inside rest) ≡ occurs (line n .mark) first ++ trailIn (line n .inside) inside
+      → trail k (element id first whole c inside rest) ≡ occurs (markOf (line n .marking) c) first ++ trailIn (line n .inside) inside
   unfolding trail
   trail-inside inner = rw (found, inner, trail) (rw append-nil refl)
 
@@ -86,7 +87,7 @@ module _ (k n id first whole : ℕ) (c : List ℕ) (inside rest : Tree) (found :
 
   -- and the trail is its form and what is met inside it
   pub trail-breaks : (d : ℕ) → passesIn (line n .inside) inside ≡ true → judged (line n .judge) (line n .next) c ≡ Breaks d
-      → trail k (element id first whole c inside rest) ≡ occurs (line n .mark) first ++ trailIn (line n .inside) inside
+      → trail k (element id first whole c inside rest) ≡ occurs (markOf (line n .marking) c) first ++ trailIn (line n .inside) inside
   unfolding trail
   trail-breaks d inner breaks = rw (found, inner, breaks, trail) (rw append-nil refl)
 
@@ -99,6 +100,6 @@ module _ (k n id first whole : ℕ) (c : List ℕ) (inside rest : Tree) (found :
   -- and the trail too
   pub trail-on : (next : ℕ) → passesIn (line n .inside) inside ≡ true → judged (line n .judge) (line n .next) c ≡ To next
       → trail k (element id first whole c inside rest)
-      ≡ occurs (line n .mark) first ++ (trailIn (line n .inside) inside ++ trail next rest)
+      ≡ occurs (markOf (line n .marking) c) first ++ (trailIn (line n .inside) inside ++ trail next rest)
   unfolding trail
   trail-on next inner on = rw (found, inner, on, trail)

@@ -25,7 +25,7 @@ use Rattle.crmf.specs.declared.explain.WalkStep.{WalkStep}
 use Rattle.crmf.specs.declared.explain.WalkStep.the-variants.{Stop}
 use Rattle.crmf.specs.declared.explain.Walked.{Walked}
 use Rattle.crmf.specs.declared.explain.Walked.the-variants.{Passed, Broken}
-use Rattle.crmf.specs.meaning.Notation.{Identifiers, octet, generalName, anything, nothing, named, order}
+use Rattle.crmf.specs.meaning.Notation.{Identifiers, octet, generalName, anything, nothing, named, markOf, order}
 use Rattle.crmf.specs.steps.grammar.Lines.{Line, start, startsFrom}
 use Rattle.crmf.specs.steps.explain.Walk.{line, findLine, judged, withElement, walk, every, closed, emptyTally, countOf}
 use Rattle.crmf.specs.steps.grammar.Fitting.{FitsAt}
@@ -124,7 +124,7 @@ module _ (s : List ℕ) (c : Cursor) (e : ℕ) (some : c .at < e) (fits : e ≤ 
 
     -- its inside as code walks it, by the place that code has for the element
     abbrev inner : ℕ → Walked
-    inner p = insideWalk n (withElement (line n) p (f .end - p) (c .tally)) p (tree (f .content) octets)
+    inner p = insideWalk n (withElement (line n) octets p (f .end - p) (c .tally)) p (tree (f .content) octets)
 
     -- the elements from its first byte on
     from-it : tree (c .at) (slice (c .at) e s)
@@ -133,17 +133,17 @@ module _ (s : List ℕ) (c : Cursor) (e : ℕ) (some : c .at < e) (fits : e ≤ 
 
     -- the walk over its inside
     inner-walk : (w : Walked) → inner (f .first) ≡ w
-        → innerWalk every (withElement (line n) (c .at) (f .end - c .at) (c .tally)) (line n .inside) (c .at) (elim (constructed (readAt s (c .at) e .identifier)) [ true ↦ tree (f .content) octets | false ↦ none ]) ≡ w
+        → innerWalk every (withElement (line n) octets (c .at) (f .end - c .at) (c .tally)) (line n .inside) (c .at) (elim (constructed (readAt s (c .at) e .identifier)) [ true ↦ tree (f .content) octets | false ↦ none ]) ≡ w
     inner-walk w g = inner-within n _ (c .at) _ ∙ within-found (c .state) _ n _ (c .at) _ (h .found) ∙ ap inner (sym (h .first)) ∙ g
 
     -- its inside breaks
     pub at-broken : (q d : ℕ) (r : Tally)
-        → insideWalk (h .number) (withElement (line (h .number)) (f .first) (f .end - f .first) (c .tally)) (f .first) (tree (f .content) (slice (f .content) (f .end) s)) ≡ Broken q d r
+        → insideWalk (h .number) (withElement (line (h .number)) (slice (f .content) (f .end) s) (f .first) (f .end - f .first) (c .tally)) (f .first) (tree (f .content) (slice (f .content) (f .end) s)) ≡ Broken q d r
         → Stepped s c e (Stop q d r)
     at-broken q d r g =
         record {
           same = λ around. rw from-it
-              (sym (walk-inner-broken every (c .tally) (c .state) around _ (c .at) _ _ _ _ n q d r (h .found) (all-read (line n .mark)) (inner-walk (Broken q d r) g)));
+              (sym (walk-inner-broken every (c .tally) (c .state) around _ (c .at) _ _ _ _ n q d r (h .found) (all-read (markOf (line n .marking) octets)) (inner-walk (Broken q d r) g)));
           forward = tt;
         }
 
@@ -151,12 +151,12 @@ module _ (s : List ℕ) (c : Cursor) (e : ℕ) (some : c .at < e) (fits : e ≤ 
     goes-on : (r : Tally) → inner (f .first) ≡ Passed r → (around : ℕ) (o : Onward) → value ≡ o
         → continued s e around (stepped (c .at) (f .end) r o) ≡ walkFrom s c e around
     goes-on r g around (To m) v =
-        rw from-it (sym (walk-next every (c .tally) (c .state) around _ (c .at) _ _ _ _ n m r (h .found) (all-read (line n .mark)) (inner-walk (Passed r) g) v))
+        rw from-it (sym (walk-next every (c .tally) (c .state) around _ (c .at) _ _ _ _ n m r (h .found) (all-read (markOf (line n .marking) octets)) (inner-walk (Passed r) g) v))
     goes-on r g around (Breaks d) v =
-        rw from-it (sym (walk-breaks every (c .tally) (c .state) around _ (c .at) _ _ _ _ n d r (h .found) (all-read (line n .mark)) (inner-walk (Passed r) g) v))
+        rw from-it (sym (walk-breaks every (c .tally) (c .state) around _ (c .at) _ _ _ _ n d r (h .found) (all-read (markOf (line n .marking) octets)) (inner-walk (Passed r) g) v))
 
     pub at-passed : (r : Tally)
-        → insideWalk (h .number) (withElement (line (h .number)) (f .first) (f .end - f .first) (c .tally)) (f .first) (tree (f .content) (slice (f .content) (f .end) s)) ≡ Passed r
+        → insideWalk (h .number) (withElement (line (h .number)) (slice (f .content) (f .end) s) (f .first) (f .end - f .first) (c .tally)) (f .first) (tree (f .content) (slice (f .content) (f .end) s)) ≡ Passed r
         → r .count ≤ 2 * f .end → (o : WalkStep)
         → o ≡ stepped (f .first) (f .end) r (judged (line (h .number) .judge) (line (h .number) .next) (slice (f .content) (f .end) s)) → Stepped s c e o
     at-passed r g few o is =
@@ -191,9 +191,9 @@ module _ (k start : ℕ) (is : start ≡ line k .inside) (s : Tally) (around : �
       walked ∙ ap (λ (n : ℕ). walk every s n around t) is ∙ rw (insideWalk, ne-eqb _ _ (λ free. some (is ∙ free)))
 
 -- the inside with what was met at the element itself
-pub inside-met : (n p whole : ℕ) (m s : Tally) (t : Tree) (w : Walked) → m ≡ withElement (line n) p whole s → w ≡ insideWalk n m p t
-    → insideWalk n (withElement (line n) p whole s) p t ≡ w
-inside-met n p whole m s t w is walked = rw (← is) (sym walked)
+pub inside-met : (n p whole : ℕ) (octets : List ℕ) (m s : Tally) (t : Tree) (w : Walked) → m ≡ withElement (line n) octets p whole s → w ≡ insideWalk n m p t
+    → insideWalk n (withElement (line n) octets p whole s) p t ≡ w
+inside-met n p whole octets m s t w is walked = rw (← is) (sym walked)
 
 -- the walk over a whole input, from an empty tally on
 module _ (s : List ℕ) (t : Tally) (empty : t ≡ emptyTally) where

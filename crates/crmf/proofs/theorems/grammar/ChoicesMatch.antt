@@ -10,7 +10,7 @@ use lib.Dec.{T}
 use borrow.Author.Tests.{eqb-true, eq-eqb}
 use Rattle.der.specs.meaning.Tree.{Tree, none, element}
 use Rattle.crmf.specs.meaning.Value.{keeps, Selector}
-use Rattle.crmf.specs.meaning.Notation.{octet, named, Name, Form, Occurs, part, Parts, done, _then_, select}
+use Rattle.crmf.specs.meaning.Notation.{octet, named, markOf, Name, Form, Occurs, part, Parts, done, _then_, select}
 use Rattle.crmf.specs.meaning.Grammar.{content}
 use Rattle.crmf.specs.meaning.Language.{readable, passable, partsAfter, wayOf, OneOf, Matches, end, pass, take, choose, Within}
 pub use Rattle.der.proofs.Laws.{passed as holds-true}
@@ -22,7 +22,7 @@ true-holds b e = rw e tt
 
 -- An element keeps a form, with the parts after it.
 pub record Taken (R : ℕ → Bool) (f : Form) (ps : Parts) (c : List ℕ) (inside rest : Tree) : Type 0 where
-  pub read : T (readable R (f .mark))
+  pub read : T (readable R (markOf (f .marking) c))
   pub kept : T (keeps (f .rule) c)
   pub within : Within R (f .inside) inside
   pub further : Matches R ps rest

@@ -16,7 +16,7 @@ use Rattle.crmf.specs.declared.grammar.table.FoundLine.{FoundLine}
 use Rattle.crmf.specs.declared.grammar.table.FoundLine.the-variants.{At, Nowhere}
 use Rattle.crmf.specs.meaning.Kinds as kinds
 use Rattle.crmf.specs.meaning.Value.{Selector}
-use Rattle.crmf.specs.meaning.Notation.{octet, named, both, Name, names, order, Form, Occurs, once, optional, repeated, Part, part, Parts, done, _then_, select}
+use Rattle.crmf.specs.meaning.Notation.{octet, named, both, whatever, Name, names, order, Form, Occurs, once, optional, repeated, Part, part, Parts, done, _then_, select}
 use Rattle.crmf.specs.meaning.Grammar.{content}
 use Rattle.crmf.specs.meaning.Language.{passable, partsAfter}
 use Rattle.crmf.specs.steps.grammar.Lines.{keep, choose, needed, Line, endLine, partSize, size, startsFrom, start, insideLine, passOf, formLines, lineOf, nextLine, wayLine, partLines, containerLines, linesFrom, lines}
@@ -147,7 +147,7 @@ pub record Takes (f : Form) (ps : Parts) (x : Line) : Type 0 where
   pub judging : x .judge ≡ keep (f .rule)
   pub kinded : x .kind ≡ f .kind
   pub itemed : x .item ≡ f .item
-  pub marked : x .mark ≡ f .mark
+  pub marked : x .marking ≡ f .marking
   pub onward : Stands (x .next) ps
 
 -- What a line says of a value that selects: there are as many ways as names, and each way's line goes on with its name.
@@ -157,7 +157,7 @@ pub record Selects (id : ℕ) (s : Selector) (ns : List Name) (x : Line) : Type 
   pub judging : x .judge ≡ choose s
   pub kinded : x .kind ≡ 0
   pub itemed : x .item ≡ 0
-  pub marked : x .mark ≡ both
+  pub marked : x .marking ≡ whatever both
   pub counted : ways s ≡ length ns
   pub onward : (w : ℕ) (n : Name) → getElem? ns w ≡ some n → line (x .next + w) .next ≡ start n
 
@@ -220,7 +220,7 @@ track-forms : (o : Occurs) (next k : ℕ) (ps : Parts) (fs : List Form) (xs : Li
 unfolding formLines takings
 track-forms o next k ps [] xs hs e stands on past stop = subst (λ (n : ℕ). Tracks n hs) (add-zero k) (past (sym (pass-last o) ∙ on))
 track-forms o next k ps (f ∷ fs) xs hs e stands on past stop =
-    let x : Line = record { identifiers = f .identifiers; inside = insideLine (f .inside); judge = keep (f .rule); kind = f .kind; item = f .item; mark = f .mark; next = next; pass = passOf o fs } in
+    let x : Line = record { identifiers = f .identifiers; inside = insideLine (f .inside); judge = keep (f .rule); kind = f .kind; item = f .item; marking = f .marking; next = next; pass = passOf o fs } in
     let rest = formLines o next fs ++ xs in
     let shows : Takes f ps x = record { identified = refl; entered = refl; judging = refl; kinded = refl; itemed = refl; marked = refl; onward = stands } in
     let place : k + suc (length fs) ≡ suc k + length fs = omega arith in
@@ -251,7 +251,7 @@ find-line-chooses (part o fs then ps) k s =
     (and-eq-true-iff (goesOn (passOf o fs)) (complete ps) .0 (s .completed) .0)
     (λ p. rw p (find-line-chooses ps (k + length fs) after-it)) (λ p. rw p)
 find-line-chooses (select id t ns) k s =
-    let x : Line = record { identifiers = octet id; inside = 0; judge = choose t; kind = kinds.none; item = kinds.none; mark = both; next = suc k; pass = needed } in
+    let x : Line = record { identifiers = octet id; inside = 0; judge = choose t; kind = kinds.none; item = kinds.none; marking = whatever both; next = suc k; pass = needed } in
     let rest = endLine ∷ s .more in
     let e : drop k lines ≡ x ∷ (map wayLine ns ++ rest) = s .there ∙ append-assoc (x ∷ map wayLine ns) (endLine ∷ []) (s .more) in
     let shows : Selects id t ns x =

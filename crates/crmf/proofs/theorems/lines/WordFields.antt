@@ -1,30 +1,49 @@
 -- What the fields of the packed table's words say of the grammar's lines. A test that is computed at every line holds at the line of any
 -- number, since any number past the end has the end line, which is also the first. So each field is one computed test. Assumes nothing.
 use Prim.Native.Nat.{ℕ, _+_, _<_}
-use mathlib.Core.Bool.{Bool, true}
+use mathlib.Core.Bool.{Bool, true, false}
 use mathlib.Core.List.{List}
 use mathlib.Core.Path.{_≡_, refl, ap, _∙_}
 use borrow.Author.Tests.{eqb-true, ltb-true}
 use lib.Dec.{eqb, ltb}
 use lib.ListN.{length, getD, List·getD-map}
 use Rattle.crmf.specs.steps.grammar.Codes as codes
-use Rattle.crmf.specs.meaning.Notation.{order, names}
+use Rattle.crmf.specs.meaning.Notation.{Mark, both, Marking, whatever, unlessTwo, markOf, order, names}
+use Rattle.crmf.specs.meaning.Value.{isTwo}
 use Rattle.crmf.specs.meaning.Grammar.{content}
 use Rattle.crmf.specs.steps.grammar.Lines.{Line, endLine, lines, linesFrom, containerLines, partLines, wayLine, nextLine, formLines, passOf, insideLine, start, startsFrom, size, partSize}
-use Rattle.crmf.specs.steps.grammar.Packed.{pack, packed, passCode, identifiersCode, judgeCode, markCode, beside, actionOf}
-use Rattle.crmf.specs.steps.grammar.Packed.{passField, identifiersField, insideField, judgeField, kindField, itemField, markField, nextField, actionField, rowsField}
+use Rattle.crmf.specs.steps.grammar.Packed.{pack, packed, passCode, identifiersCode, judgeCode, markCode, markingCode, beside, actionOf}
+use Rattle.crmf.specs.steps.grammar.Packed.{passField, identifiersField, insideField, judgeField, kindField, itemField, markingField, nextField, actionField, rowsField}
 use Rattle.crmf.specs.steps.explain.Walk.{line, rowsBy}
 use Rattle.crmf.proofs.theorems.lists.Tests.{all, all-first}
 
 -- the table, for computing: to unfold it is to unfold all that the lines and their words are made of
 unfoldable pub computed : List ℕ
-unfolding packed pack beside actionOf passCode identifiersCode judgeCode markCode lines linesFrom containerLines partLines wayLine nextLine formLines passOf insideLine start startsFrom size partSize order content
+unfolding packed pack beside actionOf passCode identifiersCode judgeCode markCode markingCode lines linesFrom containerLines partLines wayLine nextLine formLines passOf insideLine start startsFrom size partSize order content
 computed = packed
 
 -- a test that passes at every line of the table passes at the line of any number
 pub at-line : (f : Line → Bool) → all f lines ≡ true → (k : ℕ) → f (line k) ≡ true
 unfolding line lines
 at-line f = all-first f endLine (linesFrom 1 names)
+
+-- the mark that a marking gives, if it gives one
+abbrev pub given : Marking → Mark
+given (whatever m) = m
+given (unlessTwo m) = m
+
+-- a test that both editions' mark passes, and the mark that the marking gives, is passed by the mark of any value
+mark-passes : (f : Mark → Bool) (m : Marking) (c : List ℕ) → f both ≡ true → f (given m) ≡ true → f (markOf m c) ≡ true
+mark-passes f (whatever m) c none own = own
+mark-passes f (unlessTwo m) c none own = go (isTwo c)
+  where
+    go : (b : Bool) → f (elim b [ true ↦ both | false ↦ m ]) ≡ true
+    go true = none
+    go false = own
+
+-- so one that passes at every line of the table is passed by the mark of any element in the form of any line
+pub at-mark : (f : Mark → Bool) → f both ≡ true → all (λ x. f (given (x .marking))) lines ≡ true → (k : ℕ) (c : List ℕ) → f (markOf (line k .marking) c) ≡ true
+at-mark f none e k c = mark-passes f (line k .marking) c none (at-line (λ x. f (given (x .marking))) e k)
 
 -- the word of any number is its line, packed
 pub word-at : (k : ℕ) → getD packed k 0 ≡ pack (line k)
@@ -59,9 +78,9 @@ pub item-at : (k : ℕ) → itemField (getD packed k 0) ≡ line k .item
 unfolding computed
 item-at = field-at itemField (λ x. x .item) refl
 
-pub mark-at : (k : ℕ) → markField (getD packed k 0) ≡ markCode (line k .mark)
+pub marking-at : (k : ℕ) → markingField (getD packed k 0) ≡ markingCode (line k .marking)
 unfolding computed
-mark-at = field-at markField (λ x. markCode (x .mark)) refl
+marking-at = field-at markingField (λ x. markingCode (x .marking)) refl
 
 pub next-at : (k : ℕ) → nextField (getD packed k 0) ≡ line k .next
 unfolding computed

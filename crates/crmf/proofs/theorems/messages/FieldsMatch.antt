@@ -10,7 +10,7 @@ use lib.Dec.{T, eqb}
 use borrow.Author.Tests.{eqb-true, eq-eqb}
 use Rattle.der.specs.meaning.Tree.{Tree, element}
 use Rattle.crmf.specs.meaning.Value.{keeps}
-use Rattle.crmf.specs.meaning.Notation.{named, Name, holds, Form, Occurs, once, optional, repeated, part, Parts, done, _then_, holding, row}
+use Rattle.crmf.specs.meaning.Notation.{named, markOf, Name, holds, Form, Occurs, once, optional, repeated, part, Parts, done, _then_, holding, row}
 use Rattle.crmf.specs.meaning.Grammar.{content}
 use Rattle.crmf.specs.meaning.Language.{readable, partsAfter, OneOf, Matches, end, pass, take, Within, parts}
 use Rattle.crmf.specs.meaning.Fields.{Field, fields, listed}
@@ -20,7 +20,7 @@ use Rattle.crmf.proofs.theorems.messages.FieldLaws.{IfAny}
 -- A field keeps a form.
 pub record Fits (R : ℕ → Bool) (form : Form) (f : Field) : Type 0 where
   pub fits : T (named (form .identifiers) (f .identifier))
-  pub read : T (readable R (form .mark))
+  pub read : T (readable R (markOf (form .marking) (f .content)))
   pub kept : T (keeps (form .rule) (f .content))
   pub within : Within R (form .inside) (f .inside)
 

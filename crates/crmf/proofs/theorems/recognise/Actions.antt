@@ -13,7 +13,7 @@ use Rattle.der.proofs.Laws.{ruled, closes-free, constructed-octet, known, known
 use Rattle.crmf.specs.steps.grammar.Codes as codes
 use Rattle.crmf.specs.meaning.Kinds as kinds
 use Rattle.crmf.specs.meaning.Value.{Rule, always, integer, bitString}
-use Rattle.crmf.specs.meaning.Notation.{Identifiers, octet, generalName, anything, nothing, named, Mark, both, alone, Name, AlgId, Spki, OneName, Rdn, Attribute}
+use Rattle.crmf.specs.meaning.Notation.{Identifiers, octet, generalName, anything, nothing, named, both, alone, Marking, whatever, unlessTwo, Name, AlgId, Spki, OneName, Rdn, Attribute}
 use Rattle.crmf.specs.steps.grammar.Lines.{Judge, keep, choose, Line, lines, start}
 use Rattle.crmf.specs.steps.grammar.Packed.{judgeCode, constructedBit, actionOf}
 use Rattle.crmf.specs.steps.explain.Walk.{line}
@@ -66,14 +66,14 @@ pub record Plain (k i : ℕ) (r : Rule) (list : Bool) : Type 0 where
   pub lists : constructed i ≡ list
   pub free : eqb (line k .inside) 0 ≡ not list
   pub judge : line k .judge ≡ keep r
-  pub mark : line k .mark ≡ both
+  pub marking : line k .marking ≡ whatever both
 
 -- The identifier that such a line is found for is its own.
 pub plain-names : {k i : ℕ} {r : Rule} {list : Bool} → Plain k i r list → (id : ℕ) → named (line k .identifiers) id ≡ true → id ≡ i
 unfolding named
 plain-names p id e = eqb-true _ _ (ap (λ i. named i id) (sym (p .identifier)) ∙ e)
 
--- tests of two booleans, of a mark and of a judge
+-- tests of two booleans, of a marking and of a judge
 abbrev alike : Bool → Bool → Bool
 alike true b = b
 alike false b = not b
@@ -82,30 +82,32 @@ alike-same : (a b : Bool) → alike a b ≡ true → a ≡ b
 alike-same true b e = sym e
 alike-same false b e = sym (not-true b e)
 
-abbrev common : Mark → Bool
-common both = true
-common (alone e d detail) = false
+abbrev common : Marking → Bool
+common (whatever both) = true
+common (whatever (alone e d detail)) = false
+common (unlessTwo m) = false
 
-common-both : (m : Mark) → common m ≡ true → m ≡ both
-common-both both e = refl
-common-both (alone e d detail) t = absurd (false≢true t)
+common-both : (m : Marking) → common m ≡ true → m ≡ whatever both
+common-both (whatever both) e = refl
+common-both (whatever (alone e d detail)) t = absurd (false≢true t)
+common-both (unlessTwo m) t = absurd (false≢true t)
 
 by-rule : (j : Judge) (r : Rule) → judgeCode j ≡ judgeCode (keep r) → j ≡ keep r
 by-rule (keep x) r e = ap keep (same-rule x r e)
 by-rule (choose s) r e = absurd (omega (arith, rule-range r, selector-range s))
 
--- the test of a line's judge and mark, and of such a line
+-- the test of a line's judge and marking, and of such a line
 abbrev judged-by : Rule → Line → Bool
-judged-by r x = eqb (judgeCode (x .judge)) (judgeCode (keep r)) && common (x .mark)
+judged-by r x = eqb (judgeCode (x .judge)) (judgeCode (keep r)) && common (x .marking)
 
 abbrev plainly : (ℕ → Bool) → Rule → Bool → Line → Bool
 plainly f r list x =
     (one (λ i. known i && (alike (constructedBit i) list && f i)) (x .identifiers) && alike (eqb (x .inside) 0) (not list)) && judged-by r x
 
-judged-right : (r : Rule) (x : Line) → judged-by r x ≡ true → (x .judge ≡ keep r) × (x .mark ≡ both)
+judged-right : (r : Rule) (x : Line) → judged-by r x ≡ true → (x .judge ≡ keep r) × (x .marking ≡ whatever both)
 judged-right r x e =
     let (j, m) = and-eq-true-iff _ _ .0 e in
-    (by-rule (x .judge) r (eqb-true _ _ j), common-both (x .mark) m)
+    (by-rule (x .judge) r (eqb-true _ _ j), common-both (x .marking) m)
 
 plain : (f : ℕ → Bool) (r : Rule) (list : Bool) (k : ℕ) → plainly f r list (line k) ≡ true → (i : ℕ) × Plain k i r list × (f i ≡ true)
 plain f r list k e =
@@ -115,7 +117,7 @@ plain f r list k e =
     let (i, is, fits) = one-octet (λ i. known i && (alike (constructedBit i) list && f i)) (line k .identifiers) o in
     let (a, more) = and-eq-true-iff _ _ .0 fits in
     let (c, t) = and-eq-true-iff _ _ .0 more in
-    (i, record { identifier = is; may = known-allowed i a; lists = constructed-octet i ∙ alike-same _ _ c; free = alike-same _ _ inner; judge = j; mark = m }, t)
+    (i, record { identifier = is; may = known-allowed i a; lists = constructed-octet i ∙ alike-same _ _ c; free = alike-same _ _ inner; judge = j; marking = m }, t)
 
 -- a test that passes at all lines of an action
 at-action : (a : ℕ) (f : Line → Bool) → all (λ x. not (eqb (actionOf x) a) || f x) lines ≡ true → (k : ℕ) → actionOf (line k) ≡ a → f (line k) ≡ true
@@ -198,7 +200,7 @@ pub record Free (k : ℕ) : Type 0 where
   pub identifiers : line k .identifiers ≡ anything
   pub free : eqb (line k .inside) 0 ≡ true
   pub judge : line k .judge ≡ keep always
-  pub mark : line k .mark ≡ both
+  pub marking : line k .marking ≡ whatever both
 
 pub any-line : (k : ℕ) → actionOf (line k) ≡ codes.takeNest → Free k
 unfolding computed
@@ -206,7 +208,7 @@ any-line k a =
     let (head, tail) = and-eq-true-iff _ _ .0 (at-action codes.takeNest (λ x. (any (x .identifiers) && eqb (x .inside) 0) && judged-by always x) refl k a) in
     let (i, f) = and-eq-true-iff _ _ .0 head in
     let (j, m) = judged-right always (line k) tail in
-    record { identifiers = go (line k .identifiers) i; free = f; judge = j; mark = m }
+    record { identifiers = go (line k .identifiers) i; free = f; judge = j; marking = m }
   where
     any : Identifiers → Bool
     any anything = true

@@ -15,7 +15,7 @@ use Rattle.crmf.specs.declared.recognise.Recognition.{Recognition}
 use Rattle.crmf.specs.declared.recognise.Recognition.the-variants.{Rows, Unrecognised}
 use Rattle.crmf.specs.declared.explain.tally.Tally.{Tally}
 use Rattle.crmf.specs.declared.explain.Walked.the-variants.{Passed}
-use Rattle.crmf.specs.meaning.Notation.{Mark, both, alone}
+use Rattle.crmf.specs.meaning.Notation.{Mark, both, alone, markOf}
 use Rattle.crmf.specs.meaning.Language.{readable}
 use Rattle.crmf.specs.meaning.Rows.{longId}
 use Rattle.crmf.specs.steps.grammar.Lines.{Line}
@@ -43,12 +43,12 @@ short-id kind p whole s short = rw (withLongId, short)
 abbrev MoreRows : (n m : ℕ) (s r : Tally) → Type 0
 MoreRows n m s r = (n ≤ m) × (r ≡ withRows (m - n) s)
 
-more-met : (x : Line) (p w n : ℕ) (s : Tally) → mayStand neither x w ≡ true → MoreRows n (n + rowsBy x) s (withElement x p w s)
+more-met : (x : Line) (c : List ℕ) (p w n : ℕ) (s : Tally) → mayStand neither x c w ≡ true → MoreRows n (n + rowsBy x) s (withElement x c p w s)
 unfolding withElement
-more-met x p w n s standing =
-    let good = and-eq-true-iff (readable (λ y. eqb y neither) (x .mark)) (not (longId (x .kind) w)) .0 standing in
-    let same : withLongId (x .kind) p w (withForm (x .mark) p s) ≡ s =
-    ap (withLongId (x .kind) p w) (common-form (x .mark) p s (good .0)) ∙ short-id (x .kind) p w s (not-true (longId (x .kind) w) (good .1)) in
+more-met x c p w n s standing =
+    let good = and-eq-true-iff (readable (λ y. eqb y neither) (markOf (x .marking) c)) (not (longId (x .kind) w)) .0 standing in
+    let same : withLongId (x .kind) p w (withForm (markOf (x .marking) c) p s) ≡ s =
+    ap (withLongId (x .kind) p w) (common-form (markOf (x .marking) c) p s (good .0)) ∙ short-id (x .kind) p w s (not-true (longId (x .kind) w) (good .1)) in
     let added : rowsBy x ≡ n + rowsBy x - n = omega arith in
     (omega arith, ap (withRows (rowsBy x)) same ∙ ap (λ (k : ℕ). withRows k s) added)
 

@@ -49,7 +49,7 @@ module _ (e k n id first whole : ℕ) (c : List ℕ) (inside rest : Tree) where
     within = countsIn e (line j .inside) (n + rowsBy (line j)) inside
 
     -- an element that may not stand there
-    pub counts-wrong : mayStand e (line j) whole ≡ false → counts e k n (element id first whole c inside rest) ≡ Unrecognised
+    pub counts-wrong : mayStand e (line j) c whole ≡ false → counts e k n (element id first whole c inside rest) ≡ Unrecognised
     unfolding counts
     counts-wrong wrong = rw (found, counts) (rw wrong)
 
@@ -57,25 +57,25 @@ module _ (e k n id first whole : ℕ) (c : List ℕ) (inside rest : Tree) where
     pub counts-breaks : (d : ℕ) → judged (line j .judge) (line j .next) c ≡ Breaks d
         → counts e k n (element id first whole c inside rest) ≡ Unrecognised
     unfolding counts
-    counts-breaks d breaks = go (mayStand e (line j) whole) refl
+    counts-breaks d breaks = go (mayStand e (line j) c whole) refl
       where
-        go : (b : Bool) → mayStand e (line j) whole ≡ b → counts e k n (element id first whole c inside rest) ≡ Unrecognised
+        go : (b : Bool) → mayStand e (line j) c whole ≡ b → counts e k n (element id first whole c inside rest) ≡ Unrecognised
         go false wrong = counts-wrong wrong
         go true good = rw (found, counts) (rw good (rw breaks))
 
     -- an element whose inside isn't recognised
     pub counts-none : within ≡ Unrecognised → counts e k n (element id first whole c inside rest) ≡ Unrecognised
     unfolding counts
-    counts-none nothing = go (mayStand e (line j) whole) refl (judged (line j .judge) (line j .next) c) refl
+    counts-none nothing = go (mayStand e (line j) c whole) refl (judged (line j .judge) (line j .next) c) refl
       where
-        go : (b : Bool) → mayStand e (line j) whole ≡ b → (o : Onward) → judged (line j .judge) (line j .next) c ≡ o
+        go : (b : Bool) → mayStand e (line j) c whole ≡ b → (o : Onward) → judged (line j .judge) (line j .next) c ≡ o
             → counts e k n (element id first whole c inside rest) ≡ Unrecognised
         go false wrong o is = counts-wrong wrong
         go true good (Breaks d) breaks = counts-breaks d breaks
         go true good (To next) onward = rw (found, counts) (rw good (rw onward (rw nothing)))
 
     -- an element that is recognised: the count goes on after it
-    pub counts-next : (next m : ℕ) → mayStand e (line j) whole ≡ true → judged (line j .judge) (line j .next) c ≡ To next → within ≡ Rows m
+    pub counts-next : (next m : ℕ) → mayStand e (line j) c whole ≡ true → judged (line j .judge) (line j .next) c ≡ To next → within ≡ Rows m
         → counts e k n (element id first whole c inside rest) ≡ counts e next m rest
     unfolding counts
     counts-next next m good onward some = rw (found, counts) (rw good (rw onward (rw some)))

@@ -34,30 +34,30 @@ use Rattle.crmf.proofs.theorems.recognise.Actions.{inside-constructed}
 
 -- an element's own nest, in the form of line j
 module _ (e j whole left n p id : ℕ) (c : List ℕ) (fits : named (line j .identifiers) id ≡ true) where
-  content-wrong : mayStand e (line j) whole ≡ false → contentCount e j whole left n p id c ≡ Unrecognised
+  content-wrong : mayStand e (line j) c whole ≡ false → contentCount e j whole left n p id c ≡ Unrecognised
   unfolding contentCount
   content-wrong bad = rw (contentCount, bad)
 
   -- one with a fault isn't recognised
   content-fault : isElement id left c ≡ false → contentCount e j whole left n p id c ≡ Unrecognised
   unfolding contentCount countsAt
-  content-fault fault = go (mayStand e (line j) whole) refl (eqb (line j .inside) 0) refl
+  content-fault fault = go (mayStand e (line j) c whole) refl (eqb (line j .inside) 0) refl
     where
-      go : (b : Bool) → mayStand e (line j) whole ≡ b → (f : Bool) → eqb (line j .inside) 0 ≡ f → contentCount e j whole left n p id c ≡ Unrecognised
+      go : (b : Bool) → mayStand e (line j) c whole ≡ b → (f : Bool) → eqb (line j .inside) 0 ≡ f → contentCount e j whole left n p id c ≡ Unrecognised
       go false bad f test = content-wrong bad
       go true good true free = rw (contentCount, good, free, fault)
       go true good false lined =
           let (may, made) = inside-constructed j id fits (eqb-false _ _ lined) in
           by-end good lined (closes id c) refl (isList left c) refl (sym (is-element-inside id left c may made) ∙ fault)
         where
-          by-end : mayStand e (line j) whole ≡ true → eqb (line j .inside) 0 ≡ false → (t : Bool) → closes id c ≡ t → (l : Bool) → isList left c ≡ l
+          by-end : mayStand e (line j) c whole ≡ true → eqb (line j .inside) 0 ≡ false → (t : Bool) → closes id c ≡ t → (l : Bool) → isList left c ≡ l
               → (isList left c && closes id c) ≡ false → contentCount e j whole left n p id c ≡ Unrecognised
           by-end good lined false lost l is fails = rw (contentCount, good, lined, lost)
           by-end good lined true kept false is fails = rw (contentCount, good, lined, kept, countsAt, is)
           by-end good lined true kept true is fails = absurd (false≢true (sym fails ∙ rw (is, kept)))
 
   -- and one without is what is inside it
-  content-sound : isElement id left c ≡ true → mayStand e (line j) whole ≡ true
+  content-sound : isElement id left c ≡ true → mayStand e (line j) c whole ≡ true
       → contentCount e j whole left n p id c ≡ countsIn e (line j .inside) n (elim (constructed id) [ true ↦ tree p c | false ↦ none ])
   unfolding contentCount countsAt
   content-sound sound good = go (eqb (line j .inside) 0) refl
@@ -133,9 +133,9 @@ module _ (e left k n p : ℕ) (bs : List ℕ) (short : length bs ≤ longest) (m
 
     -- the content isn't recognised
     pub at-nothing : counted ≡ Unrecognised → countsAt e (suc left) k n p bs ≡ Unrecognised
-    at-nothing nothing = unrecognised-if (λ x. go x (mayStand e (line j) to) refl)
+    at-nothing nothing = unrecognised-if (λ x. go x (mayStand e (line j) content to) refl)
       where
-        go : Parts → (b : Bool) → mayStand e (line j) to ≡ b → counts e k n (element id p to content inside (tree (p + to) (drop to bs))) ≡ Unrecognised
+        go : Parts → (b : Bool) → mayStand e (line j) content to ≡ b → counts e k n (element id p to content inside (tree (p + to) (drop to bs))) ≡ Unrecognised
         go x false bad = counts-wrong e k n id p to content inside _ j found bad
         go x true good =
             counts-none e k n id p to content inside _ j found
@@ -147,10 +147,10 @@ module _ (e left k n p : ℕ) (bs : List ℕ) (short : length bs ≤ longest) (m
     unfolding countsAt
     at-on next m some on = go (isList (suc left) bs) refl
       where
-        stood : mayStand e (line j) to ≡ true
-        stood = by (mayStand e (line j) to) refl
+        stood : mayStand e (line j) content to ≡ true
+        stood = by (mayStand e (line j) content to) refl
           where
-            by : (b : Bool) → mayStand e (line j) to ≡ b → mayStand e (line j) to ≡ true
+            by : (b : Bool) → mayStand e (line j) content to ≡ b → mayStand e (line j) content to ≡ true
             by true good = good
             by false bad = not-recognised (sym (content-wrong e j to left _ (p + from) id content fits bad) ∙ some)
 

@@ -16,6 +16,7 @@ use Rattle.crmf.specs.declared.grammar.judge.Onward.{Onward}
 use Rattle.crmf.specs.declared.grammar.judge.Onward.the-variants.{To, Breaks}
 use Rattle.crmf.specs.declared.grammar.table.FoundLine.{FoundLine}
 use Rattle.crmf.specs.declared.grammar.table.FoundLine.the-variants.{At, Nowhere}
+use Rattle.crmf.specs.meaning.Notation.{markOf}
 use Rattle.crmf.specs.steps.grammar.Lines.{Line}
 use Rattle.crmf.specs.steps.explain.Walk.{line, findLine, closed, judged, rowsBy, withElement, walk}
 use Rattle.crmf.specs.steps.recognise.Count.{mayStand, counts}
@@ -28,7 +29,7 @@ use Rattle.crmf.proofs.theorems.explain.EveryForm.{all, all-read}
 pub record FirstCounted (e k n id first whole : ℕ) (c : List ℕ) (inside rest : Tree) : Type 0 where
   pub at : ℕ
   pub found : findLine k id ≡ At at
-  pub standing : mayStand e (line at) whole ≡ true
+  pub standing : mayStand e (line at) c whole ≡ true
   pub rows : ℕ
   pub within : countsIn e (line at .inside) (n + rowsBy (line at)) inside ≡ Rows rows
   pub next : ℕ
@@ -43,7 +44,7 @@ module _ (e k n id first whole : ℕ) (c : List ℕ) (inside rest : Tree) where
       no : counts e k n (element id first whole c inside rest) ≡ Unrecognised → FirstCounted e k n id first whole c inside rest
       no nothing = not-recognised (sym nothing ∙ some)
 
-      by-inside : (j : ℕ) → (found : findLine k id ≡ At j) → mayStand e (line j) whole ≡ true → (next : ℕ) → judged (line j .judge) (line j .next) c ≡ To next
+      by-inside : (j : ℕ) → (found : findLine k id ≡ At j) → mayStand e (line j) c whole ≡ true → (next : ℕ) → judged (line j .judge) (line j .next) c ≡ To next
           → (m : Recognition) → within e k n id first whole c inside rest j found ≡ m → FirstCounted e k n id first whole c inside rest
       by-inside j found good next onward Unrecognised nothing = no (counts-none e k n id first whole c inside rest j found nothing)
       by-inside j found good next onward (Rows m) inner =
@@ -58,22 +59,22 @@ module _ (e k n id first whole : ℕ) (c : List ℕ) (inside rest : Tree) where
             same = counts-next e k n id first whole c inside rest j found next m good onward inner;
           }
 
-      by-onward : (j : ℕ) → (found : findLine k id ≡ At j) → mayStand e (line j) whole ≡ true → (o : Onward) → judged (line j .judge) (line j .next) c ≡ o
+      by-onward : (j : ℕ) → (found : findLine k id ≡ At j) → mayStand e (line j) c whole ≡ true → (o : Onward) → judged (line j .judge) (line j .next) c ≡ o
           → FirstCounted e k n id first whole c inside rest
       by-onward j found good (Breaks d) breaks = no (counts-breaks e k n id first whole c inside rest j found d breaks)
       by-onward j found good (To next) onward = by-inside j found good next onward (within e k n id first whole c inside rest j found) refl
 
-      by-test : (j : ℕ) → (found : findLine k id ≡ At j) → (b : Bool) → mayStand e (line j) whole ≡ b → FirstCounted e k n id first whole c inside rest
+      by-test : (j : ℕ) → (found : findLine k id ≡ At j) → (b : Bool) → mayStand e (line j) c whole ≡ b → FirstCounted e k n id first whole c inside rest
       by-test j found false wrong = no (counts-wrong e k n id first whole c inside rest j found wrong)
       by-test j found true good = by-onward j found good (judged (line j .judge) (line j .next) c) refl
 
       by-line : (f : FoundLine) → findLine k id ≡ f → FirstCounted e k n id first whole c inside rest
       by-line Nowhere missing = no (counts-nowhere e k n id first whole c inside rest missing)
-      by-line (At j) found = by-test j found (mayStand e (line j) whole) refl
+      by-line (At j) found = by-test j found (mayStand e (line j) c whole) refl
 
 module _ (e : ℕ) (Adds : (n m : ℕ) (s r : Tally) → Type 0) (nothing : (n : ℕ) (s : Tally) → Adds n n s s)
     (on : (n m k : ℕ) (s r v : Tally) → Adds n m s r → Adds m k r v → Adds n k s v)
-    (met : (x : Line) (p w n : ℕ) (s : Tally) → mayStand e x w ≡ true → Adds n (n + rowsBy x) s (withElement x p w s)) where
+    (met : (x : Line) (c : List ℕ) (p w n : ℕ) (s : Tally) → mayStand e x c w ≡ true → Adds n (n + rowsBy x) s (withElement x c p w s)) where
   -- how a walk passes if it goes on so
   abbrev Goes : ℕ → ℕ → Tally → Walked → Type 0
   Goes n m s w = (r : Tally) × (w ≡ Passed r) × Adds n m s r
@@ -108,12 +109,12 @@ module _ (e : ℕ) (Adds : (n m : ℕ) (s r : Tally) → Type 0) (nothing : (n :
       let f = counted-element e k n id first whole c inside rest total some in
       let x = line (f .at) in
       let own = n + rowsBy x in
-      let m = withElement x first whole s in
+      let m = withElement x c first whole s in
       let (i, is, within) = goes-within m (x .inside) first own inside (f .rows) (inner m (x .inside) first own (f .rows)) (f .within) in
       let (r, passed, after-it) = later i (f .next) around (f .rows) total (sym (f .same) ∙ some) in (
         r,
-        walk-next all s k around id first whole c inside rest (f .at) (f .next) i (f .found) (all-read (x .mark)) is (f .onward) ∙ passed,
-        on n (f .rows) total s i r (on n own (f .rows) s m i (met x first whole n s (f .standing)) within) after-it,
+        walk-next all s k around id first whole c inside rest (f .at) (f .next) i (f .found) (all-read (markOf (x .marking) c)) is (f .onward) ∙ passed,
+        on n (f .rows) total s i r (on n own (f .rows) s m i (met x c first whole n s (f .standing)) within) after-it,
       )
 
   -- The walk that reads every form passes over elements that are recognised, and goes on so.

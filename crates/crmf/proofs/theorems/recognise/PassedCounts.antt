@@ -59,9 +59,9 @@ counts-element e id first whole c inside rest inner later s r k around n passed 
     go : Chosen (own e) s k around id first whole c inside rest r → (j : ℕ) × (counts e k n (element id first whole c inside rest) ≡ Rows j)
     go f =
         let x = line (f .at) in
-        let m = withElement x first whole s in
+        let m = withElement x c first whole s in
         let later-short = walk-short (own e) rest (f .seen) r (f .next) around (f .further) short in
-        let own-short = met-short x first whole s (inner-short (own e) m (f .seen) (x .inside) first inside (f .inner) later-short) in
+        let own-short = met-short x c first whole s (inner-short (own e) m (f .seen) (x .inside) first inside (f .inner) later-short) in
         let (i, within) = counts-within e inside inner m (f .seen) (x .inside) first (n + rowsBy x) (f .inner) later-short in
         let (j, after) = later (f .seen) r (f .next) around i (f .further) short in
         (j, counts-next e k n id first whole c inside rest (f .at) (f .found) (f .next) i (and-eq-true-iff _ _ .1 (f .read, own-short)) (f .onward) within ∙ after)

@@ -20,7 +20,7 @@ use Rattle.crmf.specs.declared.recognise.Recognition.the-variants.{Rows,
 use Rattle.crmf.specs.declared.explain.tally.Tally.{Tally}
 use Rattle.crmf.specs.declared.explain.Walked.{Walked}
 use Rattle.crmf.specs.declared.explain.Walked.the-variants.{Passed}
-use Rattle.crmf.specs.meaning.Notation.{Top}
+use Rattle.crmf.specs.meaning.Notation.{markOf, Top}
 use Rattle.crmf.specs.meaning.Grammar.{content}
 use Rattle.crmf.specs.meaning.Language.{readable, Matches}
 use Rattle.crmf.specs.meaning.Rows.{Row, noExtent, longId, allShort, batchRows}
@@ -97,8 +97,8 @@ counted-first e id first whole c inside rest inner later s k around n total some
     go : FirstCounted e k n id first whole c inside rest → Passes n total s (walk (own e) s k around (element id first whole c inside rest))
     go f =
         let x = line (f .at) in
-        let m = withElement x first whole s in
-        let (read, brief) = and-eq-true-iff (readable (own e) (x .mark)) (not (longId (x .kind) whole)) .0 (f .standing) in
+        let m = withElement x c first whole s in
+        let (read, brief) = and-eq-true-iff (readable (own e) (markOf (x .marking) c)) (not (longId (x .kind) whole)) .0 (f .standing) in
         let unmet : longer (s .long .whole, s .long .place) (x .kind) first whole ≡ (s .long .whole, s .long .place) =
         rw (longer, not-true (longId (x .kind) whole) brief) in
         let within = counted-within e inside inner m (x .inside) first (n + rowsBy x) (f .rows) (f .within) in
@@ -107,8 +107,8 @@ counted-first e id first whole c inside rest inner later s k around n total some
           seen = after .seen;
           passed = walk-next (own e) s k around id first whole c inside rest (f .at) (f .next) (within .seen) (f .found) read (within .passed) (f .onward)
               ∙ after .passed;
-          rows = omega (arith, met-count x first whole s, within .rows, after .rows);
-          short = after .short ∙ within .short ∙ ap (λ (h : ℕ × ℕ). h .0) (met-long x first whole s ∙ unmet);
+          rows = omega (arith, met-count x c first whole s, within .rows, after .rows);
+          short = after .short ∙ within .short ∙ ap (λ (h : ℕ × ℕ). h .0) (met-long x c first whole s ∙ unmet);
         }
 
 -- An edition's own walk passes over elements that are counted, with as many rows and no long certReqId.

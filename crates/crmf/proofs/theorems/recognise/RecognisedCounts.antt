@@ -18,7 +18,7 @@ use Rattle.der.proofs.Laws.{is-list-short, is-list-single, single-element}
 use Rattle.crmf.specs.declared.recognise.Recognition.the-variants.{Rows, Unrecognised}
 use Rattle.crmf.specs.declared.explain.tally.Tally.{Tally}
 use Rattle.crmf.specs.declared.explain.Walked.the-variants.{Passed}
-use Rattle.crmf.specs.meaning.Notation.{Mark, both, alone, Top, Form, once, part, done, _then_}
+use Rattle.crmf.specs.meaning.Notation.{Mark, both, alone, markOf, Top, Form, once, part, done, _then_}
 use Rattle.crmf.specs.meaning.Grammar.{content}
 use Rattle.crmf.specs.meaning.Language.{readable, occurs, Matches, end, pass, take}
 use Rattle.crmf.specs.meaning.Rows.{longId}
@@ -55,14 +55,14 @@ record Adds (e n m : ℕ) (s r : Tally) : Type 0 where
   clear : firstSeen (other e) r ≡ firstSeen (other e) s
 
 -- an element that may stand in a line's form, met
-adds-met : {e : ℕ} → Edition e → (x : Line) (p w n : ℕ) (s : Tally) → mayStand e x w ≡ true → Adds e n (n + rowsBy x) s (withElement x p w s)
-adds-met {e} ed x p w n s standing =
-    let good = and-eq-true-iff (readable (λ y. eqb y e) (x .mark)) (not (longId (x .kind) w)) .0 standing in
+adds-met : {e : ℕ} → Edition e → (x : Line) (c : List ℕ) (p w n : ℕ) (s : Tally) → mayStand e x c w ≡ true → Adds e n (n + rowsBy x) s (withElement x c p w s)
+adds-met {e} ed x c p w n s standing =
+    let good = and-eq-true-iff (readable (λ y. eqb y e) (markOf (x .marking) c)) (not (longId (x .kind) w)) .0 standing in
     let unmet : longer (s .long .whole, s .long .place) (x .kind) p w ≡ (s .long .whole, s .long .place) = rw (longer, not-true (longId (x .kind) w) (good .1)) in
     record {
-      rows = omega (arith, met-count x p w s);
-      short = ap (λ (h : ℕ × ℕ). h .0) (met-long x p w s ∙ unmet);
-      clear = met-seen (other-edition ed) x p w s ∙ own-after ed (firstSeen (other e) s) (x .mark) p (good .0);
+      rows = omega (arith, met-count x c p w s);
+      short = ap (λ (h : ℕ × ℕ). h .0) (met-long x c p w s ∙ unmet);
+      clear = met-seen (other-edition ed) x c p w s ∙ own-after ed (firstSeen (other e) s) (markOf (x .marking) c) p (good .0);
     }
 
 -- nothing more

@@ -33,7 +33,7 @@ use Rattle.crmf.proofs.theorems.recognise.CountWays.{at-on, at-end}
 -- A line that an identifier leads to from a line on: of every edition, without a row, with the lines inside it and the line after it.
 record RowlessLine (k id j within next : ℕ) : Type 0 where
   found : findLine k id ≡ At j
-  stood : (e whole : ℕ) → mayStand e (line j) whole ≡ true
+  stood : (e whole : ℕ) (c : List ℕ) → mayStand e (line j) c whole ≡ true
   rowless : rowsBy (line j) ≡ 0
   inside : line j .inside ≡ within
   goes : (c : List ℕ) → judged (line j .judge) (line j .next) c ≡ To next
@@ -67,7 +67,7 @@ module _ (bs : List ℕ) (short : length bs ≤ longest) (some-octets : spanOf b
     rowless-value : within ≡ 0 → ((left : ℕ) → isElement (getD bs 0 0) left content ≡ true) → RowlessFrom next (suc levels) (drop end-of bs)
         → RowlessFrom k (suc levels) bs
     unfolding contentCount
-    rowless-value free whole = rowless-element (λ e left n p deep. rw (contentCount, found .stood e end-of, found .inside, free, whole left))
+    rowless-value free whole = rowless-element (λ e left n p deep. rw (contentCount, found .stood e end-of content, found .inside, free, whole left))
 
     -- a content with lines, if the element keeps the rule at its end
     rowless-inside : eqb within 0 ≡ false → closes (getD bs 0 0) content ≡ true → RowlessFrom within levels content
@@ -75,7 +75,7 @@ module _ (bs : List ℕ) (short : length bs ≤ longest) (some-octets : spanOf b
     unfolding contentCount
     rowless-inside lined kept inner =
         rowless-element (λ e left n p deep.
-        rw (contentCount, found .stood e end-of, found .inside, lined, kept)
+        rw (contentCount, found .stood e end-of content, found .inside, lined, kept)
         (ap (λ (i : ℕ). countsAt e left i n p content) (found .inside) ∙ inner e left n p deep))
 
 -- the line to go on with after the last part of a container
@@ -85,42 +85,42 @@ ending = 0
 -- The lines of the small containers, by the identifiers of their elements. An AlgorithmIdentifier's OBJECT IDENTIFIER and value.
 alg-id-type : RowlessLine (start AlgId) 0x06 (start AlgId) 0 (suc (start AlgId))
 unfolding computed line findLine findLineIn named judged keeps
-alg-id-type = record { found = refl; stood = λ e whole. refl; rowless = refl; inside = refl; goes = λ c. refl }
+alg-id-type = record { found = refl; stood = λ e whole c. refl; rowless = refl; inside = refl; goes = λ c. refl }
 
 alg-id-value : (id : ℕ) → RowlessLine (suc (start AlgId)) id (suc (start AlgId)) 0 ending
 unfolding computed line findLine findLineIn named judged keeps
-alg-id-value id = record { found = refl; stood = λ e whole. refl; rowless = refl; inside = refl; goes = λ c. refl }
+alg-id-value id = record { found = refl; stood = λ e whole c. refl; rowless = refl; inside = refl; goes = λ c. refl }
 
 -- an AttributeTypeAndValue's OBJECT IDENTIFIER and value
 attribute-type : RowlessLine (start Attribute) 0x06 (start Attribute) 0 (suc (start Attribute))
 unfolding computed line findLine findLineIn named judged keeps
-attribute-type = record { found = refl; stood = λ e whole. refl; rowless = refl; inside = refl; goes = λ c. refl }
+attribute-type = record { found = refl; stood = λ e whole c. refl; rowless = refl; inside = refl; goes = λ c. refl }
 
 attribute-value : (id : ℕ) → RowlessLine (suc (start Attribute)) id (suc (start Attribute)) 0 ending
 unfolding computed line findLine findLineIn named judged keeps
-attribute-value id = record { found = refl; stood = λ e whole. refl; rowless = refl; inside = refl; goes = λ c. refl }
+attribute-value id = record { found = refl; stood = λ e whole c. refl; rowless = refl; inside = refl; goes = λ c. refl }
 
 -- an AttributeTypeAndValue in a RelativeDistinguishedName, that in an RDNSequence, and that in a Name
 rdn-attribute : RowlessLine (start Rdn) 0x30 (start Rdn) (start Attribute) (suc (start Rdn))
 unfolding computed line findLine findLineIn named judged keeps
-rdn-attribute = record { found = refl; stood = λ e whole. refl; rowless = refl; inside = refl; goes = λ c. refl }
+rdn-attribute = record { found = refl; stood = λ e whole c. refl; rowless = refl; inside = refl; goes = λ c. refl }
 
 sequence-rdn : RowlessLine (start RdnSequence) 0x31 (start RdnSequence) (start Rdn) (start RdnSequence)
 unfolding computed line findLine findLineIn named judged keeps
-sequence-rdn = record { found = refl; stood = λ e whole. refl; rowless = refl; inside = refl; goes = λ c. refl }
+sequence-rdn = record { found = refl; stood = λ e whole c. refl; rowless = refl; inside = refl; goes = λ c. refl }
 
 name-sequence : RowlessLine (start OneName) 0x30 (start OneName) (start RdnSequence) ending
 unfolding computed line findLine findLineIn named judged keeps
-name-sequence = record { found = refl; stood = λ e whole. refl; rowless = refl; inside = refl; goes = λ c. refl }
+name-sequence = record { found = refl; stood = λ e whole c. refl; rowless = refl; inside = refl; goes = λ c. refl }
 
 -- a SubjectPublicKeyInfo's AlgorithmIdentifier and BIT STRING
 key-alg-id : RowlessLine (start Spki) 0x30 (start Spki) (start AlgId) (suc (start Spki))
 unfolding computed line findLine findLineIn named judged keeps
-key-alg-id = record { found = refl; stood = λ e whole. refl; rowless = refl; inside = refl; goes = λ c. refl }
+key-alg-id = record { found = refl; stood = λ e whole c. refl; rowless = refl; inside = refl; goes = λ c. refl }
 
 key-bits : RowlessLine (suc (start Spki)) 0x03 (suc (start Spki)) 0 ending
 unfolding computed line findLine findLineIn named judged keeps
-key-bits = record { found = refl; stood = λ e whole. refl; rowless = refl; inside = refl; goes = λ c. refl }
+key-bits = record { found = refl; stood = λ e whole c. refl; rowless = refl; inside = refl; goes = λ c. refl }
 
 -- An OBJECT IDENTIFIER and a BIT STRING have no fault, whatever levels are left.
 whole-type : (left : ℕ) (c : List ℕ) → objectIdentifier c ≡ true → isElement 0x06 left c ≡ true

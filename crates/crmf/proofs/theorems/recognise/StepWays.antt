@@ -21,7 +21,7 @@ use Rattle.crmf.specs.declared.recognise.step.Visit.the-variants.{Refuse
 use Rattle.crmf.specs.steps.grammar.Codes as codes
 use Rattle.crmf.specs.meaning.Kinds as kinds
 use Rattle.crmf.specs.meaning.Value.{Rule, always, keeps}
-use Rattle.crmf.specs.meaning.Notation.{Mark, both, alone, named, Name}
+use Rattle.crmf.specs.meaning.Notation.{Mark, both, alone, Marking, whatever, markOf, named, Name}
 use Rattle.crmf.specs.meaning.Language.{readable}
 use Rattle.crmf.specs.meaning.Rows.{longId}
 use Rattle.crmf.specs.steps.grammar.Lines.{keep, start}
@@ -29,7 +29,7 @@ use Rattle.crmf.specs.steps.grammar.Packed.{markCode, actionOf}
 use Rattle.crmf.specs.steps.explain.Walk.{line, judged, ruleDetail}
 use Rattle.crmf.specs.steps.recognise.Count.{mayStand, countsAt}
 use Rattle.crmf.specs.steps.recognise.Inner.{contentCount, ruledCount, Sized, VisitJustified, RowlessFrom}
-use Rattle.crmf.proofs.theorems.lines.WordFields.{computed, at-line}
+use Rattle.crmf.proofs.theorems.lines.WordFields.{computed, at-mark}
 use Rattle.crmf.proofs.theorems.recognise.Actions.{Plain, plain-names, Asked, id-kind, Opens}
 
 -- a mark names an edition that is not 0 and a difference that has room below its weight
@@ -37,10 +37,10 @@ abbrev sure : Mark → Bool
 sure both = true
 sure (alone e d detail) = leb 1 e && ltb d codes.edition
 
--- at every line of the table
-sure-at : (k : ℕ) → sure (line k .mark) ≡ true
+-- at every element in a line's form
+sure-at : (k : ℕ) (c : List ℕ) → sure (markOf (line k .marking) c) ≡ true
 unfolding computed
-sure-at = at-line (λ x. sure (x .mark)) refl
+sure-at = at-mark sure refl refl
 
 -- whether a form of such a mark is read in an edition, by the mark's code
 by-code : (m : Mark) (code e : ℕ) → sure m ≡ true → markCode m ≡ code → readable (λ y. eqb y e) m ≡ not (not (eqb code 0) && not (eqb (code / codes.edition) e))
@@ -54,27 +54,30 @@ by-code (alone x d detail) code e good coded =
     let high : code / codes.edition ≡ x = omega arith in
     rw (other, high) (sym (Bool·not-not (eqb x e)))
 
--- and so at every line
-pub reads : (k code e : ℕ) → markCode (line k .mark) ≡ code → readable (λ y. eqb y e) (line k .mark) ≡ not (not (eqb code 0) && not (eqb (code / codes.edition) e))
-reads k code e coded = by-code (line k .mark) code e (sure-at k) coded
+-- and so for every such element
+pub reads : (k code e : ℕ) (c : List ℕ) → markCode (markOf (line k .marking) c) ≡ code → readable (λ y. eqb y e) (markOf (line k .marking) c) ≡ not (not (eqb code 0) && not (eqb (code / codes.edition) e))
+reads k code e c coded = by-code (markOf (line k .marking) c) code e (sure-at k c) coded
 
--- an element of a line that isn't a certReqId's may stand there if the line's mark is read
-pub stands-by : (e k whole : ℕ) → eqb (line k .kind) kinds.certReqId ≡ false → mayStand e (line k) whole ≡ readable (λ y. eqb y e) (line k .mark)
-stands-by e k whole short = rw short (and-true _)
+-- an element of a line that isn't a certReqId's may stand there if its mark is read
+pub stands-by : (e k whole : ℕ) (c : List ℕ) → eqb (line k .kind) kinds.certReqId ≡ false → mayStand e (line k) c whole ≡ readable (λ y. eqb y e) (markOf (line k .marking) c)
+stands-by e k whole c short = rw short (and-true _)
 
 -- and an element of a line of both editions by its kind and its length
-stands-common : (e k whole : ℕ) → line k .mark ≡ both → (b : Bool) → longId (line k .kind) whole ≡ b → mayStand e (line k) whole ≡ not b
-stands-common e k whole common b long = ap₂ _&&_ (ap (readable (λ y. eqb y e)) common) (ap not long)
+stands-common : (e k whole : ℕ) (c : List ℕ) → line k .marking ≡ whatever both → (b : Bool) → longId (line k .kind) whole ≡ b
+    → mayStand e (line k) c whole ≡ not b
+stands-common e k whole c common b long = ap₂ _&&_ (ap (λ (m : Marking). readable (λ y. eqb y e) (markOf m c)) common) (ap not long)
 
 -- so it may stand there if the line is of both editions and its action isn't a certReqId's
-pub stands-at : (e k whole a : ℕ) → line k .mark ≡ both → actionOf (line k) ≡ a → eqb a codes.takeCertReqId ≡ false → mayStand e (line k) whole ≡ true
-stands-at e k whole a common is other =
-    stands-by e k whole (id-kind k ∙ ap (λ (x : ℕ). eqb x codes.takeCertReqId) is ∙ other) ∙ ap (readable (λ y. eqb y e)) common
+pub stands-at : (e k whole a : ℕ) (c : List ℕ) → line k .marking ≡ whatever both → actionOf (line k) ≡ a → eqb a codes.takeCertReqId ≡ false
+    → mayStand e (line k) c whole ≡ true
+stands-at e k whole a c common is other =
+    stands-by e k whole c (id-kind k ∙ ap (λ (x : ℕ). eqb x codes.takeCertReqId) is ∙ other)
+    ∙ ap (λ (m : Marking). readable (λ y. eqb y e) (markOf m c)) common
 
 -- a value's line with one of two rules is of both editions
-pub asked-mark : {k i : ℕ} {r : Rule} → Asked k i r → line k .mark ≡ both
-asked-mark (inl x) = x .mark
-asked-mark (inr (j, x, free)) = x .mark
+pub asked-marking : {k i : ℕ} {r : Rule} → Asked k i r → line k .marking ≡ whatever both
+asked-marking (inl x) = x .marking
+asked-marking (inr (j, x, free)) = x .marking
 
 -- How an element may be visited.
 module _ (e k whole left id : ℕ) (c : List ℕ) where
@@ -97,11 +100,11 @@ module _ (e k whole left id : ℕ) (c : List ℕ) where
       go (Breaks d) breaks = rw (ruledCount, breaks)
 
   -- it may not stand there
-  pub refuse-wrong : mayStand e (line k) whole ≡ false → VisitJustified e k whole left id c Refuse
+  pub refuse-wrong : mayStand e (line k) c whole ≡ false → VisitJustified e k whole left id c Refuse
   unfolding contentCount
   refuse-wrong wrong = refuse-content (λ n p. rw (contentCount, wrong))
 
-  module _ (good : mayStand e (line k) whole ≡ true) (next : ℕ) where
+  module _ (good : mayStand e (line k) c whole ≡ true) (next : ℕ) where
     -- a content with lines of its own, in an element that keeps the rule at its end
     module _ (on : says ≡ To next) (lined : eqb (line k .inside) 0 ≡ false) (kept : closes id c ≡ true) where
       pub descend : VisitJustified e k whole left id c (Descend next)
@@ -226,8 +229,8 @@ pub skip-id : (e k whole left id : ℕ) (c : List ℕ) (next : ℕ) → next ≡
 skip-id e k whole left id c next to is x fits sized true t small value =
     let few : ltb 10 whole ≡ false = le-ltb _ _ (sized .small (leb-true _ _ small)) in
     let short : longId (line k .kind) whole ≡ false = rw few (and-false (eqb (line k .kind) kinds.certReqId)) in
-    skip-typed e k whole left id c (stands-common e k whole (x .mark) false short) next to fits x t (holds-integer c ∙ value)
+    skip-typed e k whole left id c (stands-common e k whole c (x .marking) false short) next to fits x t (holds-integer c ∙ value)
 skip-id e k whole left id c next to is x fits sized false t large value =
     let many : ltb 10 whole ≡ true = lt-ltb _ _ (sized .large (leb-false _ _ large)) in
     let long : longId (line k .kind) whole ≡ true = rw (id-kind k, is, many) in
-    refuse-wrong e k whole left id c (stands-common e k whole (x .mark) true long)
+    refuse-wrong e k whole left id c (stands-common e k whole c (x .marking) true long)

@@ -15,7 +15,7 @@ use Rattle.crmf.specs.declared.explain.Walked.the-variants.{Passed}
 use Rattle.crmf.specs.declared.grammar.judge.Onward.the-variants.{To}
 use Rattle.crmf.specs.declared.grammar.table.FoundLine.the-variants.{At, Nowhere}
 use Rattle.crmf.specs.meaning.Value.{keeps}
-use Rattle.crmf.specs.meaning.Notation.{Mark, both, alone, Name, Inside, free, holds, Form, Occurs, part, Parts, _then_}
+use Rattle.crmf.specs.meaning.Notation.{Mark, both, alone, markOf, Name, Inside, free, holds, Form, Occurs, part, Parts, _then_}
 use Rattle.crmf.specs.meaning.Grammar.{content}
 use Rattle.crmf.specs.meaning.Language.{passable, Matches, end, pass, take, choose, Within, unseen, parts}
 use Rattle.crmf.specs.steps.grammar.Lines
@@ -245,10 +245,10 @@ lengthy-count kind p w s = go (longId kind w && eqb (s .long .whole) 0) refl
     go false t = rw (withLongId, t)
 
 -- an element's line counts the rows of its kinds
-pub met-count : (x : Line) (p w : ℕ) (s : Tally) → withElement x p w s .count ≡ s .count + (rowsOfKind (x .item) + rowsOfKind (x .kind))
+pub met-count : (x : Line) (c : List ℕ) (p w : ℕ) (s : Tally) → withElement x c p w s .count ≡ s .count + (rowsOfKind (x .item) + rowsOfKind (x .kind))
 unfolding withElement
-met-count x p w s =
-    ap (λ (n : ℕ). n + (rowsOfKind (x .item) + rowsOfKind (x .kind))) (lengthy-count (x .kind) p w (withForm (x .mark) p s) ∙ noted-count (x .mark) p s)
+met-count x c p w s =
+    ap (λ (n : ℕ). n + (rowsOfKind (x .item) + rowsOfKind (x .kind))) (lengthy-count (x .kind) p w (withForm (markOf (x .marking) c) p s) ∙ noted-count (markOf (x .marking) c) p s)
 
 -- an element's rows are as many as its kinds have, with those inside it and those after it, counted up from a to d
 rows-one-count : (kind item : ℕ) (here : Extent) (inner : ℕ → ℕ → List Row) (later : ℕ → List Row) (n up : ℕ) (extent : Extent) (a b d : ℕ)
@@ -294,7 +294,7 @@ rows-count R none s r k around n up extent passed =
 rows-count R (element id p w c inside rest) s r k around n up extent passed =
     let e = passed-element R s k around id p w c inside rest r passed in
     let x = line (e .at) in
-    let m = withElement x p w s in
+    let m = withElement x c p w s in
     let here = extentOf p w c in
     let inner : ℕ → ℕ → List Row = λ j u. rowsWithin (x .inside) inside j u here in
     let later : ℕ → List Row = λ j. rowsFrom (e .next) rest j up extent in
@@ -304,7 +304,7 @@ rows-count R (element id p w c inside rest) s r k around n up extent passed =
     λ j. rows-count R rest (e .seen) r (e .next) around j up extent (e .further) in
     ap (λ (l : List Row). length l + s .count) (rows-from-element k id p w c inside rest n up extent (e .at) (e .next) (e .found) (e .onward))
     ∙ rows-one-count (x .kind) (x .item) here inner later n up extent (s .count) (e .seen .count) (r .count)
-    (λ j u. ap (λ (a : ℕ). length (inner j u) + a) (sym (met-count x p w s)) ∙ within j u) further
+    (λ j u. ap (λ (a : ℕ). length (inner j u) + a) (sym (met-count x c p w s)) ∙ within j u) further
 
 -- The count of a walk over a container's elements is the number of any derivation's rows.
 pub walk-counts : {R : ℕ → Bool} (Q : ℕ → Bool) (name : Name) {t : Tree} (m : Matches R (content name) t) (s r : Tally) (around n up : ℕ) (extent : Extent)

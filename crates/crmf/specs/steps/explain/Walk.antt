@@ -18,7 +18,7 @@ use Rattle.crmf.specs.declared.grammar.table.FoundLine.{FoundLine}
 use Rattle.crmf.specs.declared.grammar.table.FoundLine.the-variants.{At, Nowhere}
 use Rattle.crmf.specs.meaning.Kinds as kinds
 use Rattle.crmf.specs.meaning.Value.{keeps, Selector, action, method, controlType, infoType, selected}
-use Rattle.crmf.specs.meaning.Notation.{named, Mark, both, alone, detailOf, Top}
+use Rattle.crmf.specs.meaning.Notation.{named, Mark, both, alone, markOf, detailOf, Top}
 use Rattle.crmf.specs.meaning.Language.{readable, Occurrence, occurs}
 pub use Rattle.crmf.specs.meaning.Value.{ruleDetail}
 use Rattle.crmf.specs.meaning.Rows.{longId}
@@ -96,9 +96,9 @@ withLongId kind p whole s =
 abbrev pub withRows : ℕ → Tally → Tally
 withRows n s = record { count = s .count + n; one = s .one; two = s .two; long = s .long }
 
--- the tally after an element with a place and a whole length, in a line's form
-unfoldable pub withElement : Line → ℕ → ℕ → Tally → Tally
-withElement x p whole s = withRows (rowsBy x) (withLongId (x .kind) p whole (withForm (x .mark) p s))
+-- the tally after an element with its content octets, a place and a whole length, in a line's form
+unfoldable pub withElement : Line → List ℕ → ℕ → ℕ → Tally → Tally
+withElement x c p whole s = withRows (rowsBy x) (withLongId (x .kind) p whole (withForm (markOf (x .marking) c) p s))
 
 -- The walk over the elements of a container from a line on (SPECIFICATION 3.1). The container's own place is `around`, and R says which
 -- editions' own forms may be read. An element's line is chosen by its identifier alone, its inside is walked first, then its value is judged.
@@ -109,9 +109,9 @@ walk R s k around (element id first whole c inside rest) =
       | Nowhere ↦ Broken first 1 s
       | At n ↦
           let x = line n in
-          let m = withElement x first whole s in
-          elim (readable R (x .mark)) [
-            | false ↦ Broken first (detailOf (x .mark)) s
+          let m = withElement x c first whole s in
+          elim (readable R (markOf (x .marking) c)) [
+            | false ↦ Broken first (detailOf (markOf (x .marking) c)) s
             | true ↦
                 let within : Walked = elim (eqb (x .inside) 0) [ true ↦ Passed m | false ↦ walk R m (x .inside) first inside ] in
                 elim within [
@@ -144,7 +144,7 @@ trail k (element id first whole c inside rest) =
           let within : List Occurrence = elim (eqb (x .inside) 0) [ true ↦ [] | false ↦ trail (x .inside) inside ] in
           let whole : Bool = elim (eqb (x .inside) 0) [ true ↦ true | false ↦ passes (x .inside) inside ] in
           let onward : List Occurrence = elim (judged (x .judge) (x .next) c) [ Breaks d ↦ [] | To next ↦ trail next rest ] in
-          occurs (x .mark) first ++ (within ++ (elim whole [ false ↦ [] | true ↦ onward ]))
+          occurs (markOf (x .marking) c) first ++ (within ++ (elim whole [ false ↦ [] | true ↦ onward ]))
     ]
 
 -- every form may be read

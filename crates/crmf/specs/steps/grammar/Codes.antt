@@ -19,7 +19,7 @@ abbrev pub kinds : ℕ
 kinds = 128
 
 abbrev pub marks : ℕ
-marks = 32
+marks = 64
 
 abbrev pub actions : ℕ
 actions = 16
@@ -66,6 +66,10 @@ selectors = 16
 -- in a mark's code the edition has this weight, and the number of the difference is below it
 abbrev pub edition : ℕ
 edition = 8
+
+-- the code of a mark that holds unless the value is 2 is this plus the mark's; all marks' codes are below it
+abbrev pub unlessTwo : ℕ
+unlessTwo = 32
 
 -- The recogniser's actions: no element has the line's identifiers; the content isn't looked at; primitive values by their type (a certReqId
 -- has at most 8 content octets, too); an element with any identifier and the whole nest inside it; a container, the commonest by actions of

@@ -5,7 +5,7 @@ use mathlib.Core.List.{List, [], _∷_, _++_, map}
 use lib.ListN.{length, getD}
 use Rattle.crmf.specs.meaning.Kinds as kinds
 use Rattle.crmf.specs.meaning.Value.{Rule, always, Selector}
-use Rattle.crmf.specs.meaning.Notation.{Identifiers, octet, nothing, Mark, both, Name, Inside, free, holds, Form, Occurs, once, optional, repeated, Part, part, Parts, done, _then_, select}
+use Rattle.crmf.specs.meaning.Notation.{Identifiers, octet, nothing, Marking, whatever, both, Name, Inside, free, holds, Form, Occurs, once, optional, repeated, Part, part, Parts, done, _then_, select}
 use Rattle.crmf.specs.meaning.Notation.{order, names}
 use Rattle.crmf.specs.meaning.Grammar.{content}
 
@@ -27,13 +27,13 @@ pub record Line : Type 0 where
   pub judge : Judge
   pub kind : ℕ
   pub item : ℕ
-  pub mark : Mark
+  pub marking : Marking
   pub next : ℕ
   pub pass : Pass
 
 -- the line at a container's end
 abbrev pub endLine : Line
-endLine = record { identifiers = nothing; inside = 0; judge = keep always; kind = kinds.none; item = kinds.none; mark = both; next = 0; pass = ends }
+endLine = record { identifiers = nothing; inside = 0; judge = keep always; kind = kinds.none; item = kinds.none; marking = whatever both; next = 0; pass = ends }
 
 -- how many lines a part takes, and a container with the line at its end
 unfoldable pub partSize : Part → ℕ
@@ -69,7 +69,7 @@ passOf repeated fs = over
 unfoldable pub formLines : Occurs → ℕ → List Form → List Line
 formLines o next [] = []
 formLines o next (f ∷ fs) =
-    record { identifiers = f .identifiers; inside = insideLine (f .inside); judge = keep (f .rule); kind = f .kind; item = f .item; mark = f .mark; next = next; pass = passOf o fs }
+    record { identifiers = f .identifiers; inside = insideLine (f .inside); judge = keep (f .rule); kind = f .kind; item = f .item; marking = f .marking; next = next; pass = passOf o fs }
     ∷ formLines o next fs
 
 -- the line of some parts that stand from a line on; if there are none, it is 0, an end line like the container's own
@@ -86,7 +86,7 @@ nextLine repeated own after = own
 
 -- the line of one of the ways that a value selects: it only says where to go on
 unfoldable pub wayLine : Name → Line
-wayLine n = record { identifiers = nothing; inside = 0; judge = keep always; kind = kinds.none; item = kinds.none; mark = both; next = start n; pass = needed }
+wayLine n = record { identifiers = nothing; inside = 0; judge = keep always; kind = kinds.none; item = kinds.none; marking = whatever both; next = start n; pass = needed }
 
 -- a part's lines, from a line on; the parts after it have the line `after`
 unfoldable pub partLines : (at after : ℕ) → Part → List Line
@@ -97,7 +97,7 @@ unfoldable pub containerLines : ℕ → Parts → List Line
 containerLines at done = endLine ∷ []
 containerLines at (p then ps) = partLines at (lineOf (at + partSize p) ps) p ++ containerLines (at + partSize p) ps
 containerLines at (select id s ns) =
-    (record { identifiers = octet id; inside = 0; judge = choose s; kind = kinds.none; item = kinds.none; mark = both; next = suc at; pass = needed } ∷ map wayLine ns)
+    (record { identifiers = octet id; inside = 0; judge = choose s; kind = kinds.none; item = kinds.none; marking = whatever both; next = suc at; pass = needed } ∷ map wayLine ns)
     ++ (endLine ∷ [])
 
 -- the lines of some containers, from a line on

@@ -5,7 +5,7 @@ use mathlib.Core.List.{List, [], _∷_, map}
 use lib.Dec.{eqb}
 use Rattle.crmf.specs.meaning.Value.{always, integer, boolean, bitString, empty, zeroOrOne, true-only, utcTime, generalizedTime, some, never}
 use Rattle.crmf.specs.meaning.Value.{action, method, controlType, infoType}
-use Rattle.crmf.specs.meaning.Notation.{Identifiers, octet, generalName, anything, nothing, Mark, both, alone, AlgId, Spki, OneName, Rdn, Attribute}
+use Rattle.crmf.specs.meaning.Notation.{Identifiers, octet, generalName, anything, nothing, Mark, both, alone, Marking, whatever, unlessTwo, AlgId, Spki, OneName, Rdn, Attribute}
 use Rattle.crmf.specs.steps.grammar.Lines.{Judge, keep, choose, Pass, ends, needed, another, over, Line, lines, start}
 use Rattle.crmf.specs.steps.explain.Walk.{rowsBy}
 use Rattle.crmf.specs.meaning.Kinds as kinds
@@ -45,6 +45,11 @@ judgeCode (choose infoType) = 19
 unfoldable pub markCode : Mark → ℕ
 markCode both = 0
 markCode (alone e d detail) = e * codes.edition + d
+
+-- the code of a form's marking
+unfoldable pub markingCode : Marking → ℕ
+markingCode (whatever m) = markCode m
+markingCode (unlessTwo m) = codes.unlessTwo + markCode m
 
 -- the number beside the first entry i in a list of pairs; `other` if there is none
 unfoldable pub beside : List (ℕ × ℕ) → ℕ → ℕ → ℕ
@@ -102,7 +107,7 @@ unfoldable pub actionOf : Line → ℕ
 actionOf x =
     let free = eqb (x .inside) 0 in
     let id = eqb (x .kind) kinds.certReqId in
-    let common = eqb (markCode (x .mark)) 0 in
+    let common = eqb (markingCode (x .marking)) 0 in
     let unjudged = eqb (judgeCode (x .judge)) 0 in
     elim (x .identifiers) [
       | nothing ↦ codes.takeNothing
@@ -132,7 +137,7 @@ pack x =
     + codes.judge * judgeCode (x .judge)
     + codes.kind * x .kind
     + codes.item * x .item
-    + codes.mark * markCode (x .mark)
+    + codes.mark * markingCode (x .marking)
     + codes.next * x .next
     + codes.action * actionOf x
     + codes.rows * rowsBy x
@@ -160,8 +165,8 @@ kindField w = w / codes.kind % codes.kinds
 abbrev pub itemField : ℕ → ℕ
 itemField w = w / codes.item % codes.kinds
 
-abbrev pub markField : ℕ → ℕ
-markField w = w / codes.mark % codes.marks
+abbrev pub markingField : ℕ → ℕ
+markingField w = w / codes.mark % codes.marks
 
 abbrev pub nextField : ℕ → ℕ
 nextField w = w / codes.next % codes.lineNumbers

@@ -12,7 +12,7 @@ use Rattle.crmf.specs.declared.recognise.Recognition.{Recognition}
 use Rattle.crmf.specs.declared.recognise.Recognition.the-variants.{Rows, Unrecognised}
 use Rattle.crmf.specs.declared.grammar.judge.Onward.the-variants.{To, Breaks}
 use Rattle.crmf.specs.declared.grammar.table.FoundLine.the-variants.{At, Nowhere}
-use Rattle.crmf.specs.meaning.Notation.{Top}
+use Rattle.crmf.specs.meaning.Notation.{markOf, Top}
 use Rattle.crmf.specs.meaning.Language.{readable}
 use Rattle.crmf.specs.meaning.Rows.{longId}
 use Rattle.crmf.specs.steps.grammar.Lines.{Line, start}
@@ -24,9 +24,10 @@ use Rattle.crmf.specs.steps.explain.Walk.{line, findLine, closed, judged
 abbrev pub neither : ℕ
 neither = 0
 
--- whether an edition allows an element of a whole length in a line's form: the form is this edition's, and it is no certReqId that is too long
-abbrev pub mayStand : ℕ → Line → ℕ → Bool
-mayStand e x whole = readable (λ y. eqb y e) (x .mark) && not (longId (x .kind) whole)
+-- whether an edition allows an element with its content octets and a whole length in a line's form: its mark is this edition's, and it is no
+-- certReqId that is too long
+abbrev pub mayStand : ℕ → Line → List ℕ → ℕ → Bool
+mayStand e x c whole = readable (λ y. eqb y e) (markOf (x .marking) c) && not (longId (x .kind) whole)
 
 -- The elements of a container from a line on, after n rows: how many rows there are up to their end, if the elements are what the lines say. A
 -- free inside has no rows.
@@ -39,7 +40,7 @@ counts e k n (element id first whole c inside rest) =
           let x = line j in
           let own = n + rowsBy x in
           let within : Recognition = elim (eqb (x .inside) 0) [ true ↦ Rows own | false ↦ counts e (x .inside) own inside ] in
-          elim (mayStand e x whole) [
+          elim (mayStand e x c whole) [
             | false ↦ Unrecognised
             | true ↦ elim (judged (x .judge) (x .next) c) [
               | Breaks d ↦ Unrecognised

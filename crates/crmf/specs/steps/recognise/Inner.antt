@@ -25,7 +25,7 @@ use Rattle.crmf.specs.steps.recognise.Count.{mayStand, countsAt}
 -- form of line k.
 unfoldable pub contentCount : (e k whole left n p id : ℕ) → List ℕ → Recognition
 contentCount e k whole left n p id c =
-    elim (mayStand e (line k) whole) [
+    elim (mayStand e (line k) c whole) [
       | false ↦ Unrecognised
       | true ↦ elim (eqb (line k .inside) 0) [
         | true ↦ elim (isElement id left c) [ true ↦ Rows n | false ↦ Unrecognised ]

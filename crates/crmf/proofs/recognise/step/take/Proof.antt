@@ -22,7 +22,7 @@ use Rattle.crmf.specs.steps.recognise.Inner.{VisitJustified, RowlessFrom
 use Rattle.crmf.proofs.theorems.lines.WordFields.{next-at, action-small}
 use Rattle.crmf.proofs.theorems.recognise.Actions.{nothing-line, free-line, object-line, integer-line, id-line, id-kind, bits-line, text-line, any-line, inside-line, inside-closes}
 use Rattle.crmf.proofs.theorems.recognise.Actions.{Opens, algorithm-line, attribute-line, part-line, key-line, name-line}
-use Rattle.crmf.proofs.theorems.recognise.StepWays.{asked-mark, stands-at, skip-untyped, skip-typed, skip-asked, skip-id, skip-any, descend-lines, skip-small, skip-set}
+use Rattle.crmf.proofs.theorems.recognise.StepWays.{asked-marking, stands-at, skip-untyped, skip-typed, skip-asked, skip-id, skip-any, descend-lines, skip-small, skip-set}
 use Rattle.crmf.proofs.recognise.step.take.Statement.{statement}
 use Rattle.crmf.proofs.recognise.step.take.Tie as tie
 
@@ -138,14 +138,14 @@ module _ (c : tie.After-action-of) where
       let acts = action k a e is in
       let x = line-opens acts in
       subst (VisitJustified _ k whole left _ content) (sym same)
-      (skip-small _ k whole left _ content (stands-at _ k whole a (x .1 .mark) acts other) _ (next k e) n levels least x enough r checked
+      (skip-small _ k whole left _ content (stands-at _ k whole a _ (x .1 .marking) acts other) _ (next k e) n levels least x enough r checked
       (unasked k a e is plain fits (x .1 .free)))
 
 returns : tie.Need-returns
 returns c k whole e fits sized =
     let a = action (c .before) k codes.takeUnseen e (c .match .keys1) in
     let (i, x, free) = free-line k a in
-    skip-untyped _ k whole _ _ _ (stands-at _ k whole codes.takeUnseen (x .mark) a refl) _ (next (c .before) k e) fits x free
+    skip-untyped _ k whole _ _ _ (stands-at _ k whole codes.takeUnseen _ (x .marking) a refl) _ (next (c .before) k e) fits x free
 
 returns-2 : tie.Need-returns-2
 returns-2 c k whole e fits sized =
@@ -153,7 +153,7 @@ returns-2 c k whole e fits sized =
     let a = action d k codes.takeObjectIdentifier e (c .before .before .match .keys2) in
     let x = object-line k a in
     subst (VisitJustified _ k whole _ _ _) (sym (c .skip-or-refuse .ensures))
-    (skip-typed _ k whole _ _ _ (stands-at _ k whole codes.takeObjectIdentifier (x .mark) a refl) _ (next d k e) fits x _ (holds-object-identifier _ ∙ sym (c .before .object-identifier .ensures)))
+    (skip-typed _ k whole _ _ _ (stands-at _ k whole codes.takeObjectIdentifier _ (x .marking) a refl) _ (next d k e) fits x _ (holds-object-identifier _ ∙ sym (c .before .object-identifier .ensures)))
 
 returns-3 : tie.Need-returns-3
 unfolding keeps
@@ -163,7 +163,7 @@ returns-3 c k whole e fits sized =
     let x = integer-line k a in
     let kept = sym (c .before .integer .ensures) in
     subst (VisitJustified _ k whole _ _ _) (sym (c .skip-or-refuse2 .ensures))
-    (skip-asked _ k whole _ _ _ (stands-at _ k whole codes.takeInteger (asked-mark x) a refl) _ (next d k e) fits x _ (holds-integer _ ∙ kept) kept)
+    (skip-asked _ k whole _ _ _ (stands-at _ k whole codes.takeInteger _ (asked-marking x) a refl) _ (next d k e) fits x _ (holds-integer _ ∙ kept) kept)
 
 returns-4 : tie.Need-returns-4
 returns-4 c k whole e fits sized =
@@ -180,7 +180,7 @@ returns-5 c k whole e fits sized =
     let x = bits-line k a in
     let kept = sym (c .before .bit-string .ensures) in
     subst (VisitJustified _ k whole _ _ _) (sym (c .skip-or-refuse4 .ensures))
-    (skip-asked _ k whole _ _ _ (stands-at _ k whole codes.takeBitString (asked-mark x) a refl) _ (next d k e) fits x _ (holds-bit-string _ ∙ kept) kept)
+    (skip-asked _ k whole _ _ _ (stands-at _ k whole codes.takeBitString _ (asked-marking x) a refl) _ (next d k e) fits x _ (holds-bit-string _ ∙ kept) kept)
 
 returns-6 : tie.Need-returns-6
 returns-6 c k whole e fits sized =
@@ -188,7 +188,7 @@ returns-6 c k whole e fits sized =
     let a = action d k codes.takeUtf8String e (c .before .before .match .keys6) in
     let x = text-line k a in
     subst (VisitJustified _ k whole _ _ _) (sym (c .skip-or-refuse5 .ensures))
-    (skip-typed _ k whole _ _ _ (stands-at _ k whole codes.takeUtf8String (x .mark) a refl) _ (next d k e) fits x _ (holds-utf8 _ ∙ sym (c .before .is-text .ensures)))
+    (skip-typed _ k whole _ _ _ (stands-at _ k whole codes.takeUtf8String _ (x .marking) a refl) _ (next d k e) fits x _ (holds-utf8 _ ∙ sym (c .before .is-text .ensures)))
 
 returns-7 : tie.Need-returns-7
 returns-7 c k whole e fits sized =
@@ -196,14 +196,14 @@ returns-7 c k whole e fits sized =
     let a = action d k codes.takeNest e (c .before .before .match .keys7) in
     let x = any-line k a in
     subst (VisitJustified _ k whole _ _ _) (sym (c .skip-or-refuse6 .ensures))
-    (skip-any _ k whole _ _ _ (stands-at _ k whole codes.takeNest (x .mark) a refl) _ (next d k e) (x .judge) (x .free) _ (sym (c .before .is-element .ensures)))
+    (skip-any _ k whole _ _ _ (stands-at _ k whole codes.takeNest _ (x .marking) a refl) _ (next d k e) (x .judge) (x .free) _ (sym (c .before .is-element .ensures)))
 
 returns-8 : tie.Need-returns-8
 returns-8 c k whole e fits sized =
     let d = c .before in
     let a = action d k codes.takeInside e (c .match .keys8) in
     let (i, x) = inside-line k a in
-    descend-lines _ k whole _ _ _ (stands-at _ k whole codes.takeInside (x .mark) a refl) _ (next d k e) x
+    descend-lines _ k whole _ _ _ (stands-at _ k whole codes.takeInside _ (x .marking) a refl) _ (next d k e) x
     (unasked d k codes.takeInside e (c .match .keys8) refl fits (x .free))
 
 returns-9 : tie.Need-returns-9
@@ -223,7 +223,7 @@ returns-11 c k whole e fits sized =
     let x = part-line k a in
     let edition = d .before .before .before .args .edition in
     subst (VisitJustified edition k whole (left d) (id d) (content d)) (sym (c .take-set .ensures))
-    (skip-set edition k whole (left d) (id d) (content d) (stands-at edition k whole codes.takeRdn (x .1 .mark) a refl) _ (next d k e) Rdn 2 1 x (lit≤ tt) _
+    (skip-set edition k whole (left d) (id d) (content d) (stands-at edition k whole codes.takeRdn _ (x .1 .marking) a refl) _ (next d k e) Rdn 2 1 x (lit≤ tt) _
     (λ t. let (inner, ends) = c .before .rdn .ensures t in (inner, ends (id d))))
 
 returns-12 : tie.Need-returns-12

@@ -9,11 +9,11 @@ use borrow.Author.Tests.{eq-eqb, ne-eqb}
 use Rattle.crmf.specs.declared.grammar.judge.Onward.the-variants.{To}
 use Rattle.crmf.specs.steps.grammar.Codes as codes
 use Rattle.crmf.specs.meaning.Kinds as kinds
-use Rattle.crmf.specs.steps.grammar.Packed.{packed, markField, insideField, markCode}
+use Rattle.crmf.specs.steps.grammar.Packed.{packed, insideField}
 use Rattle.crmf.specs.steps.explain.Walk.{line, judged}
 use Rattle.crmf.specs.steps.recognise.Count.{mayStand}
 use Rattle.crmf.specs.steps.recognise.Inner.{VisitJustified}
-use Rattle.crmf.proofs.theorems.lines.WordFields.{mark-at, inside-at}
+use Rattle.crmf.proofs.theorems.lines.WordFields.{inside-at}
 use Rattle.crmf.proofs.theorems.recognise.StepWays.{reads, stands-by, refuse-breaks, refuse-wrong, descend, skip-whole}
 use Rattle.crmf.proofs.recognise.step.take_by_fields.Statement.{statement}
 use Rattle.crmf.proofs.recognise.step.take_by_fields.Tie as tie
@@ -29,10 +29,9 @@ module _ (c : tie.After-mark-of) where
   -- the test of the mark says whether the edition allows the element in the line's form
   standing : (k whole : ℕ) → start .args .word ≡ getD packed k 0 → eqb (line k .kind) kinds.certReqId ≡ false → (b : Bool)
       → (not (eqb (c .mark-of .result) 0) && not (eqb (c .mark-of .result / codes.edition) (start .args .edition))) ≡ b
-      → mayStand (start .args .edition) (line k) whole ≡ not b
+      → mayStand (start .args .edition) (line k) (start .args .content .now) whole ≡ not b
   standing k whole e short b test =
-      let coded : markCode (line k .mark) ≡ c .mark-of .result = sym (mark-at k) ∙ ap markField (sym e) ∙ sym (c .mark-of .ensures) in
-      stands-by _ k whole short ∙ reads k _ _ coded ∙ ap not test
+      stands-by _ k whole _ short ∙ reads k _ _ _ (sym (c .mark-of .ensures k e)) ∙ ap not test
 
 returns : tie.Need-returns
 returns c k whole e short ends = refuse-wrong _ k whole _ _ _ (standing (c .before) k whole e short true (c .if1 .taken))
@@ -66,7 +65,7 @@ module _ (c : tie.After-inside-of) where
   says k e = sym (c .before .before .before .before .judge-value .ensures k e) ∙ c .before .before .next .given .1
 
   stood : (k whole : ℕ) → word ≡ getD packed k 0 → eqb (line k .kind) kinds.certReqId ≡ false
-      → mayStand (marked .before .before .args .edition) (line k) whole ≡ true
+      → mayStand (marked .before .before .args .edition) (line k) (marked .before .before .args .content .now) whole ≡ true
   stood k whole e short = standing marked k whole e short false (c .before .before .before .before .before .if1 .left)
 
 returns-2 : tie.Need-returns-2
