@@ -17,5 +17,6 @@ pub mod RowsOfLines
 pub mod RowsRenumbered
 pub mod ShortRows
 pub mod Showing
+pub mod TakenElements
 pub mod SiblingKinds
 pub mod Writing

@@ -4,8 +4,8 @@ use mathlib.Core.List.{[], _∷_}
 use Rattle.crmf.specs.meaning.Value.{integer, boolean, bitString, empty, zeroOrOne, true-only, utcTime, generalizedTime, some, never}
 use Rattle.crmf.specs.meaning.Value.{action, method, controlType, infoType}
 use Rattle.crmf.specs.meaning.Kinds as kinds
-use Rattle.crmf.specs.meaning.Details.{fitsNoPart, listOrLocation}
-use Rattle.crmf.specs.meaning.Notation.{Name, Parts, done, _then_, select, plain, holding, ruled, aGeneralName, aValue, row, itemRow, only, one, maybe, any, oneOf, maybeOneOf, plus}
+use Rattle.crmf.specs.meaning.Details.{fitsNoPart, valueBroken, listOrLocation}
+use Rattle.crmf.specs.meaning.Notation.{Name, Parts, done, _then_, select, plain, holding, ruled, aGeneralName, aValue, row, itemRow, only, onlyUnlessTwo, one, maybe, any, oneOf, maybeOneOf, plus}
 use Rattle.crmf.specs.meaning.Notation.{Top, Batch, Message, CertReq, Template, Validity, Time, AlgId, Spki, OneName, RdnSequence, Rdn, Attribute, Extensions, Extension}
 use Rattle.crmf.specs.meaning.Notation.{Signature, PoposkInput, Sender, PkMac, KeyProof}
 use Rattle.crmf.specs.meaning.Notation.{Controls, Control, UnknownControl, RegToken, Authenticator, PublicationInfo, ArchiveOptions, OldCertId, ProtocolKey}
@@ -29,18 +29,19 @@ content Message =
 content CertReq = one (row kinds.certReqId (plain 0x02)) then one (row kinds.certTemplate (holding 0x30 Template)) then maybe (row kinds.controls (holding 0x30 Controls)) then done
 -- CertTemplate (RFC 2511 5, RFC 4211 5). "Template, each optional, in order"
 content Template =
-    -- "version 80 INTEGER, serialNumber 81 INTEGER"
-    maybe (row kinds.version (ruled integer (plain 0x80)))
-    then maybe (row kinds.serialNumber (ruled integer (plain 0x81)))
-    -- "signingAlg A2 AlgId content, issuer A3 (Name), validity A4" with "at least one", "subject A5 (Name)"
-    then maybe (row kinds.signingAlg (holding 0xA2 AlgId))
+    -- "version 80 INTEGER, serialNumber 81 INTEGER"; document 02, A4: "In edition 2 those four now fit no part, and any version but 2 breaks its
+    -- rule. They join the list as D4, edition 1 only"
+    maybe (onlyUnlessTwo 1 4 valueBroken (row kinds.version (ruled integer (plain 0x80))))
+    then maybe (only 1 4 fitsNoPart (row kinds.serialNumber (ruled integer (plain 0x81))))
+    -- "signingAlg A2 AlgId content" (D4), "issuer A3 (Name), validity A4" with "at least one", "subject A5 (Name)"
+    then maybe (only 1 4 fitsNoPart (row kinds.signingAlg (holding 0xA2 AlgId)))
     then maybe (row kinds.issuer (holding 0xA3 OneName))
     then maybe (row kinds.validity (ruled some (holding 0xA4 Validity)))
     then maybe (row kinds.subject (holding 0xA5 OneName))
-    -- "publicKey A6 Spki content, issuerUID 87 and subjectUID 88 BIT STRING, extensions A9"
+    -- "publicKey A6 Spki content, issuerUID 87 and subjectUID 88 BIT STRING" (D4), "extensions A9"
     then maybe (row kinds.publicKey (holding 0xA6 Spki))
-    then maybe (row kinds.issuerUID (ruled bitString (plain 0x87)))
-    then maybe (row kinds.subjectUID (ruled bitString (plain 0x88)))
+    then maybe (only 1 4 fitsNoPart (row kinds.issuerUID (ruled bitString (plain 0x87))))
+    then maybe (only 1 4 fitsNoPart (row kinds.subjectUID (ruled bitString (plain 0x88))))
     then maybe (row kinds.extensions (holding 0xA9 Extensions))
     then done
 -- OptionalValidity (RFC 2511 5, RFC 4211 5). "Validity: notBefore A0 (Time)?, notAfter A1 (Time)?"

@@ -170,6 +170,11 @@ itemRow k f = record { identifiers = f .identifiers; inside = f .inside; rule = 
 abbrev pub only : (edition difference detail : ℕ) → Form → Form
 only e d detail f = record { identifiers = f .identifiers; inside = f .inside; rule = f .rule; kind = f .kind; item = f .item; marking = whatever (alone e d detail) }
 
+-- the same unless the element's value is 2
+abbrev pub onlyUnlessTwo : (edition difference detail : ℕ) → Form → Form
+onlyUnlessTwo e d detail f =
+    record { identifiers = f .identifiers; inside = f .inside; rule = f .rule; kind = f .kind; item = f .item; marking = unlessTwo (alone e d detail) }
+
 -- parts: a form, a form `?`, a form `*`, one of some forms, one of some forms `?`
 abbrev pub one : Form → Part
 one f = part once (f ∷ [])

@@ -148,14 +148,16 @@ const INTO_SPKI: usize = INSIDE * SPKI + ACTION * TAKE_SPKI;
 const INTO_NAME: usize = INSIDE * ONE_NAME + ACTION * TAKE_NAME;
 
 // "An implicitly tagged INTEGER, BOOLEAN or BIT STRING keeps that type's content rule".
-const IMPLICIT_INTEGER: usize = JUDGE * INTEGER + AN_INTEGER;
-
 const IMPLICIT_BIT_STRING: usize = JUDGE * BIT_STRING + A_BIT_STRING;
 
-// The marks of document 01's differences: the edition that alone allows the form.
+// The marks of the differences, document 01's and document 02's D4: the edition that alone allows the form.
 const ONLY_1_D2: usize = EDITION * 1 + 2;
 
 const ONLY_1_D3: usize = EDITION * 1 + 3;
+
+const ONLY_1_D4: usize = EDITION * 1 + 4;
+
+const ONLY_1_D4_UNLESS_TWO: usize = UNLESS_TWO + ONLY_1_D4;
 
 const ONLY_2_D1: usize = EDITION * 2 + 1;
 
@@ -215,15 +217,21 @@ pub(crate) const TABLE: [usize; LINES] = [
     // controls 30?
     MAYBE + ID * 0x30 + INSIDE * CONTROLS + INTO + KIND * kinds::CONTROLS + ROW,
     END,
-    // Template (CertTemplate): version 80 INTEGER?
-    MAYBE + ID * 0x80 + IMPLICIT_INTEGER + KIND * kinds::VERSION + ROW + NEXT * (TEMPLATE + 1),
-    // serialNumber 81 INTEGER?
+    // Template (CertTemplate): version 80 INTEGER? (D4, unless it is 2)
+    (MAYBE + ID * 0x80)
+        + (MARK * ONLY_1_D4_UNLESS_TWO + JUDGE * INTEGER + BY_LINE)
+        + (KIND * kinds::VERSION + ROW)
+        + NEXT * (TEMPLATE + 1),
+    // serialNumber 81 INTEGER? (D4)
     (MAYBE + ID * 0x81)
-        + IMPLICIT_INTEGER
+        + (MARK * ONLY_1_D4 + JUDGE * INTEGER + BY_LINE)
         + (KIND * kinds::SERIAL_NUMBER + ROW)
         + NEXT * (TEMPLATE + 2),
-    // signingAlg A2 AlgId content?
-    MAYBE + ID * 0xA2 + INTO_ALG_ID + KIND * kinds::SIGNING_ALG + ROW + NEXT * (TEMPLATE + 3),
+    // signingAlg A2 AlgId content? (D4)
+    (MAYBE + ID * 0xA2)
+        + (INSIDE * ALG_ID + MARK * ONLY_1_D4 + BY_LINE)
+        + (KIND * kinds::SIGNING_ALG + ROW)
+        + NEXT * (TEMPLATE + 3),
     // issuer A3 (Name)?
     MAYBE + ID * 0xA3 + INTO_NAME + KIND * kinds::ISSUER + ROW + NEXT * (TEMPLATE + 4),
     // validity A4?, at least one
@@ -235,14 +243,14 @@ pub(crate) const TABLE: [usize; LINES] = [
     MAYBE + ID * 0xA5 + INTO_NAME + KIND * kinds::SUBJECT + ROW + NEXT * (TEMPLATE + 6),
     // publicKey A6 Spki content?
     MAYBE + ID * 0xA6 + INTO_SPKI + KIND * kinds::PUBLIC_KEY + ROW + NEXT * (TEMPLATE + 7),
-    // issuerUID 87 BIT STRING?
+    // issuerUID 87 BIT STRING? (D4)
     (MAYBE + ID * 0x87)
-        + IMPLICIT_BIT_STRING
+        + (MARK * ONLY_1_D4 + JUDGE * BIT_STRING + BY_LINE)
         + (KIND * kinds::ISSUER_UID + ROW)
         + NEXT * (TEMPLATE + 8),
-    // subjectUID 88 BIT STRING?
+    // subjectUID 88 BIT STRING? (D4)
     (MAYBE + ID * 0x88)
-        + IMPLICIT_BIT_STRING
+        + (MARK * ONLY_1_D4 + JUDGE * BIT_STRING + BY_LINE)
         + (KIND * kinds::SUBJECT_UID + ROW)
         + NEXT * (TEMPLATE + 9),
     // extensions A9?

@@ -14,7 +14,7 @@ use Rattle.der.specs.steps.Reading.{nothingAt, given, read, treeOf, tree}
 use Rattle.crmf.specs.declared.explain.tally.Tally.{Tally}
 use Rattle.crmf.specs.declared.explain.Walked.{Walked}
 use Rattle.crmf.specs.declared.explain.Walked.the-variants.{Passed, Broken}
-use Rattle.crmf.specs.meaning.Value.{isEmpty, isUpTo, number, isTrue, pairAt, leap, monthDays, daysIn, isDay, isReal, momentAt, century, utcMoment, generalizedMoment, isTime, keeps}
+use Rattle.crmf.specs.meaning.Value.{isEmpty, isUpTo, number, isTrue, isTwo, pairAt, leap, monthDays, daysIn, isDay, isReal, momentAt, century, utcMoment, generalizedMoment, isTime, keeps}
 use Rattle.crmf.specs.meaning.Lists.{same}
 use Rattle.crmf.specs.meaning.Value.{typeNumber, selected}
 use Rattle.crmf.specs.meaning.Notation.{Top, among, named, order}
@@ -103,6 +103,23 @@ examples =
     ∷ alike 0x301530133011020100300CA50A3108300606012A0C0141 (Broken 13 1 (rows 6))
     -- a template without its key's bits
     ∷ alike 0x3010300E300C0201003007A605300306012A (Broken 11 2 (rows 6))
+    -- document 02, A4: a version of 0, and of 2; each of the four
+    ∷ each 0x300C300A30080201003003800100 (Passed (seen 6 4 11 0 0)) (Passed (seen 6 4 11 0 0)) (Broken 11 3 (rows 5))
+    ∷ alike 0x300C300A30080201003003800102 (Passed (rows 6))
+    ∷ each 0x300C300A30080201003003810101 (Passed (seen 6 4 11 0 0)) (Passed (seen 6 4 11 0 0)) (Broken 11 1 (rows 5))
+    ∷ each 0x300E300C300A0201003005A203060155 (Passed (seen 6 4 11 0 0)) (Passed (seen 6 4 11 0 0)) (Broken 11 1 (rows 5))
+    ∷ each 0x300C300A30080201003003870100 (Passed (seen 6 4 11 0 0)) (Passed (seen 6 4 11 0 0)) (Broken 11 1 (rows 5))
+    ∷ each 0x300C300A30080201003003880100 (Passed (seen 6 4 11 0 0)) (Passed (seen 6 4 11 0 0)) (Broken 11 1 (rows 5))
+    -- a field that breaks edition 1's rule too; edition 2 doesn't enter signingAlg
+    ∷ each 0x300D300B3009020100300480020002 (Broken 11 3 (seen 6 4 11 0 0)) (Broken 11 3 (seen 6 4 11 0 0)) (Broken 11 3 (rows 5))
+    ∷ each 0x300B3009300702010030028100 (Broken 11 3 (seen 6 4 11 0 0)) (Broken 11 3 (seen 6 4 11 0 0)) (Broken 11 1 (rows 5))
+    ∷ each 0x300B300930070201003002A200 (Broken 11 2 (seen 6 4 11 0 0)) (Broken 11 2 (seen 6 4 11 0 0)) (Broken 11 1 (rows 5))
+    ∷ each 0x300D300B30090201003004A2020500 (Broken 13 1 (seen 6 4 11 0 0)) (Broken 13 1 (seen 6 4 11 0 0)) (Broken 11 1 (rows 5))
+    -- each edition at its own stop: a version after the serialNumber, and D4 beside D1
+    ∷ each 0x300F300D300B0201003006810101800102 (Broken 14 1 (seen 6 4 11 0 0)) (Broken 14 1 (seen 6 4 11 0 0)) (Broken 11 1 (rows 5))
+    ∷ each 0x3010300E30080201003003800100A202A400 (Passed (seen 8 4 11 1 16)) (Broken 16 1 (seen 7 4 11 0 0)) (Broken 11 3 (rows 5))
+    -- in a carried certReq
+    ∷ each 0x30223020300502010030003017301506092B060105050705020230080201003003870100 (Passed (seen 11 4 33 0 0)) (Passed (seen 11 4 33 0 0)) (Broken 33 1 (rows 10))
     -- validity without a time
     ∷ alike 0x300B300930070201003002A400 (Broken 11 2 (rows 6))
     -- 29 February of 1900, 2000, 2100 and 0000
@@ -116,7 +133,7 @@ examples =
 worked : Each Walks examples
 unfolding tagNumber constructed allowed valueFrom shortest longForm lengthOf base256 sizedBy headOf
     boolean integer lastOf bitString nothingAt given read treeOf tree
-    same isEmpty isUpTo number isTrue pairAt leap monthDays daysIn isDay isReal momentAt century utcMoment generalizedMoment isTime bind keeps typeNumber selected among named order content
+    same isEmpty isUpTo number isTrue isTwo pairAt leap monthDays daysIn isDay isReal momentAt century utcMoment generalizedMoment isTime bind keeps typeNumber selected among named order content
     partSize size startsFrom start insideLine passOf formLines nextLine wayLine partLines containerLines linesFrom lines
     line findLineIn findLine closedIn closed judged withForm withLongId withElement walk
 worked =
@@ -125,7 +142,9 @@ worked =
     & (refl, refl, refl) & (refl, refl, refl) & (refl, refl, refl) & (refl, refl, refl) & (refl, refl, refl) & (refl, refl, refl)
     & (refl, refl, refl) & (refl, refl, refl) & (refl, refl, refl) & (refl, refl, refl) & (refl, refl, refl) & (refl, refl, refl)
     & (refl, refl, refl) & (refl, refl, refl) & (refl, refl, refl) & (refl, refl, refl) & (refl, refl, refl) & (refl, refl, refl)
-    & (refl, refl, refl) & (refl, refl, refl) & (refl, refl, refl)
+    & (refl, refl, refl) & (refl, refl, refl) & (refl, refl, refl) & (refl, refl, refl) & (refl, refl, refl) & (refl, refl, refl)
+    & (refl, refl, refl) & (refl, refl, refl) & (refl, refl, refl) & (refl, refl, refl) & (refl, refl, refl) & (refl, refl, refl)
+    & (refl, refl, refl) & (refl, refl, refl) & (refl, refl, refl) & (refl, refl, refl)
     & tt
 
 -- the two-digit years on both sides of the centuries' border
