@@ -20,6 +20,10 @@
 --     own-passes          so it passes exactly when that passes and has met none
 --     own-difference      every difference that occurs in a tree of one edition's grammar is that edition's own
 --     other-walk          so the other edition's walk answers the same if none occurs, and otherwise stops at the first (`StopsAt`)
+--     listed              every difference that occurs is on the list (`differences`), so its number is one of 1 to 4 (`numbered`), and a fourth is
+--                         edition 1's (`fourth-first`); each on the list is the mark that some form's marking gives (`listed-marks`)
+--     fourth-exactly      a fourth difference (`fourth`) occurs exactly where a row shows a field that edition 2 has left out (`LeftOut`); rows that
+--                         show the same pieces show the same such fields (`left-out-too`)
 --     inside-starts       every inside of the table is free or starts a container
 --     start-lives         where a container starts, it may end or an element is found (`Lives`)
 --     onward-lives        and so it is after every element
@@ -147,6 +151,9 @@ pub use Rattle.crmf.proofs.theorems.explain.Stopping.{stops-exactly, st
 pub use Rattle.crmf.proofs.theorems.explain.EveryForm.{all, isPassed, walk-passes, passes-accepts}
 pub use Rattle.crmf.proofs.theorems.grammar.Choices.{Choice, taking, choosing, identifiersOf, choices, _followedBy_, deterministic, ways-parts}
 pub use Rattle.crmf.proofs.theorems.editions.FirstSeen.{Edition, first-edition, second-edition, firstSeen, after, seenOf, walk-seen}
+pub use Rattle.crmf.proofs.theorems.editions.ListedDifferences.{listed, numbered, fourth-first, listed-marks}
+pub use Rattle.crmf.proofs.theorems.editions.LeftOutFields.{fourth, fourth-exactly}
+pub use Rattle.crmf.proofs.theorems.pieces.LeftOutPieces.{left-out-too}
 pub use Rattle.crmf.proofs.theorems.editions.Marks.{trail-occurrences, marks-met}
 pub use Rattle.crmf.proofs.theorems.editions.FirstForms.{FirstForm, forms-exactly}
 pub use Rattle.crmf.proofs.theorems.editions.AscendingPlaces.{Ascends, ascends-least, trail-ascends, occurrences-ascend, first-least}

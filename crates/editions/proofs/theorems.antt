@@ -5,6 +5,7 @@ pub mod Answers
 pub mod AnswersExactly
 pub mod Demands
 pub mod Differing
+pub mod FourthDifference
 pub mod MendedNest
 pub mod OctetVectors
 pub mod OneElement

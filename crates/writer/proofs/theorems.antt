@@ -15,6 +15,7 @@ pub mod JoinLengths
 pub mod JoinVectors
 pub mod Joining
 pub mod JoinsExactly
+pub mod LeftOut
 pub mod Misshapen
 pub mod OctetRuns
 pub mod OneAnswer

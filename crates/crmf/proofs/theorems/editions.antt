@@ -4,6 +4,8 @@ pub mod Differences
 pub mod FairMarks
 pub mod FirstForms
 pub mod FirstSeen
+pub mod LeftOutFields
+pub mod ListedDifferences
 pub mod Marks
 pub mod OneEdition
 pub mod ReadableSets

@@ -2,6 +2,7 @@
 pub mod Agreeing
 pub mod AssembledOctets
 pub mod Assembly
+pub mod LeftOutPieces
 pub mod PieceLaws
 pub mod PiecesOf
 pub mod ShownParts

@@ -17,7 +17,7 @@ use Rattle.der.specs.steps.Span.{spanBy, spanOf}
 use Rattle.der.specs.steps.Order.{descends, ascendsFrom, ascends, closes}
 use Rattle.der.specs.steps.Explain.{listOf, byRule, afterInside, elementOf, walkAt}
 use Rattle.der.specs.steps.Reading.{given, read, treeOf, tree, nothingAt}
-use Rattle.crmf.specs.meaning.Value.{isEmpty, isUpTo, number, keeps, typeNumber, selected}
+use Rattle.crmf.specs.meaning.Value.{isEmpty, isUpTo, number, isTwo, keeps, typeNumber, selected}
 use Rattle.crmf.specs.meaning.Lists.{same}
 use Rattle.crmf.specs.meaning.Notation.{among, named, order}
 use Rattle.crmf.specs.meaning.Grammar.{content}
@@ -28,7 +28,7 @@ use Rattle.crmf.specs.steps.rows.Fill.{goes, rowsFrom, rowsOfInput}
 use Rattle.editions.specs.declared.reader.Answer.{Answer}
 use Rattle.editions.specs.meaning.Answers.{Answers, Reason}
 use Rattle.editions.specs.steps.Reading.{batchAnswer, answer}
-use Rattle.editions.specs.examples.Refusals.{Refusal, Refused, explained, told}
+use Rattle.editions.specs.examples.Refusals.{Refusal, Refused, Carried, explained, carried, told}
 use Rattle.editions.proofs.theorems.AnswersExactly.{answers-exactly, reasonOf, reason-related}
 use Rattle.editions.proofs.theorems.OctetVectors.{areOctets, test-octets, each-of}
 
@@ -67,20 +67,20 @@ explained-computed e s r ((octets, is), (short, some, reason)) = (
 computed-told : Each (Both Computed) told
 unfolding tagNumber constructed allowed valueFrom shortest longForm lengthOf sizedBy headOf
     classOf leads tails lowest highest utf8From utf8 boolean null integer bitString lastOf unpadded objectIdentifier holds listOf byRule closes afterInside elementOf walkAt
-    nothingAt given read treeOf tree same isEmpty isUpTo number keeps typeNumber selected among named order content
+    nothingAt given read treeOf tree same isEmpty isUpTo number isTwo keeps typeNumber selected among named order content
     partSize size startsFrom start insideLine passOf formLines nextLine wayLine partLines containerLines linesFrom lines
     line findLineIn findLine closedIn closed judged withForm withLongId withElement walk emptyTally firstLong goes rowsFrom rowsOfInput
     batchAnswer answer areOctets base256
-computed-told = ((refl, refl), (refl, refl)) & ((refl, refl), (refl, refl)) & ((refl, refl), (refl, refl)) & ((refl, refl), (refl, refl)) & ((refl, refl), (refl, refl)) & tt
+computed-told = ((refl, refl), (refl, refl)) & ((refl, refl), (refl, refl)) & ((refl, refl), (refl, refl)) & ((refl, refl), (refl, refl)) & ((refl, refl), (refl, refl)) & ((refl, refl), (refl, refl)) & tt
 
 computed-explained : Each (Both (λ e s r. Computed e s r × Reasoned e s r)) explained
 unfolding tagNumber constructed allowed valueFrom shortest longForm lengthOf sizedBy headOf
     classOf leads tails lowest highest utf8From utf8 boolean null integer bitString lastOf unpadded objectIdentifier holds listOf byRule spanBy spanOf descends ascendsFrom ascends closes afterInside elementOf walkAt
-    nothingAt given read treeOf tree same isEmpty isUpTo number keeps typeNumber selected among named order content
+    nothingAt given read treeOf tree same isEmpty isUpTo number isTwo keeps typeNumber selected among named order content
     partSize size startsFrom start insideLine passOf formLines nextLine wayLine partLines containerLines linesFrom lines
     line findLineIn findLine closedIn closed judged withForm withLongId withElement walk emptyTally firstLong goes rowsFrom rowsOfInput
     batchAnswer answer areOctets base256 reasonOf
-computed-explained = (((refl, refl), (refl, refl, refl)), ((refl, refl), (refl, refl, refl))) & (((refl, refl), (refl, refl, refl)), ((refl, refl), (refl, refl, refl))) & (((refl, refl), (refl, refl, refl)), ((refl, refl), (refl, refl, refl))) & (((refl, refl), (refl, refl, refl)), ((refl, refl), (refl, refl, refl))) & (((refl, refl), (refl, refl, refl)), ((refl, refl), (refl, refl, refl))) & (((refl, refl), (refl, refl, refl)), ((refl, refl), (refl, refl, refl))) & (((refl, refl), (refl, refl, refl)), ((refl, refl), (refl, refl, refl))) & (((refl, refl), (refl, refl, refl)), ((refl, refl), (refl, refl, refl))) & (((refl, refl), (refl, refl, refl)), ((refl, refl), (refl, refl, refl))) & (((refl, refl), (refl, refl, refl)), ((refl, refl), (refl, refl, refl))) & (((refl, refl), (refl, refl, refl)), ((refl, refl), (refl, refl, refl))) & (((refl, refl), (refl, refl, refl)), ((refl, refl), (refl, refl, refl))) & (((refl, refl), (refl, refl, refl)), ((refl, refl), (refl, refl, refl))) & (((refl, refl), (refl, refl, refl)), ((refl, refl), (refl, refl, refl))) & (((refl, refl), (refl, refl, refl)), ((refl, refl), (refl, refl, refl))) & (((refl, refl), (refl, refl, refl)), ((refl, refl), (refl, refl, refl))) & (((refl, refl), (refl, refl, refl)), ((refl, refl), (refl, refl, refl))) & (((refl, refl), (refl, refl, refl)), ((refl, refl), (refl, refl, refl))) & (((refl, refl), (refl, refl, refl)), ((refl, refl), (refl, refl, refl))) & (((refl, refl), (refl, refl, refl)), ((refl, refl), (refl, refl, refl))) & (((refl, refl), (refl, refl, refl)), ((refl, refl), (refl, refl, refl))) & (((refl, refl), (refl, refl, refl)), ((refl, refl), (refl, refl, refl))) & (((refl, refl), (refl, refl, refl)), ((refl, refl), (refl, refl, refl))) & (((refl, refl), (refl, refl, refl)), ((refl, refl), (refl, refl, refl))) & (((refl, refl), (refl, refl, refl)), ((refl, refl), (refl, refl, refl))) & (((refl, refl), (refl, refl, refl)), ((refl, refl), (refl, refl, refl))) & (((refl, refl), (refl, refl, refl)), ((refl, refl), (refl, refl, refl))) & (((refl, refl), (refl, refl, refl)), ((refl, refl), (refl, refl, refl))) & (((refl, refl), (refl, refl, refl)), ((refl, refl), (refl, refl, refl))) & (((refl, refl), (refl, refl, refl)), ((refl, refl), (refl, refl, refl))) & (((refl, refl), (refl, refl, refl)), ((refl, refl), (refl, refl, refl))) & tt
+computed-explained = (((refl, refl), (refl, refl, refl)), ((refl, refl), (refl, refl, refl))) & (((refl, refl), (refl, refl, refl)), ((refl, refl), (refl, refl, refl))) & (((refl, refl), (refl, refl, refl)), ((refl, refl), (refl, refl, refl))) & (((refl, refl), (refl, refl, refl)), ((refl, refl), (refl, refl, refl))) & (((refl, refl), (refl, refl, refl)), ((refl, refl), (refl, refl, refl))) & (((refl, refl), (refl, refl, refl)), ((refl, refl), (refl, refl, refl))) & (((refl, refl), (refl, refl, refl)), ((refl, refl), (refl, refl, refl))) & (((refl, refl), (refl, refl, refl)), ((refl, refl), (refl, refl, refl))) & (((refl, refl), (refl, refl, refl)), ((refl, refl), (refl, refl, refl))) & (((refl, refl), (refl, refl, refl)), ((refl, refl), (refl, refl, refl))) & (((refl, refl), (refl, refl, refl)), ((refl, refl), (refl, refl, refl))) & (((refl, refl), (refl, refl, refl)), ((refl, refl), (refl, refl, refl))) & (((refl, refl), (refl, refl, refl)), ((refl, refl), (refl, refl, refl))) & (((refl, refl), (refl, refl, refl)), ((refl, refl), (refl, refl, refl))) & (((refl, refl), (refl, refl, refl)), ((refl, refl), (refl, refl, refl))) & (((refl, refl), (refl, refl, refl)), ((refl, refl), (refl, refl, refl))) & (((refl, refl), (refl, refl, refl)), ((refl, refl), (refl, refl, refl))) & (((refl, refl), (refl, refl, refl)), ((refl, refl), (refl, refl, refl))) & (((refl, refl), (refl, refl, refl)), ((refl, refl), (refl, refl, refl))) & (((refl, refl), (refl, refl, refl)), ((refl, refl), (refl, refl, refl))) & (((refl, refl), (refl, refl, refl)), ((refl, refl), (refl, refl, refl))) & (((refl, refl), (refl, refl, refl)), ((refl, refl), (refl, refl, refl))) & (((refl, refl), (refl, refl, refl)), ((refl, refl), (refl, refl, refl))) & (((refl, refl), (refl, refl, refl)), ((refl, refl), (refl, refl, refl))) & (((refl, refl), (refl, refl, refl)), ((refl, refl), (refl, refl, refl))) & (((refl, refl), (refl, refl, refl)), ((refl, refl), (refl, refl, refl))) & (((refl, refl), (refl, refl, refl)), ((refl, refl), (refl, refl, refl))) & (((refl, refl), (refl, refl, refl)), ((refl, refl), (refl, refl, refl))) & (((refl, refl), (refl, refl, refl)), ((refl, refl), (refl, refl, refl))) & (((refl, refl), (refl, refl, refl)), ((refl, refl), (refl, refl, refl))) & (((refl, refl), (refl, refl, refl)), ((refl, refl), (refl, refl, refl))) & (((refl, refl), (refl, refl, refl)), ((refl, refl), (refl, refl, refl))) & (((refl, refl), (refl, refl, refl)), ((refl, refl), (refl, refl, refl))) & (((refl, refl), (refl, refl, refl)), ((refl, refl), (refl, refl, refl))) & (((refl, refl), (refl, refl, refl)), ((refl, refl), (refl, refl, refl))) & (((refl, refl), (refl, refl, refl)), ((refl, refl), (refl, refl, refl))) & (((refl, refl), (refl, refl, refl)), ((refl, refl), (refl, refl, refl))) & tt
 
 -- Every refusal of the list is answered by its number and place, for the reason that its detail names.
 pub refusals-explained : Each (Both Explained) explained
@@ -92,3 +92,36 @@ refusals-explained =
 pub refusals-told : Each (Both Told) told
 refusals-told =
     each-of (Both Computed) (Both Told) (λ x (one, two). (told-computed 1 (octetsOf x) (x .one) one, told-computed 2 (octetsOf x) (x .two) two)) told computed-told
+
+-- what both editions answer to a batch that edition 1 accepts
+abbrev Taken : Carried → Type 0
+Taken x = let s = base256 130 (x .octets) in Answers 1 s 0 0 (x .rows) × Answers 2 s (x .number) (x .place) (x .count)
+
+-- the octets are octets, and the answers are computed
+abbrev TakenComputed : Carried → Type 0
+TakenComputed x =
+    let s = base256 130 (x .octets) in
+    (areOctets s ≡ true)
+    × (answer 1 s ≡ record { number = 0; place = 0; count = x .rows })
+    × (answer 2 s ≡ record { number = x .number; place = x .place; count = x .count })
+
+computed-carried : Each TakenComputed carried
+unfolding tagNumber constructed allowed valueFrom shortest longForm lengthOf sizedBy headOf
+    boolean null integer bitString lastOf unpadded objectIdentifier holds listOf byRule closes afterInside elementOf walkAt
+    nothingAt given read treeOf tree same isEmpty isUpTo number isTwo keeps typeNumber selected among named order content
+    partSize size startsFrom start insideLine passOf formLines nextLine wayLine partLines containerLines linesFrom lines
+    line findLineIn findLine closedIn closed judged withForm withLongId withElement walk emptyTally firstLong goes rowsFrom rowsOfInput
+    batchAnswer answer areOctets base256
+computed-carried =
+    (refl, refl, refl) & (refl, refl, refl) & (refl, refl, refl) & (refl, refl, refl) & (refl, refl, refl) & (refl, refl, refl) & (refl, refl, refl)
+    & (refl, refl, refl)
+    & tt
+
+-- Each batch of the list that edition 1 accepts is answered so in both editions.
+pub carried-answered : Each Taken carried
+carried-answered =
+    each-of TakenComputed Taken
+    (λ x (octets, one, two).
+    let s = base256 130 (x .octets) in
+    (answers-exactly 1 s (test-octets s octets) 0 0 (x .rows) .1 one, answers-exactly 2 s (test-octets s octets) (x .number) (x .place) (x .count) .1 two))
+    carried computed-carried

@@ -78,6 +78,42 @@ explained =
     ∷ alike 0x301F301D301B0201003016A5143012311030060601550C016230060601550C0161 (at 5 15 17)
     ∷ alike 0x301B3019301702010030003010300E0601553109050031050500020100 (at 5 22 17)
     ∷ alike 0x301B3019301702010030003010300A0601553105050002010030020000 (at 5 18 17)
+    -- document 02, A4: a version that isn't the shortest 2, an empty serialNumber, an empty signingAlg and one with NULL inside, which edition 2
+    -- doesn't enter; a version after the serialNumber; a version of 0 beside a choice of edition 2
+    ∷ alike 0x300D300B3009020100300480020002 (at 8 11 3)
+    ∷ each 0x300B3009300702010030028100 (at 8 11 3) (at 8 11 1)
+    ∷ each 0x300B300930070201003002A200 (at 8 11 2) (at 8 11 1)
+    ∷ each 0x300D300B30090201003004A2020500 (at 8 13 1) (at 8 11 1)
+    ∷ each 0x300F300D300B0201003006810101800102 (at 8 14 1) (at 8 11 1)
+    ∷ each 0x3010300E30080201003003800100A202A400 (at 8 16 1) (at 8 11 3)
+    ∷ []
+
+-- A batch that edition 1 accepts with a count of rows, and edition 2 with a count, or refuses with 9 at a place.
+pub record Carried : Type 0 where
+  pub octets : ℕ
+  pub rows : ℕ
+  pub number : ℕ
+  pub place : ℕ
+  pub count : ℕ
+
+-- accepted in edition 1 alone: refused with 9 at a place
+abbrev first-alone : ℕ → ℕ → ℕ → Carried
+first-alone bs n p = record { octets = bs; rows = n; number = 9; place = p; count = 0 }
+
+-- Document 02, A4: what edition 1 accepts of a template.
+abbrev pub carried : List Carried
+carried =
+    -- a version of 0; of 2, which edition 2 accepts too; each of the four
+    first-alone 0x300C300A30080201003003800100 6 11
+    ∷ record { octets = 0x300C300A30080201003003800102; rows = 6; number = 0; place = 0; count = 6 }
+    ∷ first-alone 0x300C300A30080201003003810101 6 11
+    ∷ first-alone 0x300E300C300A0201003005A203060155 6 11
+    ∷ first-alone 0x300C300A30080201003003870100 6 11
+    ∷ first-alone 0x300C300A30080201003003880100 6 11
+    -- in a carried certReq
+    ∷ first-alone 0x30223020300502010030003017301506092B060105050705020230080201003003870100 11 33
+    -- the first of two: a serialNumber after a version of 2, and an issuerUID
+    ∷ first-alone 0x30123010300E0201003009800102810101870100 8 14
     ∷ []
 
 -- Other refusals, by number and place; the detail is 0.
@@ -89,6 +125,8 @@ told =
     ∷ alike 0x300930073005020100300000 (at 7 11 0)
     -- "9 before 10": a certReqId of 9 octets beside a choice of edition 2
     ∷ each 0x30153013300D02090101010101010101013000A202A400 (at 9 21 0) (at 10 6 0)
+    -- the same with a version of 0, which edition 1 alone allows
+    ∷ each 0x30143012301002090101010101010101013003800100 (at 10 6 0) (at 9 19 0)
     -- the first of two long certReqIds
     ∷ alike 0x3022300F300D02090101010101010101013000300F300D02090101010101010101013000 (at 10 6 0)
     ∷ []

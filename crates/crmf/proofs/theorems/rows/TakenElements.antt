@@ -1,14 +1,14 @@
 -- The elements that a derivation takes in a form, in order. The form of each passes every test that all forms of the grammar pass; its mark is what
 -- occurs; its own row shows it, and its content stands where the row says. Assumes nothing.
-use Prim.Native.Nat.{ℕ, _+_, _-_}
+use Prim.Native.Nat.{ℕ, _+_}
 use native.Mathlib.Omega.{arith}
 use mathlib.Core.Path.{_≡_, refl, sym, ap, subst, _∙_}
 use mathlib.Core.Logic.{_⊎_, inl, inr, ⊎-elim}
 use mathlib.Core.Bool.{Bool, true, false, _&&_, and-eq-true-iff}
 use mathlib.Core.List.{List, [], _∷_, _++_, List·Memᴰ, List·Memᴰ·head, List·Memᴰ·tail, List·Memᴰ·not-nil, List·Memᴰ·cases-cons, List·Memᴰ·append-cases, List·Memᴰ·eq-of-singleton, Memᴰ·append-left, Memᴰ·append-right}
 use lib.Dec.{eqb}
-use lib.ListN.{length, length-append, drop}
-use lib.Seq.{slice, take-length}
+use lib.ListN.{length, length-append, take as take-octets, drop}
+use lib.Seq.{slice, drop-drop, drop-at}
 use Rattle.der.specs.meaning.Tree.{Tree, header, encode, WellFormed}
 use Rattle.crmf.specs.meaning.Notation.{markOf, Name, names, Inside, Form, Occurs, part, Parts, done, _then_, select}
 use Rattle.crmf.specs.meaning.Grammar.{content}
@@ -195,8 +195,8 @@ mutual
       (λ same. (
         rowWith (f .kind) here above,
         Memᴰ·append-right item
-        (Memᴰ·append-left (inner ++ later)
-        (subst (List·Memᴰ (rowWith (f .kind) here above)) (sym (row-own (f .kind) here above (subst (λ (y : Taken). eqb (y .form .kind) 0 ≡ false) same some))) (List·Memᴰ·head refl))),
+            (Memᴰ·append-left (inner ++ later)
+            (subst (List·Memᴰ (rowWith (f .kind) here above)) (sym (row-own (f .kind) here above (subst (λ (y : Taken). eqb (y .form .kind) 0 ≡ false) same some))) (List·Memᴰ·head refl))),
         rw same (record { kind = refl; first = refl; whole = refl; content = refl }),
       ))
       (λ more.
@@ -215,3 +215,36 @@ mutual
       → eqb (x .form .kind) 0 ≡ false → (r : Row) × List·Memᴰ r (rowsIn w n up extent) × ShownBy x r
   inside-shown unseen n up extent x at some = absurd (List·Memᴰ·not-nil at)
   inside-shown (parts m) n up extent x at some = taken-row m n up extent x at some
+
+-- An element that stands at a place has its content there after its header.
+content-stands : (s : List ℕ) (id first whole : ℕ) (c : List ℕ) → whole ≡ length (header id c ++ c) → slice first (first + whole) s ≡ header id c ++ c
+    → slice (first + headerLength whole c) (first + whole) s ≡ c
+content-stands s id first whole c sized own =
+    let h : headerLength whole c ≡ length (header id c) = omega (arith, sized, length-append (header id c) c) in
+    sym (drop-drop (headerLength whole c) first (take-octets (first + whole) s)) ∙ ap (drop (headerLength whole c)) own ∙ drop-at (header id c) c (headerLength whole c) (sym h)
+
+module _ (s : List ℕ) where
+  mutual
+    unfolding takes
+
+    -- The content of each element that is taken stands where its row says, if the elements stand in some octets.
+    pub taken-content : {R : ℕ → Bool} {ps : Parts} {t : Tree} (m : Matches R ps t) (left q : ℕ) → WellFormed left q t → StandsAt s q (encode t)
+        → (x : Taken) → List·Memᴰ x (takes m) → slice (x .first + headerLength (x .whole) (x .octets)) (x .first + x .whole) s ≡ x .octets
+    taken-content end left q wf there x at = absurd (List·Memᴰ·not-nil at)
+    taken-content (pass ok m) left q wf there x at = taken-content m left q wf there x at
+    taken-content (take {id = id} {first = p} {whole = w} {c = c} {inside = inside} {rest = rest} f among fits read kept within m) left q wf there x at =
+        let stand = standing q id p w c inside rest left wf in
+        let show = shown s left q id p w c inside rest stand there in
+        ⊎-elim (λ same. rw same (content-stands s id p w c (stand .sized) (show .own)))
+        (λ more.
+        ⊎-elim (λ inner. inside-content within (stand .deeper) (p + length (header id c)) (stand .within) (show .within) x inner)
+        (λ after. taken-content m left (p + w) (stand .further) (show .further) x after) (List·Memᴰ·append-cases (takesIn within) more))
+        (List·Memᴰ·cases-cons at)
+    taken-content (choose {id = id} {first = p} {whole = w} {c = c} {inside = inside} {rest = rest} n way m) left q wf there x at =
+        let stand = standing q id p w c inside rest left wf in
+        taken-content m left (p + w) (stand .further) (shown s left q id p w c inside rest stand there .further) x at
+
+    inside-content : {R : ℕ → Bool} {i : Inside} {t : Tree} (w : Within R i t) (left q : ℕ) → WellFormed left q t → StandsAt s q (encode t)
+        → (x : Taken) → List·Memᴰ x (takesIn w) → slice (x .first + headerLength (x .whole) (x .octets)) (x .first + x .whole) s ≡ x .octets
+    inside-content unseen left q wf there x at = absurd (List·Memᴰ·not-nil at)
+    inside-content (parts m) left q wf there x at = taken-content m left q wf there x at
