@@ -58,7 +58,15 @@ enum {
     PHAGUNDRO_FEW_MESSAGES         = 1024
 };
 
-/* An edition: the grammar that a batch is read or written in. Any other number is refused with PHAGUNDRO_UNKNOWN_EDITION. */
+/* An edition: the grammar that a batch is read or written in. Any other number is refused with PHAGUNDRO_UNKNOWN_EDITION.
+ *
+ * The differences between the two, of which D3 and D4 may also be in a carried certReq:
+ *     D1  agreeMAC or encryptedKey in a proof: edition 2 only
+ *     D2  pairs as octets in regInfo: edition 1 only; pairs as UTF-8 in regInfo: edition 2 only
+ *     D3  location beside method 0 in pkiPublicationInfo: edition 1 only
+ *     D4  serialNumber, signingAlg, issuerUID, subjectUID or a version other than 2 in a template: edition 1 only
+ * A batch with a form of the other edition alone is refused with PHAGUNDRO_OTHER_EDITION if it is in the other's grammar, and else with
+ * PHAGUNDRO_NOT_IN_GRAMMAR; a draft with one is refused with PHAGUNDRO_NO_SUCH_BATCH. */
 enum {
     PHAGUNDRO_RFC2511 = 1, /* edition 1, of 1999 */
     PHAGUNDRO_RFC4211 = 2  /* edition 2, of 2005 */
@@ -142,14 +150,14 @@ enum {
     PHAGUNDRO_KIND_CERT_REQ_ID = 4, /* certReqId, a signed whole number */
 
     /* of a template */
-    PHAGUNDRO_KIND_VERSION       = 10, /* version */
-    PHAGUNDRO_KIND_SERIAL_NUMBER = 11, /* serialNumber */
-    PHAGUNDRO_KIND_SIGNING_ALG   = 12, /* signingAlg */
+    PHAGUNDRO_KIND_VERSION       = 10, /* version, in edition 2 always 2 */
+    PHAGUNDRO_KIND_SERIAL_NUMBER = 11, /* serialNumber, edition 1 only */
+    PHAGUNDRO_KIND_SIGNING_ALG   = 12, /* signingAlg, edition 1 only */
     PHAGUNDRO_KIND_ISSUER        = 13, /* issuer */
     PHAGUNDRO_KIND_SUBJECT       = 15, /* subject */
     PHAGUNDRO_KIND_PUBLIC_KEY    = 16, /* publicKey */
-    PHAGUNDRO_KIND_ISSUER_UID    = 17, /* issuerUID */
-    PHAGUNDRO_KIND_SUBJECT_UID   = 18, /* subjectUID */
+    PHAGUNDRO_KIND_ISSUER_UID    = 17, /* issuerUID, edition 1 only */
+    PHAGUNDRO_KIND_SUBJECT_UID   = 18, /* subjectUID, edition 1 only */
     PHAGUNDRO_KIND_NOT_BEFORE    = 20, /* notBefore, in validity */
     PHAGUNDRO_KIND_NOT_AFTER     = 21, /* notAfter, in validity */
     PHAGUNDRO_KIND_EXTENSION     = 22, /* extension, one of extensions */

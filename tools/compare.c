@@ -134,7 +134,7 @@ static void json_entry(const int64_t *entry)
     const placed_rows *named = &sides[naming_side(entry)];
     size_t row = row_in(entry, naming_side(entry)), kind = row_of(named->table, row)[PHAGUNDRO_ROW_KIND];
     printf("{\"what\": %d, \"says\": \"%s\", \"kind\": %zu, \"name\": \"%s\", \"path\": [\"", (int)entry[PHAGUNDRO_ENTRY_WHAT],
-        difference_of((size_t)entry[PHAGUNDRO_ENTRY_WHAT]), kind, kind_name(kind));
+        change_of((size_t)entry[PHAGUNDRO_ENTRY_WHAT]), kind, kind_name(kind));
     show_path(named, row, "\", \"");
     fputs("\"], \"first\": ", stdout);
     json_field(entry, FIRST);

@@ -88,7 +88,13 @@ const char editions_help[] =
     INPUT_HELP
     "  --json         the answers as JSON\n"
     "Exit status: 0 accepted in an edition or both, 1 refused in both, 2 usage or file trouble.\n"
-    FAULTS_HELP;
+    FAULTS_HELP
+    "What is in the grammar of one edition alone is refused in the other with number 9, which names the first difference:\n"
+    "  D1  agreeMAC or encryptedKey in a proof: edition 2 only\n"
+    "  D2  pairs as octets in regInfo: edition 1 only; pairs as UTF-8 in regInfo: edition 2 only\n"
+    "  D3  location beside method 0 in pkiPublicationInfo: edition 1 only\n"
+    "  D4  serialNumber, signingAlg, issuerUID, subjectUID or a version other than 2 in a template: edition 1 only\n"
+    "It is not named if the other edition refuses the batch with number 10.\n";
 
 const char join_help[] =
     "phagundro join --edition N [--hex] [--output FILE] FILE FILE..\n"

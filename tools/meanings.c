@@ -24,6 +24,22 @@ static const struct {
     [PHAGUNDRO_NO_SUCH_MESSAGE] = {"the batch has no message at that position, or the comparison no entry of that number", false},
 };
 
+enum { D1 = 1, D2, D3, D4 };
+
+/* By the kind of the row that the form is in. */
+static const difference differences[] = {
+    [PHAGUNDRO_KIND_AGREE_MAC] = {D1, PHAGUNDRO_RFC4211, "agreeMAC in a proof"},
+    [PHAGUNDRO_KIND_ENCRYPTED_KEY] = {D1, PHAGUNDRO_RFC4211, "encryptedKey in a proof"},
+    [PHAGUNDRO_KIND_OCTET_PAIRS] = {D2, PHAGUNDRO_RFC2511, "pairs as octets in regInfo"},
+    [PHAGUNDRO_KIND_UTF8_PAIRS] = {D2, PHAGUNDRO_RFC4211, "pairs as UTF-8 in regInfo"},
+    [PHAGUNDRO_KIND_PKI_PUBLICATION_INFO] = {D3, PHAGUNDRO_RFC2511, "location beside method 0 in pkiPublicationInfo"},
+    [PHAGUNDRO_KIND_VERSION] = {D4, PHAGUNDRO_RFC2511, "version other than 2 in a template"},
+    [PHAGUNDRO_KIND_SERIAL_NUMBER] = {D4, PHAGUNDRO_RFC2511, "serialNumber in a template"},
+    [PHAGUNDRO_KIND_SIGNING_ALG] = {D4, PHAGUNDRO_RFC2511, "signingAlg in a template"},
+    [PHAGUNDRO_KIND_ISSUER_UID] = {D4, PHAGUNDRO_RFC2511, "issuerUID in a template"},
+    [PHAGUNDRO_KIND_SUBJECT_UID] = {D4, PHAGUNDRO_RFC2511, "subjectUID in a template"},
+};
+
 static const char *const verdicts[] = {
     [PHAGUNDRO_VERDICT_NO_PROOF] = "no proof",
     [PHAGUNDRO_VERDICT_RA_VERIFIED] = "raVerified",
@@ -35,7 +51,7 @@ static const char *const verdicts[] = {
     [PHAGUNDRO_VERDICT_MISPLACED_DH_MAC] = "choice 82 under keyEncipherment, or without both subject and publicKey",
 };
 
-static const char *const differences[] = {
+static const char *const changes[] = {
     [PHAGUNDRO_ONLY_FIRST] = "only in the first",
     [PHAGUNDRO_ONLY_SECOND] = "only in the second",
     [PHAGUNDRO_LEAVES_DIFFER] = "differs",
@@ -99,14 +115,19 @@ bool has_place(size_t number)
     return number < LENGTH(answers) && answers[number].has_place;
 }
 
+difference difference_in(size_t kind)
+{
+    return kind < LENGTH(differences) ? differences[kind] : (difference){0};
+}
+
 const char *verdict_of(size_t verdict)
 {
     return verdict < LENGTH(verdicts) ? verdicts[verdict] : "unknown";
 }
 
-const char *difference_of(size_t what)
+const char *change_of(size_t what)
 {
-    return what < LENGTH(differences) && differences[what] != NULL ? differences[what] : "unknown";
+    return what < LENGTH(changes) && changes[what] != NULL ? changes[what] : "unknown";
 }
 
 const char *kind_name(size_t kind)

@@ -60,10 +60,10 @@ static int status_of(size_t number)
     return number == PHAGUNDRO_ACCEPTED ? STATUS_ACCEPTED : STATUS_REFUSED;
 }
 
-static void json_reading(size_t edition, phagundro_answer answer)
+static void json_reading(size_t edition, phagundro_answer answer, octets batch)
 {
     putchar('{');
-    json_answer(edition, answer.number, answer.place);
+    json_answer(edition, answer.number, answer.place, batch);
     printf(", \"count\": %zu, \"rows\": ", answer.count);
     json_rows(table, answer.count);
     putchar('}');
@@ -74,7 +74,7 @@ static int read_command(const options *given)
     octets batch = batch_of(given);
     phagundro_answer answer = rows_of(given->edition, batch);
     if (given->given & JSON) {
-        json_reading(given->edition, answer);
+        json_reading(given->edition, answer, batch);
         putchar('\n');
     } else if (answer.number != PHAGUNDRO_ACCEPTED)
         show_refusal(stderr, given->edition, answer.number, answer.place, batch);
@@ -122,10 +122,10 @@ static void show_verdict(const options *given, phagundro_verdict_answer answer)
         printf("signed part: %zu bytes from byte %zu\n", answer.length, answer.from);
 }
 
-static void json_verdict(const options *given, phagundro_verdict_answer answer)
+static void json_verdict(const options *given, phagundro_verdict_answer answer, octets batch)
 {
     putchar('{');
-    json_answer(given->edition, answer.number, answer.place);
+    json_answer(given->edition, answer.number, answer.place, batch);
     printf(", \"position\": %zu", given->position);
     if (answer.number == PHAGUNDRO_ACCEPTED)
         printf(", \"verdict\": %zu, \"says\": \"%s\", \"from\": %zu, \"length\": %zu", answer.verdict, verdict_of(answer.verdict),
@@ -142,7 +142,7 @@ static int verdict_command(const options *given)
     if (answer.number == PHAGUNDRO_ACCEPTED && given->part != NULL)
         write_octets(given->part, answer.length == 0 ? NULL : batch.bytes + answer.from, answer.length);
     if (given->given & JSON)
-        json_verdict(given, answer);
+        json_verdict(given, answer, batch);
     else if (answer.number != PHAGUNDRO_ACCEPTED)
         show_refusal(stderr, given->edition, answer.number, answer.place, batch);
     else
@@ -160,10 +160,10 @@ static void show_duplicates(const options *given, phagundro_duplicate_answer ans
         puts("no two messages have the same certReqId");
 }
 
-static void json_duplicates(const options *given, phagundro_duplicate_answer answer)
+static void json_duplicates(const options *given, phagundro_duplicate_answer answer, octets batch)
 {
     putchar('{');
-    json_answer(given->edition, answer.number, answer.place);
+    json_answer(given->edition, answer.number, answer.place, batch);
     if (answer.number == PHAGUNDRO_ACCEPTED)
         printf(", \"found\": %s", answer.found ? "true" : "false");
     if (answer.found)
@@ -176,7 +176,7 @@ static int duplicates_command(const options *given)
     octets batch = batch_of(given);
     phagundro_duplicate_answer answer = phagundro_duplicates(given->edition, batch.bytes, batch.length);
     if (given->given & JSON)
-        json_duplicates(given, answer);
+        json_duplicates(given, answer, batch);
     else if (answer.number != PHAGUNDRO_ACCEPTED)
         show_refusal(stderr, given->edition, answer.number, answer.place, batch);
     else
@@ -193,7 +193,7 @@ static int editions_command(const options *given)
         phagundro_answer answer = rows_of(edition, batch);
         if (given->given & JSON) {
             fputs(edition == PHAGUNDRO_RFC2511 ? "[" : ",\n", stdout);
-            json_reading(edition, answer);
+            json_reading(edition, answer, batch);
         } else if (answer.number != PHAGUNDRO_ACCEPTED)
             show_refusal(stdout, edition, answer.number, answer.place, batch);
         else
@@ -277,7 +277,7 @@ static int cut_command(const options *given)
 static void json_compared(const comparison *of, phagundro_pair_answer answer)
 {
     putchar('{');
-    json_answer(of->edition, answer.number, answer.place);
+    json_answer(of->edition, answer.number, answer.place, of->batches[answer.file == PHAGUNDRO_FILE_SECOND ? SECOND : FIRST]);
     printf(", \"file\": %zu, \"count\": %zu, \"entries\": ", answer.file, answer.count);
     json_entries(of);
     puts("}");

@@ -1,6 +1,7 @@
 /* Answers shown. Places and lengths are decimal, as in the rows; bytes are hex. */
 #include "show.h"
 
+#include "differences.h"
 #include "elements.h"
 #include "meanings.h"
 
@@ -33,8 +34,12 @@ static void show_around(FILE *out, size_t place, octets batch)
 
 void show_refusal(FILE *out, size_t edition, size_t number, size_t place, octets batch)
 {
-    fprintf(out, "edition %zu%s: refused with number %zu, place %zu: %s\n", edition, edition_name(edition), number, place,
+    difference found = difference_at(edition, number, place, batch);
+    fprintf(out, "edition %zu%s: refused with number %zu, place %zu: %s", edition, edition_name(edition), number, place,
         meaning_of(number));
+    if (found.number > 0)
+        fprintf(out, " (D%zu: %s, edition %zu only)", found.number, found.form, found.edition);
+    fputc('\n', out);
     if (has_place(number))
         show_around(out, place, batch);
 }
@@ -90,9 +95,12 @@ void show_numbers(const size_t *table, size_t count)
             printf("%zu%c", row_of(table, i)[column], column + 1 < PHAGUNDRO_ROW_NUMBERS ? ' ' : '\n');
 }
 
-void json_answer(size_t edition, size_t number, size_t place)
+void json_answer(size_t edition, size_t number, size_t place, octets batch)
 {
+    difference found = difference_at(edition, number, place, batch);
     printf("\"edition\": %zu, \"number\": %zu, \"meaning\": \"%s\", \"place\": %zu", edition, number, meaning_of(number), place);
+    if (found.number > 0)
+        printf(", \"difference\": %zu, \"form\": \"%s\"", found.number, found.form);
 }
 
 void json_string(const char *words)

@@ -13,7 +13,7 @@ const size_t *row_of(const size_t *table, size_t row);
 /* Shows a line of bytes, at most 16 from the start on, with brackets around the place. */
 void show_line(FILE *out, size_t start, size_t place, octets batch);
 
-/* Shows a refusal in words, and the bytes around its place. */
+/* Shows a refusal in words, with the difference between the editions that it is for, if any, and the bytes around its place. */
 void show_refusal(FILE *out, size_t edition, size_t number, size_t place, octets batch);
 
 /* Shows the count of rows of an accepted batch. */
@@ -25,8 +25,9 @@ void show_tree(size_t edition, const size_t *table, size_t count, octets batch);
 /* Shows the rows as plain numbers, one row a line. */
 void show_numbers(const size_t *table, size_t count);
 
-/* Shows the members of a JSON object that every answer has: edition, number, meaning and place. */
-void json_answer(size_t edition, size_t number, size_t place);
+/* Shows the members of a JSON object that every answer on a batch has: edition, number, meaning and place, and the difference between the
+ * editions that a refusal is for, if any. */
+void json_answer(size_t edition, size_t number, size_t place, octets batch);
 
 /* Shows words in which no control character is, as a JSON string. */
 void json_string(const char *words);
