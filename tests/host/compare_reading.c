@@ -196,11 +196,11 @@ static int account_fields(void)
     static const uint8_t refused[] = {PHAGUNDRO_KIND_VERSION, PHAGUNDRO_KIND_SERIAL_NUMBER, PHAGUNDRO_KIND_SIGNING_ALG,
         PHAGUNDRO_KIND_ISSUER_UID, PHAGUNDRO_KIND_SUBJECT_UID};
     int lacking = missing(carried_fields > 0, "9 in a carried certReq for difference", TEMPLATE_FIELD, PHAGUNDRO_RFC4211);
-    printf("edition 2: 9 for D4 by kind");
-    for (size_t i = 0; i < sizeof refused; i++) {
-        printf("%s %u: %zu", i > 0 ? "," : "", refused[i], fields[refused[i]]);
+    for (size_t i = 0; i < sizeof refused; i++)
         lacking += missing(fields[refused[i]] > 0, "9 for a field of kind", refused[i], PHAGUNDRO_RFC4211);
-    }
+    printf("edition 2: 9 for D4 by kind");
+    for (size_t i = 0; i < sizeof refused; i++)
+        printf("%s %u: %zu", i > 0 ? "," : "", refused[i], fields[refused[i]]);
     printf("; in carried certReqs: %zu\n", carried_fields);
     return lacking;
 }

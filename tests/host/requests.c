@@ -103,8 +103,8 @@ static void proof(size_t sort)
         signature(sort);
 }
 
-/* The parts of a template; NEIGHBOURS are fields beside the other two that look alike, and SUBJECT_UID is one that edition 1 alone allows. A
- * subject is empty, or has an RDN of two attributes: TWO_ATTRIBUTES, and DESCENDING if they are out of order. */
+/* The parts of a template; NEIGHBOURS are fields beside the other two that look alike, and SUBJECT_UID is one that edition 1 alone allows.
+ * A subject is empty, or has an RDN of two attributes: TWO_ATTRIBUTES, and DESCENDING if they are out of order. */
 enum { SUBJECT = 1, PUBLIC_KEY = 2, NEIGHBOURS = 4, TEMPLATES = 8, TWO_ATTRIBUTES = 8, DESCENDING = 16, SUBJECT_UID = 32 };
 
 static void subject(size_t parts)
