@@ -13,7 +13,7 @@ TABLE = pathlib.Path(__file__).with_name("crmf_cases.txt")
 TOKEN = re.compile(r'"[^"]*"|\*[0-9]+|[A-Za-z0-9]+\{?|[_}]|\S')
 INDENT = "    "
 NAME = re.compile(r"([a-z0-9]+(?:\{_\})?) = (.*)")
-ANSWER = re.compile(r"(.*\S) -> ((?:0 \d+|8@\d+ [1-4])(?: (?:-|D[123]@\d+)){2})")
+ANSWER = re.compile(r"(.*\S) -> ((?:0 \d+|8@\d+ [1-4])(?: (?:-|D[1-4]@\d+)){2})")
 
 
 def parsed(table, form, made, below=None):

@@ -1,5 +1,5 @@
-"""A model of document 01's sections "The grammar" and "Rows" and of its order for reading, with document 02's A11, written from those
-documents alone.
+"""A model of document 01's sections "The grammar" and "Rows" and of its order for reading, with document 02's A4 and A11, written from
+those documents alone.
 
 `walk` is the walk of one edition, or of both editions' forms at once, over bytes whose nest is sound. `read` is the reading of a
 whole batch in an edition.
@@ -16,6 +16,8 @@ ANY = range(256)
 PROOFS = {0xA1: Kind.SIGNATURE, 0xA2: Kind.KEY_ENCIPHERMENT, 0xA3: Kind.KEY_AGREEMENT}
 CONTROL, INFO = bytes.fromhex("2B06010505070501"), bytes.fromhex("2B06010505070502")
 TEMPLATE_FIELD, CONTROL_ITEM, CHOICE = 10, 40, 60  # what is added to a tag or to a type's last octet to give a kind
+VERSION = 0x80
+OMITTED = (0x81, 0xA2, 0x87, 0x88)  # serialNumber, signingAlg, issuerUID and subjectUID, which a requester of edition 2 omits
 
 # Identifiers that a control's value may have; 30 alone for the kinds that aren't here
 CONTROL_VALUES = {
@@ -98,10 +100,10 @@ class Walk:
         self.rows.append(Row(kind, element.place, element.whole, parent, element.content_place))
         return len(self.rows) - 1
 
-    def alone(self, edition, difference, element):
-        """The element is in a form that one edition alone allows."""
+    def alone(self, edition, difference, element, detail=GrammarDetail.FITS_NO_PART):
+        """The element is in a form that one edition alone allows; in the other one the walk stops at it, with this detail."""
         if edition not in self.editions:
-            raise Break(element, GrammarDetail.LIST_OR_LOCATION if difference == Difference.LOCATION else GrammarDetail.FITS_NO_PART)
+            raise Break(element, detail)
         self.differences.append((element.place, edition, difference))
 
     # "Batch 30: message+. Message 30: certReq, proof?, regInfo?."
@@ -145,7 +147,7 @@ class Walk:
         row = self.row(Kind.CERT_TEMPLATE, element, parent)
         parts = Parts(element)
         fields = [
-            (0x80, lambda field, own: typed(field, Type.INTEGER)),
+            (VERSION, lambda field, own: typed(field, Type.INTEGER)),
             (0x81, lambda field, own: typed(field, Type.INTEGER)),
             (0xA2, lambda field, own: self.alg_id(field)),
             (0xA3, lambda field, own: self.wrapped_name(field)),
@@ -159,8 +161,17 @@ class Walk:
         for identifier, judge in fields:
             field = parts.may(identifier)
             if field:
+                self.request_field(field)
                 judge(field, self.row(Kind(TEMPLATE_FIELD + identifier % 16), field, row))
         parts.end()
+
+    # "In edition 2 those four now fit no part, and any version but 2 breaks its rule. They join the list as D4, edition 1 only, with the
+    # template field as its place"
+    def request_field(self, element):
+        if element.identifier in OMITTED:
+            self.alone(1, Difference.TEMPLATE_FIELD, element)
+        elif element.identifier == VERSION and element.content != b"\x02":
+            self.alone(1, Difference.TEMPLATE_FIELD, element, GrammarDetail.VALUE_BREAKS_RULE)
 
     # "Validity: notBefore A0 (Time)?, notAfter A1 (Time)?, at least one."
     def validity(self, element, own):
@@ -326,7 +337,7 @@ class Walk:
                 integer_to(method, 3)
                 location = info.may(*GENERAL_NAME)
                 if location and method.content == b"\x00":
-                    self.alone(1, Difference.LOCATION, location)
+                    self.alone(1, Difference.LOCATION, location, GrammarDetail.LIST_OR_LOCATION)
                 info.end()
                 if not inner.next_is([0x30]):
                     break

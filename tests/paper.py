@@ -1,6 +1,6 @@
 """The papers' numbers, each named once: the answers, the row kinds, the verdicts, the columns of a row and the limits of document 01, and
-of document 02 the fifth number of a row (A11), the columns of an entry (A5) and the details of request A9; and whose refusal or part it is,
-of two batches. The models and the tests use these names, and a test checks the C header against them."""
+of document 02 the difference D4 (A4), the fifth number of a row (A11), the columns of an entry (A5) and the details of request A9; and
+whose refusal or part it is, of two batches. The models and the tests use these names, and a test checks the C header against them."""
 
 import enum
 import typing
@@ -86,7 +86,16 @@ class Kind(Number):
 
 
 # Each kind that one edition alone has, with that edition
-KINDS_ALONE = {Kind.AGREE_MAC: 2, Kind.ENCRYPTED_KEY: 2, Kind.OCTET_PAIRS: 1, Kind.UTF8_PAIRS: 2}
+KINDS_ALONE = {
+    Kind.SERIAL_NUMBER: 1,
+    Kind.SIGNING_ALG: 1,
+    Kind.ISSUER_UID: 1,
+    Kind.SUBJECT_UID: 1,
+    Kind.AGREE_MAC: 2,
+    Kind.ENCRYPTED_KEY: 2,
+    Kind.OCTET_PAIRS: 1,
+    Kind.UTF8_PAIRS: 2,
+}
 
 
 class Row(typing.NamedTuple):
@@ -153,6 +162,7 @@ class Difference(Number):
     CHOICE = 1  # D1
     PAIRS = 2  # D2
     LOCATION = 3  # D3
+    TEMPLATE_FIELD = 4  # D4
 
 
 class Verdict(Number):

@@ -316,15 +316,31 @@ Node *extensions(void)
     return node;
 }
 
+/* A version: 2, or if others are allowed too one that is near, or any. */
+static Node *version(bool others)
+{
+    static const uint8_t near[][2] = {{0x00}, {0x01}, {0x03}, {0x82}, {0xFE}, {0xFF}, {0x02, 0x00}, {0x02, 0x02}};
+    size_t i = below(sizeof near / sizeof *near);
+    if (slip())
+        return leaf(0x80, "\x00\x02", 2);
+    if (!others || chance(4))
+        return leaf(0x80, (uint8_t[]){VERSION_2}, 1);
+    return chance(2) ? leaf(0x80, near[i], near[i][0] == VERSION_2 ? 2 : 1) : integer(0x80);
+}
+
 Node *template(void)
 {
+    enum { OMITTED = 1 << TAG_SERIAL_NUMBER | 1 << TAG_SIGNING_ALG | 1 << TAG_ISSUER_UID | 1 << TAG_SUBJECT_UID }; /* in edition 2 */
     Node *node = box(0x30);
     size_t wanted = chance(4) ? 0 : chance(4) ? (1 << TEMPLATE_TAGS) - 1 : below(1 << TEMPLATE_TAGS);
+    bool of_1 = (forms & FORMS_OF_1 && chance(3)) || slip();
+    if (!of_1)
+        wanted &= ~(size_t)OMITTED;
     for (int tag = 0; tag < TEMPLATE_TAGS; tag++) {
         if (!(wanted >> tag & 1))
             continue;
         switch (tag) {
-        case TAG_VERSION: add(node, integer(0x80)); break;
+        case TAG_VERSION: add(node, version(of_1)); break;
         case TAG_SERIAL_NUMBER: add(node, integer(0x81)); break;
         case TAG_SIGNING_ALG: add(node, alg_in(box(0xA2))); break;
         case TAG_ISSUER: add(node, tagged(0xA3, name())); break;

@@ -62,14 +62,6 @@ static size_t kind_of(const Rows *rows, int64_t row)
     return rows->numbers[PHAGUNDRO_ROW_NUMBERS * (size_t)row + PHAGUNDRO_ROW_KIND];
 }
 
-/* Whether an entry is below a certReq that both batches carry. */
-static bool is_carried(const Rows *rows, size_t row)
-{
-    while (row != 0 && kind_of(rows, (int64_t)row) != PHAGUNDRO_KIND_REG_INFO_CERT_REQ)
-        row = rows->numbers[PHAGUNDRO_ROW_NUMBERS * row + PHAGUNDRO_ROW_PARENT];
-    return row != 0;
-}
-
 static void occurred(size_t edition, size_t count)
 {
     static Rows first, second;
@@ -83,7 +75,7 @@ static void occurred(size_t edition, size_t count)
         size_t kind = row != 0 ? kind_of(&first, row) : kind_of(&second, entry_number(i, PHAGUNDRO_ENTRY_SECOND));
         whats[edition][what]++;
         (what == PHAGUNDRO_LEAVES_DIFFER ? differing : alone)[edition][kind]++;
-        carried += what == PHAGUNDRO_LEAVES_DIFFER && is_carried(&first, (size_t)row);
+        carried += what == PHAGUNDRO_LEAVES_DIFFER && is_carried(first.numbers, (size_t)row);
     }
 }
 
@@ -183,6 +175,7 @@ static void leave_out(size_t edition)
     for (size_t i = 0; i < containers_count; i++)
         differing[edition][containers[i]]++;
     differing[edition][PHAGUNDRO_KIND_RA_VERIFIED]++;
+    differing[edition][PHAGUNDRO_KIND_VERSION] += edition == PHAGUNDRO_RFC4211; /* it has version 2 alone */
 }
 
 static int account_lists(size_t edition)

@@ -21,7 +21,7 @@ static void differs(const char *what, size_t edition, size_t room)
 /* -- What occurred -- */
 
 enum { NEAR_THE_END = 65000, LEAST_STOPS = 100 };
-enum { CHOICE = 1, PAIRS, LOCATION, DIFFERENCES }; /* document 01's differences D1 to D3 */
+enum { CHOICE = 1, PAIRS, LOCATION, TEMPLATE_FIELD, DIFFERENCES }; /* the papers' differences D1 to D4 */
 enum { TAGS = 32 };
 static const uint8_t ruled[] = {1, 2, 3, 5, 6, 10, 12, 17}; /* the tag numbers of the types whose content has a rule */
 
@@ -29,16 +29,41 @@ static size_t answers[EDITIONS][NUMBERS]; /* of editions 1 and 2, given room */
 static size_t contents[EDITIONS][TAGS];   /* BAD_CONTENT, by the tag number at its place */
 static size_t short_tables, wrong_editions, calls, total_bytes;
 static bool stops[EDITIONS][PHAGUNDRO_LONGEST + 1]; /* places of NOT_IN_GRAMMAR */
-static size_t differences[EDITIONS][DIFFERENCES];   /* places of OTHER_EDITION, by listed difference */
+static size_t differences[EDITIONS][DIFFERENCES];   /* places of OTHER_EDITION, by listed difference; 0 if it can't be told */
+static size_t fields[KINDS], carried_fields;        /* of these D4 by the field's kind, and those in carried certReqs */
 static size_t shown[EDITIONS][KINDS];
 static size_t most_messages, longest_accepted, past_a_byte, near_the_end; /* of accepted inputs */
 
-/* The difference for which an edition refuses an element with this identifier. */
-static int difference_of(size_t edition, uint8_t id)
+/* The row that begins at a place, or 0 if none does. */
+static size_t row_at(const size_t *rows, size_t count, size_t place)
+{
+    for (size_t row = 1; row < count; row++)
+        if (rows[PHAGUNDRO_ROW_NUMBERS * row + PHAGUNDRO_ROW_FIRST] == place)
+            return row;
+    return 0;
+}
+
+/* The difference for which edition 2 refuses the element at a place: a template's field has a row in edition 1, and a location has none. If
+ * edition 1 refuses the batch for a long certReqId, it can't be told. */
+static int difference_in_2(size_t place)
+{
+    static size_t rows[TABLE];
+    if (input[place] == 0x04)
+        return PAIRS;
+    size_t count = reference_read(PHAGUNDRO_RFC2511, input, length, rows, TABLE).count, row = row_at(rows, count, place);
+    if (row == 0)
+        return count > 0 ? LOCATION : 0;
+    fields[rows[PHAGUNDRO_ROW_NUMBERS * row + PHAGUNDRO_ROW_KIND]]++;
+    carried_fields += is_carried(rows, row);
+    return TEMPLATE_FIELD;
+}
+
+/* The difference for which an edition refuses the element at a place. */
+static int difference_of(size_t edition, size_t place)
 {
     if (edition == PHAGUNDRO_RFC2511)
-        return id == 0x0C ? PAIRS : CHOICE;
-    return id == 0x04 ? PAIRS : LOCATION;
+        return input[place] == 0x0C ? PAIRS : CHOICE;
+    return difference_in_2(place);
 }
 
 static void accepted(size_t edition, const size_t *rows, size_t count)
@@ -60,7 +85,7 @@ static void occurred(size_t edition, reference_answer answer, const size_t *rows
     if (answer.number == PHAGUNDRO_NOT_IN_GRAMMAR)
         stops[edition][answer.place] = true;
     if (answer.number == PHAGUNDRO_OTHER_EDITION)
-        differences[edition][difference_of(edition, input[answer.place])]++;
+        differences[edition][difference_of(edition, answer.place)]++;
     if (answer.number == PHAGUNDRO_ACCEPTED)
         accepted(edition, rows, answer.count);
 }
@@ -157,11 +182,26 @@ static int account_differences(size_t edition)
 {
     int lacking = 0;
     for (size_t d = CHOICE; d < DIFFERENCES; d++) {
-        bool refused = d == PAIRS || d == (edition == PHAGUNDRO_RFC2511 ? CHOICE : LOCATION);
+        bool refused = d == PAIRS || (d == CHOICE) == (edition == PHAGUNDRO_RFC2511);
         printf("%s D%zu: %zu", d > CHOICE ? "," : "", d, differences[edition][d]);
         lacking += missing(!refused || differences[edition][d] > 0, "9 for difference", d, edition);
     }
     putchar('\n');
+    return lacking;
+}
+
+/* The fields of a template for which edition 2 refuses a batch. */
+static int account_fields(void)
+{
+    static const uint8_t refused[] = {PHAGUNDRO_KIND_VERSION, PHAGUNDRO_KIND_SERIAL_NUMBER, PHAGUNDRO_KIND_SIGNING_ALG,
+        PHAGUNDRO_KIND_ISSUER_UID, PHAGUNDRO_KIND_SUBJECT_UID};
+    int lacking = missing(carried_fields > 0, "9 in a carried certReq for difference", TEMPLATE_FIELD, PHAGUNDRO_RFC4211);
+    for (size_t i = 0; i < sizeof refused; i++)
+        lacking += missing(fields[refused[i]] > 0, "9 for a field of kind", refused[i], PHAGUNDRO_RFC4211);
+    printf("edition 2: 9 for D4 by kind");
+    for (size_t i = 0; i < sizeof refused; i++)
+        printf("%s %u: %zu", i > 0 ? "," : "", refused[i], fields[refused[i]]);
+    printf("; in carried certReqs: %zu\n", carried_fields);
     return lacking;
 }
 
@@ -181,6 +221,7 @@ static int account(size_t inputs)
     printf("%zu inputs of seed %llu, %zu bytes, %zu calls: no difference\n", inputs, (unsigned long long)seed, total_bytes, calls);
     for (size_t edition = PHAGUNDRO_RFC2511; edition <= PHAGUNDRO_RFC4211; edition++)
         lacking += account_answers(edition) + account_differences(edition) + account_kinds(edition);
+    lacking += account_fields();
     printf("accepted with more than 255 messages: %zu, at most %zu messages\n", past_a_byte, most_messages);
     printf("accepted with more than 65,000 bytes: %zu, at most %zu bytes\n", near_the_end, longest_accepted);
     lacking += missing(past_a_byte > 0, "accepted with more messages than", UINT8_MAX, 0);

@@ -96,6 +96,13 @@ size_t messages_of(const size_t *rows, size_t count)
     return found;
 }
 
+bool is_carried(const size_t *rows, size_t row)
+{
+    while (row != 0 && rows[PHAGUNDRO_ROW_NUMBERS * row + PHAGUNDRO_ROW_KIND] != PHAGUNDRO_KIND_REG_INFO_CERT_REQ)
+        row = rows[PHAGUNDRO_ROW_NUMBERS * row + PHAGUNDRO_ROW_PARENT];
+    return row != 0;
+}
+
 /* -- Numbers that are no edition -- */
 
 static const size_t no_editions[] = {0, 3, 256, 257, 258, 65537, 65538, 0x100000001, 0x100000002, SIZE_MAX, SIZE_MAX - 1,
@@ -186,6 +193,7 @@ int missing(bool occurs, const char *what, size_t which, size_t edition)
 static size_t edition_of(size_t kind)
 {
     switch (kind) {
+    case PHAGUNDRO_KIND_SERIAL_NUMBER: case PHAGUNDRO_KIND_SIGNING_ALG: case PHAGUNDRO_KIND_ISSUER_UID: case PHAGUNDRO_KIND_SUBJECT_UID:
     case PHAGUNDRO_KIND_OCTET_PAIRS:
         return PHAGUNDRO_RFC2511;
     case PHAGUNDRO_KIND_AGREE_MAC: case PHAGUNDRO_KIND_ENCRYPTED_KEY: case PHAGUNDRO_KIND_UTF8_PAIRS:

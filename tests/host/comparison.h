@@ -48,6 +48,9 @@ void show_input(void);
 /* The count of messages among these rows. */
 size_t messages_of(const size_t *rows, size_t count);
 
+/* Whether a row is below a certReq that is carried. */
+bool is_carried(const size_t *rows, size_t row);
+
 /* -- Numbers that are no edition -- */
 
 /* One of the numbers that look like an edition in a byte, in two or in four, or are very large. */

@@ -563,6 +563,35 @@ static void two_attributes(Draft *draft)
     add_row(draft, PHAGUNDRO_KIND_SUBJECT, at, draft->length - at, 4);
 }
 
+/* A template with one field that edition 1 alone allows, or with version 2; it is the message's own, or a carried one. */
+static void field_of_edition_1(Draft *draft)
+{
+    static const struct {
+        size_t kind, size;
+        uint8_t octets[5];
+    } fields[] = {
+        {PHAGUNDRO_KIND_VERSION, 3, {0x80, 0x01, 0x02}},
+        {PHAGUNDRO_KIND_VERSION, 3, {0x80, 0x01, 0x01}},
+        {PHAGUNDRO_KIND_VERSION, 4, {0x80, 0x02, 0x02, 0x00}},
+        {PHAGUNDRO_KIND_VERSION, 4, {0x80, 0x02, 0x00, 0x02}}, /* no edition's: not the shortest */
+        {PHAGUNDRO_KIND_SERIAL_NUMBER, 3, {0x81, 0x01, 0x02}},
+        {PHAGUNDRO_KIND_SIGNING_ALG, 5, {0xA2, 0x03, 0x06, 0x01, 0x2A}},
+        {PHAGUNDRO_KIND_ISSUER_UID, 3, {0x87, 0x01, 0x00}},
+        {PHAGUNDRO_KIND_SUBJECT_UID, 3, {0x88, 0x01, 0x00}},
+    };
+    size_t i = below(sizeof fields / sizeof *fields), template = 4;
+    open_request(draft);
+    if (chance(2)) {
+        add_row(draft, PHAGUNDRO_KIND_REG_INFO, 0, 0, 1);
+        add_row(draft, PHAGUNDRO_KIND_REG_INFO_CERT_REQ, 0, 0, 5);
+        add_row(draft, PHAGUNDRO_KIND_CERT_REQ, 0, 0, 6);
+        add_row(draft, PHAGUNDRO_KIND_CERT_REQ_ID, 0, 3, 7);
+        add_row(draft, PHAGUNDRO_KIND_CERT_TEMPLATE, 0, 0, 7);
+        template = 9;
+    }
+    add_row(draft, fields[i].kind, add_octets(draft, fields[i].octets, fields[i].size), fields[i].size, template);
+}
+
 /* Containers inside each other. */
 static void deep_containers(Draft *draft)
 {
@@ -641,6 +670,7 @@ const DraftSort draft_sorts[DRAFT_SORTS] = {
     {"near or past the longest", OPEN, 4, long_batch},
     {"a leaf near or past the deepest", OPEN, 8, deep_leaf},
     {"two attributes in an RDN", OPEN, 8, two_attributes},
+    {"a field of edition 1 alone, or version 2", OPEN, 16, field_of_edition_1},
     {"containers too deep", NO_BATCH, 3, deep_containers},
     {"many rows", OPEN, 2, many_rows},
     {"many empty leaves", NO_BATCH, 2, many_empty_leaves},

@@ -1,5 +1,6 @@
-/* The reading of a batch by document 01, with document 02's A11: one function for each construct of its grammar, which takes the elements
- * inside from left to right, judges each before the next, and says where it stops. Identifiers are in hex, as the paper writes them. */
+/* The reading of a batch by document 01, with document 02's A4 and A11: one function for each construct of its grammar, which takes the
+ * elements inside from left to right, judges each before the next, and says where it stops. Identifiers are in hex, as the papers write
+ * them. */
 #include "reference.h"
 
 #include "paper.h"
@@ -321,7 +322,32 @@ static bool template_field(Walk *walk, int tag, Element field, size_t self)
     }
 }
 
-static bool template(Walk *walk, Element whole, size_t parent)
+/* Whether edition 1 alone allows a field: document 02's A4. */
+static bool of_edition_1(const Walk *walk, int tag, Element field)
+{
+    switch (tag) {
+    case TAG_VERSION:
+        return size_of(field) != 1 || content_of(walk, field)[0] != VERSION_2 || reference_fault == VERSION_2_MARKED;
+    case TAG_SERIAL_NUMBER: return reference_fault != SERIAL_NUMBER_READABLE;
+    case TAG_SIGNING_ALG: case TAG_ISSUER_UID: case TAG_SUBJECT_UID: return true;
+    default: return false;
+    }
+}
+
+/* Whether the edition allows a field of a template; edition 2 doesn't enter one that it refuses. */
+static bool allows(Walk *walk, int tag, Element field, Element template, bool carried)
+{
+    if (!of_edition_1(walk, tag, field) || (carried && reference_fault == CARRIED_FREE_OF_D4))
+        return true;
+    if (walk->edition == EDITION_1) {
+        alone(walk, reference_fault == TEMPLATE_PLACE ? template : field);
+        return true;
+    }
+    bool entered = tag == TAG_SIGNING_ALG && reference_fault == SIGNING_ALG_ENTERED;
+    return (!entered || alg_id(walk, field)) && stop(walk, field.at);
+}
+
+static bool template(Walk *walk, Element whole, size_t parent, bool carried)
 {
     static const uint8_t ids[TEMPLATE_TAGS] = {0x80, 0x81, 0xA2, 0xA3, 0xA4, 0xA5, 0xA6, 0x87, 0x88, 0xA9};
     size_t self = row(walk, KIND_CERT_TEMPLATE, whole, parent);
@@ -330,6 +356,8 @@ static bool template(Walk *walk, Element whole, size_t parent)
         if (!ahead(walk, &parts, ids[tag]))
             continue;
         Element field = take(walk, &parts);
+        if (!allows(walk, tag, field, whole, carried))
+            return false;
         if (!template_field(walk, tag, field, row(walk, KIND_TEMPLATE_FIELD + (size_t)tag, field, self)))
             return false;
     }
@@ -456,7 +484,7 @@ static bool cert_req(Walk *walk, Element whole, size_t parent, bool carried)
     row(walk, KIND_CERT_REQ_ID, id, self);
     if (size_of(id) > LONGEST_ID && walk->long_id == NOWHERE && !(carried && reference_fault == OWN_IDS))
         walk->long_id = id.at;
-    if (!need(walk, &parts, 0x30, &part) || !template(walk, part, self))
+    if (!need(walk, &parts, 0x30, &part) || !template(walk, part, self, carried))
         return false;
     if (ahead(walk, &parts, 0x30) && !controls(walk, take(walk, &parts), self))
         return false;

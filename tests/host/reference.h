@@ -1,4 +1,4 @@
-/* The reading, the writing, the verdict and the duplicate search by document 01 and by document 02's A3 and A11, and by document 02 the
+/* The reading, the writing, the verdict and the duplicate search by document 01 and by document 02's A3, A4 and A11, and by document 02 the
  * joining and the cutting (A13) and what changed between two batches (A5), written from those papers alone. The comparisons check the
  * archive against them. */
 #ifndef REFERENCE_H
@@ -121,7 +121,15 @@ enum {
     PART_OF_NEITHER = 50,       /* the part said to be neither batch's where both have the row */
     PART_CUT_SHORT = 51,        /* a part one byte shorter than its row */
     PART_OF_CONTENT = 52,       /* a part without its identifier and length octets */
-    BYTE_OF_ENTRIES = 53        /* an entry's number kept in a byte */
+    BYTE_OF_ENTRIES = 53,       /* an entry's number kept in a byte */
+
+    /* in the template's fields that edition 1 alone allows */
+    VERSION_2_MARKED = 54,       /* version 2 refused in edition 2 as well */
+    CARRIED_FREE_OF_D4 = 55,     /* a field of edition 1 alone not seen inside a carried certReq */
+    TEMPLATE_PLACE = 56,         /* OTHER_EDITION for a template's field at the template */
+    SIGNING_ALG_ENTERED = 57,    /* signingAlg entered in edition 2 before it is refused */
+    SERIAL_NUMBER_READABLE = 58, /* serialNumber read in edition 2 */
+    DRAFTS_OF_EDITION_1 = 59     /* drafts with fields that edition 2 omits written there as in edition 1 */
 };
 extern int reference_fault;
 

@@ -107,12 +107,27 @@ static bool alike(const Draft *draft, const size_t *ours, const size_t *theirs)
         content_right(draft, ours, theirs);
 }
 
+static bool omitted_in_edition_2(size_t kind)
+{
+    return kind == KIND_SERIAL_NUMBER || kind == KIND_SIGNING_ALG || kind == KIND_ISSUER_UID || kind == KIND_SUBJECT_UID;
+}
+
+/* The edition in which the batch is read: the one that is asked for, but for a planted fault. */
+static size_t edition_of(const Draft *draft, size_t asked)
+{
+    size_t i = 0;
+    while (i < draft->count && !omitted_in_edition_2(row(draft, i)[ROW_KIND]))
+        i++;
+    return reference_fault == DRAFTS_OF_EDITION_1 && i < draft->count ? EDITION_1 : asked;
+}
+
 /* Whether the draft describes an acceptable batch, which is then built. */
 static bool describes(Draft *draft, size_t edition, size_t numbers)
 {
     static size_t table[ROW_NUMBERS * MOST_ROWS];
     if (numbers == 0 || numbers % ROW_NUMBERS != 0 || build(draft, 0, 1) != draft->count)
         return false;
+    edition = edition_of(draft, edition);
     reference_answer shown = reference_read(edition, draft->batch, draft->length, table, ROW_NUMBERS * MOST_ROWS);
     if (shown.number != ACCEPTED || shown.count != draft->count)
         return false;

@@ -103,9 +103,9 @@ static void proof(size_t sort)
         signature(sort);
 }
 
-/* The parts of a template; NEIGHBOURS are fields beside the other two that look alike. A subject is empty, or has an RDN of two attributes:
- * TWO_ATTRIBUTES, and DESCENDING if they are out of order. */
-enum { SUBJECT = 1, PUBLIC_KEY = 2, NEIGHBOURS = 4, TEMPLATES = 8, TWO_ATTRIBUTES = 8, DESCENDING = 16 };
+/* The parts of a template; NEIGHBOURS are fields beside the other two that look alike, and SUBJECT_UID is one that edition 1 alone allows.
+ * A subject is empty, or has an RDN of two attributes: TWO_ATTRIBUTES, and DESCENDING if they are out of order. */
+enum { SUBJECT = 1, PUBLIC_KEY = 2, NEIGHBOURS = 4, TEMPLATES = 8, TWO_ATTRIBUTES = 8, DESCENDING = 16, SUBJECT_UID = 32 };
 
 static void subject(size_t parts)
 {
@@ -123,6 +123,8 @@ static void template(size_t parts)
 {
     size_t end = start;
     if (parts & NEIGHBOURS)
+        WRITE(0xA9, 0x07, 0x30, 0x05, 0x06, 0x01, 0x2A, 0x04, 0x00);
+    if (parts & SUBJECT_UID)
         WRITE(0x88, 0x01, 0x00);
     if (parts & PUBLIC_KEY) {
         size_t key = start;
@@ -211,7 +213,8 @@ static size_t at_random(uint8_t *batch)
     for (size_t left = 1 + below(8); left > 0; left--) {
         int64_t carried = near_number();
         size_t attributes = below(4) == 0 ? TWO_ATTRIBUTES + (below(20) == 0 ? DESCENDING : 0) : 0;
-        message(near_number(), below(TEMPLATES) + attributes, below(SORTS), below(4) == 0 ? &carried : NULL);
+        size_t unique_id = below(40) == 0 ? SUBJECT_UID : 0;
+        message(near_number(), below(TEMPLATES) + attributes + unique_id, below(SORTS), below(4) == 0 ? &carried : NULL);
     }
     return finish(batch);
 }
