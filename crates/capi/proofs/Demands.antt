@@ -4,17 +4,19 @@
 -- Demand 1. "Any bytes, table, draft or number may come in, and each call ends with its answer or a numbered refusal and a place. The refusal
 -- is the one that document 01 fixes for that input. A refused call leaves every lent table and output unchanged." One theorem for each call:
 -- those of the crates, and the same calls from C.
-pub use Rattle.capi.proofs.Demand1.{accepting, reading, writing, joining, cutting, judging, signed-part, searching}
-pub use Rattle.capi.proofs.Demand1.{c-accepting, c-reading, c-writing, c-joining, c-cutting, c-judging, c-judging-number, c-searching}
+pub use Rattle.capi.proofs.Demand1.{accepting, reading, writing, joining, cutting, comparing, finding-part, handing-part, judging, signed-part, searching}
+pub use Rattle.capi.proofs.Demand1.{c-accepting, c-reading, c-writing, c-joining, c-cutting, c-comparing, c-finding-part, c-judging, c-judging-number, c-searching}
 -- The one number of `c-judging-number` is never both: a verdict is at most 7, and a refusal is 256 and more.
 pub use Rattle.capi.proofs.NumberTells.{number-tells}
 -- For each input there is exactly one answer, and one table or output afterwards, that the relation of a call allows: the computed ones.
 pub use Rattle.editions.proofs.Laws.{answers-exactly, answers-once, reads-exactly, reads-once}
 pub use Rattle.writer.proofs.Laws.{writes-exactly, writes-once, joins-once, cuts-once}
+pub use Rattle.compare.proofs.Laws.{compares-once, finds-once}
 pub use Rattle.verdict.proofs.Laws.{judges-exactly, searches-exactly}
 -- "A refused call leaves every lent table and output unchanged."
 pub use Rattle.editions.proofs.Laws.{table-stays}
 pub use Rattle.writer.proofs.Laws.{output-stays, join-stays, cut-stays}
+pub use Rattle.compare.proofs.Laws.{compare-stays}
 -- Demand 2. "Given room, a batch is accepted exactly when it is the DER encoding of CertReqMessages in the chosen edition (RFC 2511 or RFC
 -- 4211), as document 01 bounds and defines it": by reading, and without a table.
 pub use Rattle.editions.proofs.Laws.{read-exactly, accepted-exactly}
@@ -35,6 +37,8 @@ pub use Rattle.writer.proofs.Laws.{reads-back}
 -- tables held before: if none of the listed differences occurs in the bytes, the opposite reader, lent a table of the same length, accepts
 -- them with the same count and the same rows, number for number"
 pub use Rattle.editions.proofs.Laws.{same-rows}
+-- "the listed differences": whatever occurs is one of D1 to D4.
+pub use Rattle.editions.proofs.Laws.{difference-listed}
 -- "if one occurs, it answers refusal 9."
 pub use Rattle.editions.proofs.Laws.{differing}
 -- "For all bytes, accepted or not, and whatever table it is lent, a reader answers refusal 9 exactly when they are in the opposite edition's

@@ -4,7 +4,7 @@ use Rattle.crmf.specs.meaning.Details.{fitsNoPart, valueBroken, listOrLo
 use Rattle.crmf.specs.meaning.Notation.{Mark, alone}
 
 -- Each as the mark of a form: the edition that alone allows it, the difference's number, and request A9's detail in the other edition.
-abbrev pub differences : List Mark
+unfoldable pub differences : List Mark
 differences =
     -- "(D1) choices A3 and A4 are edition 2 only"
     alone 2 1 fitsNoPart

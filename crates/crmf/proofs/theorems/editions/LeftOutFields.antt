@@ -1,32 +1,29 @@
 -- Document 02's A4. A fourth difference occurs exactly where a row shows a field that edition 2 has left out: a test of the grammar that computes
 -- says that a form is marked so exactly by its kind. And whatever occurs is on the list of the differences. Assumes nothing.
 use Prim.Native.Nat.{ℕ, _+_}
-use native.Mathlib.Omega.{arith}
 use mathlib.Core.Path.{_≡_, refl, sym, ap, subst, _∙_}
 use mathlib.Core.Logic.{_↔_, _⊎_, inl, inr}
 use mathlib.Core.Bool.{Bool, true, false, not, _&&_, _||_, and-eq-true-iff}
-use mathlib.Core.List.{List, [], _∷_, List·Memᴰ, List·Memᴰ·head, List·Memᴰ·tail, List·Memᴰ·not-nil, List·Memᴰ·eq-of-singleton}
-use lib.Dec.{T, eqb}
+use mathlib.Core.List.{List, [], _∷_, List·Memᴰ, List·Memᴰ·head, List·Memᴰ·not-nil, List·Memᴰ·eq-of-singleton}
+use lib.Dec.{eqb}
 use lib.Seq.{slice, take-length}
 use borrow.Author.Tests.{eqb-true, eq-eqb, not-true}
 use Rattle.der.specs.meaning.Tree.{Tree, encode, WellFormed}
 use Rattle.crmf.specs.meaning.Details.{fitsNoPart, valueBroken}
 use Rattle.crmf.specs.meaning.Kinds as kinds
 use Rattle.crmf.specs.meaning.Value.{isTwo}
-use Rattle.crmf.specs.meaning.Notation.{among, Mark, both, alone, Marking, whatever, unlessTwo, markOf, Name, names, Top, Form}
+use Rattle.crmf.specs.meaning.Notation.{among, Mark, both, alone, Marking, whatever, unlessTwo, markOf, names, Top, Form}
 use Rattle.crmf.specs.meaning.Grammar.{content}
-use Rattle.crmf.specs.meaning.Differences.{differences}
 use Rattle.crmf.specs.meaning.Language.{Matches, Occurrence, occurs, occurrences}
 use Rattle.crmf.specs.meaning.Rows.{Row, headerLength, noExtent, batchRows}
 use Rattle.crmf.specs.meaning.Fields.{StandsAt}
 use Rattle.crmf.specs.meaning.LeftOut.{omitted, contentOf, LeftOut, one-of-four, other-version}
-use Rattle.crmf.proofs.theorems.lists.Tests.{all, any, all-among}
+use Rattle.crmf.proofs.theorems.lists.Tests.{all, all-among}
 use Rattle.crmf.proofs.theorems.values.ValueRules.{same-octets, same-itself}
 use Rattle.crmf.proofs.theorems.grammar.Choices.{never-both}
 use Rattle.crmf.proofs.theorems.grammar.Containers.{allForms}
 use Rattle.crmf.proofs.theorems.grammar.ChoicesMatch.{holds-true, true-holds}
-use Rattle.crmf.proofs.theorems.lines.WordFields.{given}
-use Rattle.crmf.proofs.theorems.rows.TakenElements.{Taken, takes, formsPass, content-passes, occursAt, occurs-taken, taken-occurs, ShownBy, row-taken, taken-row, taken-content}
+use Rattle.crmf.proofs.theorems.rows.TakenElements.{Taken, takes, formsPass, content-passes, occurs-taken, taken-occurs, ShownBy, row-taken, taken-row, taken-content}
 
 -- the kinds of the five fields
 abbrev five : ℕ → Bool

@@ -1,7 +1,7 @@
 -- Whatever occurs is on the list of the differences, and each difference of the list is the mark of some form: tests that compute. So the
 -- differences' numbers are 1 to 4. Assumes nothing.
 use Prim.Native.Nat.{ℕ, _≤_}
-use mathlib.Core.Path.{_≡_, refl, sym, ap}
+use mathlib.Core.Path.{_≡_, refl, ap}
 use mathlib.Core.Logic.{⊎-elim}
 use mathlib.Core.Bool.{Bool, true, false, _&&_, and-eq-true-iff}
 use mathlib.Core.List.{List, [], _∷_, List·Memᴰ, List·Memᴰ·head, List·Memᴰ·tail, List·Memᴰ·not-nil, List·Memᴰ·eq-of-singleton}
@@ -19,7 +19,7 @@ use Rattle.crmf.proofs.theorems.lists.Tests.{all, any, any-getD, either
 use Rattle.crmf.proofs.theorems.grammar.Choices.{never-both}
 use Rattle.crmf.proofs.theorems.grammar.Containers.{allForms}
 use Rattle.crmf.proofs.theorems.lines.WordFields.{computed, given}
-use Rattle.crmf.proofs.theorems.rows.TakenElements.{Taken, formsPass, content-passes, occurs-taken}
+use Rattle.crmf.proofs.theorems.rows.TakenElements.{formsPass, content-passes, occurs-taken}
 
 -- whether two marks are the same
 abbrev sameMark : Mark → Mark → Bool
@@ -55,7 +55,7 @@ isListed both = true
 isListed (alone e d detail) = any (sameMark (alone e d detail)) differences
 
 all-listed : all (λ n. formsPass (λ f. isListed (given (f .marking))) (content n)) names ≡ true
-unfolding formsPass allForms content
+unfolding differences formsPass allForms content
 all-listed = refl
 
 -- so it is with what occurs at an element, by its marking
@@ -84,6 +84,7 @@ module _ {R : ℕ → Bool} (n : Name) {t : Tree} (m : Matches R (content n) t) 
 
   -- So its number is one of 1 to 4,
   pub numbered : (1 ≤ o .difference) × (o .difference ≤ 4)
+  unfolding differences
   numbered =
       let low = marks-at (λ k. within k) (alone (o .edition) (o .difference) (o .detail)) differences refl listed in
       let (some, few) = and-eq-true-iff (leb 1 (o .difference)) _ .0 low in
@@ -95,6 +96,7 @@ module _ {R : ℕ → Bool} (n : Name) {t : Tree} (m : Matches R (content n) t) 
 
   -- and a fourth is edition 1's.
   pub fourth-first : o .difference ≡ 4 → o .edition ≡ 1
+  unfolding differences
   fourth-first four =
       eqb-true (o .edition) 1 (go (eqb (o .difference) 4) (marks-at (λ k. own k) (alone (o .edition) (o .difference) (o .detail)) differences refl listed) (ap (λ (d : ℕ). eqb d 4) four))
     where
@@ -108,7 +110,7 @@ module _ {R : ℕ → Bool} (n : Name) {t : Tree} (m : Matches R (content n) t) 
 
 -- Each difference of the list is the mark of some form.
 pub listed-marks : (d : Mark) → List·Memᴰ d differences → (k : ℕ) × (given (line k .marking) ≡ d)
-unfolding computed line
+unfolding differences computed line
 listed-marks d at =
     let (k, same) = any-getD (λ x. sameMark (given (x .marking)) d) endLine lines (marks-at (λ k. any (λ x. sameMark (given (x .marking)) k) lines) d differences refl at) in
     (k, same-mark (given (line k .marking)) d same)

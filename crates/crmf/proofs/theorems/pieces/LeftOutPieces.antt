@@ -3,20 +3,17 @@
 use Prim.Native.Nat.{ℕ, _+_, _-_, _≤_}
 use native.Mathlib.Omega.{arith}
 use mathlib.Core.Path.{_≡_, refl, sym, ap, subst, _∙_}
-use mathlib.Core.Logic.{⊎-elim}
 use mathlib.Core.Bool.{Bool, true, false, not}
 use mathlib.Core.List.{List, [], _∷_, List·Memᴰ, List·Memᴰ·head, List·Memᴰ·tail, List·Memᴰ·not-nil}
-use lib.Dec.{T, eqb}
+use lib.Dec.{T}
 use lib.ListN.{length, take as first-octets, drop}
 use lib.Seq.{slice, drop-drop}
-use borrow.Author.Tests.{not-true}
 use Rattle.der.specs.meaning.Bounds.{longest}
 use Rattle.crmf.specs.meaning.Kinds as kinds
 use Rattle.crmf.specs.meaning.Notation.{among}
 use Rattle.crmf.specs.meaning.Rows.{Row, container, RightContent}
 use Rattle.crmf.specs.meaning.Pieces.{Piece, pieceOf, piecesOf}
 use Rattle.crmf.specs.meaning.LeftOut.{omitted, contentOf, LeftOut, one-of-four, other-version}
-use Rattle.crmf.proofs.theorems.lists.Tests.{all-among}
 use Rattle.crmf.proofs.theorems.rows.RowContents.{content-same}
 
 -- the row at the same place of two lists that show the same pieces shows the same piece

@@ -10,9 +10,9 @@ use lib.Dec.{eqb}
 use lib.ListN.{length, length-append, take as take-octets, drop}
 use lib.Seq.{slice, drop-drop, drop-at}
 use Rattle.der.specs.meaning.Tree.{Tree, header, encode, WellFormed}
-use Rattle.crmf.specs.meaning.Notation.{markOf, Name, names, Inside, Form, Occurs, part, Parts, done, _then_, select}
+use Rattle.crmf.specs.meaning.Notation.{markOf, Name, names, Inside, Form, part, Parts, done, _then_, select}
 use Rattle.crmf.specs.meaning.Grammar.{content}
-use Rattle.crmf.specs.meaning.Language.{partsAfter, Matches, end, pass, take, choose, Within, unseen, parts, Occurrence, occurs, occurrences, occurrencesIn}
+use Rattle.crmf.specs.meaning.Language.{Matches, end, pass, take, choose, Within, unseen, parts, Occurrence, occurs, occurrences, occurrencesIn}
 use Rattle.crmf.specs.meaning.Fields.{StandsAt}
 use Rattle.crmf.specs.meaning.Rows.{Row, Extent, headerLength, extentOf, rowWith, rowIf, parentIf, rows, rowsIn}
 use Rattle.crmf.proofs.theorems.lists.Tests.{all}
