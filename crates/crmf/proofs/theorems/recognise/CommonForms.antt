@@ -1,6 +1,6 @@
 -- What the recogniser says of elements in forms that both editions read: the walk that reads every form passes with as many rows, and its tally
 -- stays as it was otherwise. Assumes nothing.
-use Prim.Native.Nat.{ℕ, suc, _+_, _-_, _≤_}
+use Prim.Native.Nat.{ℕ, _+_, _-_, _≤_}
 use native.Mathlib.Omega.{arith}
 use mathlib.Core.Path.{_≡_, refl, sym, _∙_, ap}
 use mathlib.Core.Bool.{Bool, true, false, not, and-eq-true-iff}
