@@ -31,7 +31,7 @@ returns c =
     ∙ ap (firstPlace (a .end)) (sym (skip-end (a .bytes .now) (l .place) (a .end) (l .inv .0) (l .left) (c .if1 .taken)) ∙ l .inv .1)
 
 read-at-requires : tie.Need-read-at-requires Inv-loop μ-loop
-read-at-requires c κs = search needs
+read-at-requires c κs = tt
 
 sub-left : tie.Need-sub-left Inv-loop μ-loop
 sub-left c = search needs

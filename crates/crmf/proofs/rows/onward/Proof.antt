@@ -14,10 +14,10 @@ use Rattle.crmf.proofs.rows.onward.Statement.{statement}
 use Rattle.crmf.proofs.rows.onward.Tie as tie
 
 judge-of-requires : tie.Need-judge-of-requires
-judge-of-requires c κs = search needs
+judge-of-requires c κs = tt
 
 next-of-requires : tie.Need-next-of-requires
-next-of-requires c κs = search needs
+next-of-requires c κs = tt
 
 returns : tie.Need-returns
 returns c = λ k e.
@@ -38,7 +38,7 @@ part-selected-end : tie.Need-part-selected-end
 part-selected-end c = search needs
 
 selected-requires : tie.Need-selected-requires
-selected-requires c κs = search needs
+selected-requires c κs = tt
 
 add-word : tie.Need-add-word
 add-word c = search needs
@@ -47,7 +47,7 @@ word-requires : tie.Need-word-requires
 word-requires c κs = search needs
 
 next-of-requires-2 : tie.Need-next-of-requires-2
-next-of-requires-2 c κs = search needs
+next-of-requires-2 c κs = tt
 
 returns-2 : tie.Need-returns-2
 returns-2 c = λ k e.

@@ -15,13 +15,13 @@ sub-length : tie.Need-sub-length
 sub-length c = search needs
 
 item-of-requires : tie.Need-item-of-requires
-item-of-requires c κs = search needs
+item-of-requires c κs = tt
 
 parent-if-requires : tie.Need-parent-if-requires
-parent-if-requires c κs = search needs
+parent-if-requires c κs = tt
 
 kind-of-requires : tie.Need-kind-of-requires
-kind-of-requires c κs = search needs
+kind-of-requires c κs = tt
 
 returns : tie.Need-returns
 returns c =

@@ -23,7 +23,7 @@ returns-2 c =
     put-past (a .bounds .packed) (a .out .now) (a .row) (a .bounds .limit) (a .new) (c .before .before .if1 .left) (c .if2 .taken)
 
 number-requires : tie.Need-number-requires
-number-requires c κs = search needs
+number-requires c κs = tt
 
 mul-out : tie.Need-mul-out
 mul-out c = search needs

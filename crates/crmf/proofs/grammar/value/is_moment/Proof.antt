@@ -18,7 +18,7 @@ pair-at-requires-2 : tie.Need-pair-at-requires-2
 pair-at-requires-2 c κs = search needs
 
 days-in-requires : tie.Need-days-in-requires
-days-in-requires c κs = search needs
+days-in-requires c κs = tt
 
 add-pair-at-2 : tie.Need-add-pair-at-2
 add-pair-at-2 c = search needs

@@ -11,7 +11,7 @@ use Rattle.crmf.proofs.grammar.value.number.Statement.{statement}
 use Rattle.crmf.proofs.grammar.value.number.Tie as tie
 
 is-up-to-requires : tie.Need-is-up-to-requires
-is-up-to-requires c κs = search needs
+is-up-to-requires c κs = tt
 
 shared-slice-read-result : tie.Need-shared-slice-read-result
 unfolding isUpTo

@@ -100,16 +100,16 @@ module _ (t : ℕ) where
   list-calls = (element-below, element.Post)
 
   element-read-at-requires : element-lts.Need-read-at-requires element-calls element-at element.Post
-  element-read-at-requires c κs = search needs
+  element-read-at-requires c κs = tt
 
   element-line-for-requires : element-lts.Need-line-for-requires element-calls element-at element.Post
   element-line-for-requires c κs = c .before .before .before .pre .1 .0 .right
 
   element-enum-known-fitting : element-lts.Need-enum-known-fitting element-calls element-at element.Post
-  element-enum-known-fitting c = search needs
+  element-enum-known-fitting c = c .match .keys1
 
   element-enum-told : element-lts.Need-enum-told element-calls element-at element.Post
-  element-enum-told c = search needs
+  element-enum-told c = c .match .keys2
 
   element-returns : element-lts.Need-returns element-calls element-at element.Post
   element-returns c =
@@ -228,10 +228,10 @@ module _ (t : ℕ) where
       (omega (arith, i .inside .ensures .1))
 
   inside-inside-of-requires : inside-lts.Need-inside-of-requires inside-calls inside-at inside.Post
-  inside-inside-of-requires c κs = search needs
+  inside-inside-of-requires c κs = tt
 
   inside-rowless-requires : inside-lts.Need-rowless-requires inside-calls inside-at inside.Post
-  inside-rowless-requires c κs = search needs
+  inside-rowless-requires c κs = tt
 
   inside-add-result : inside-lts.Need-add-result inside-calls inside-at inside.Post
   inside-add-result c = let begun = c .before .before .before .before .before .before in omega (arith, begun .pre .1 .0)
@@ -287,10 +287,10 @@ module _ (t : ℕ) where
       )
 
   list-enum-known-step : list-lts.Need-enum-known-step list-calls list-at list.Post list-Inv-loop list-μ-loop
-  list-enum-known-step c = search needs
+  list-enum-known-step c = c .match .keys1
 
   list-enum-told : list-lts.Need-enum-told list-calls list-at list.Post list-Inv-loop list-μ-loop
-  list-enum-told c = search needs
+  list-enum-told c = c .match .keys2
 
   -- the step over the element at the loop's spot
   module _ (c : list-lts.After-element list-calls list-at list.Post list-Inv-loop list-μ-loop) where

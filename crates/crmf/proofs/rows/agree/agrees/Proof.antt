@@ -73,7 +73,7 @@ returns-3 c =
     same-places (rowFrom (a .draft .now) (a .at)) (entryRow (a .new)) (kind .if1 .left) (parent .if2 .left) (a .in-place) (placed .if3 .taken)
 
 container-requires : tie.Need-container-requires
-container-requires c κs = search needs
+container-requires c κs = tt
 
 returns-4 : tie.Need-returns-4
 returns-4 c =
@@ -86,10 +86,10 @@ returns-4 c =
     (sym (bears .container .ensures) ∙ c .if4 .taken)
 
 header-length-requires : tie.Need-header-length-requires
-header-length-requires c κs = search needs
+header-length-requires c κs = tt
 
 header-length-requires-2 : tie.Need-header-length-requires-2
-header-length-requires-2 c κs = search needs
+header-length-requires-2 c κs = tt
 
 returns-5 : tie.Need-returns-5
 returns-5 c =

@@ -14,7 +14,7 @@ use Rattle.crmf.proofs.rows.agree.own_rows.Statement.{statement}
 use Rattle.crmf.proofs.rows.agree.own_rows.Tie as tie
 
 item-entry-requires : tie.Need-item-entry-requires
-item-entry-requires c κs = search needs
+item-entry-requires c κs = tt
 
 compare-requires : tie.Need-compare-requires
 compare-requires c κs = search needs
