@@ -13,7 +13,7 @@ unfolding objectIdentifier
 returns c = sym (ap objectIdentifier (none (c .before .before .args .content .now) (c .if1 .taken)))
 
 lacks-80-requires : tie.Need-lacks-80-requires
-lacks-80-requires c κs = search needs
+lacks-80-requires c κs = tt
 
 sub-result : tie.Need-sub-result
 sub-result c = search needs

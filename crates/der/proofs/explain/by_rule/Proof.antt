@@ -13,7 +13,7 @@ cast-t7 : tie.Need-cast-t7
 cast-t7 c = search needs
 
 fault-requires : tie.Need-fault-requires
-fault-requires c κs = search needs
+fault-requires c κs = tt
 
 returns-2 : tie.Need-returns-2
 unfolding tagNumber

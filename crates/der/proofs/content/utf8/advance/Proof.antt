@@ -9,7 +9,7 @@ use Rattle.der.proofs.content.utf8.advance.Statement.{statement}
 use Rattle.der.proofs.content.utf8.advance.Tie as tie
 
 lead-requires : tie.Need-lead-requires
-lead-requires c κs = search needs
+lead-requires c κs = tt
 
 returns : tie.Need-returns
 unfolding utf8From

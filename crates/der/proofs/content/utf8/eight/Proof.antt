@@ -1,4 +1,5 @@
 -- `der::content::utf8::eight` meets its contract: the highest bits of eight octets are 0 exactly if each is below 80. Assumes nothing.
+use native.Mathlib.Nat.{le-refl}
 use Prim.Native.Nat.{ℕ, _+_, _-_, _*_}
 use mathlib.Core.List.{List}
 use mathlib.Core.Path.{_≡_, sym, ap, _∙_}
@@ -22,7 +23,7 @@ part-four-start : tie.Need-part-four-start
 part-four-start c = search needs
 
 part-four-end : tie.Need-part-four-end
-part-four-end c = search needs
+part-four-end c = le-refl _
 
 four-requires : tie.Need-four-requires
 four-requires c κs = search needs

@@ -1,4 +1,5 @@
 -- `der::content::utf8::step` meets its contract: each way out has a test that the definition asks for. Assumes nothing.
+use native.Mathlib.Nat.{le-refl}
 use mathlib.Core.Bool.{true, false≢true}
 use mathlib.Core.Logic.{_↔_}
 use mathlib.Core.Path.{_≡_, refl, sym, _∙_}
@@ -29,7 +30,7 @@ part-eight-start : tie.Need-part-eight-start
 part-eight-start c = search needs
 
 part-eight-end : tie.Need-part-eight-end
-part-eight-end c = search needs
+part-eight-end c = le-refl _
 
 eight-requires : tie.Need-eight-requires
 eight-requires c κs = search needs

@@ -7,7 +7,7 @@ use Rattle.der.proofs.element.between.between.Statement.{statement}
 use Rattle.der.proofs.element.between.between.Tie as tie
 
 lesser-requires : tie.Need-lesser-requires
-lesser-requires c κs = search needs
+lesser-requires c κs = tt
 
 part-result-start : tie.Need-part-result-start
 part-result-start c = search needs

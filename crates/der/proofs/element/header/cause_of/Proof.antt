@@ -27,7 +27,7 @@ shared-slice-read-is-allowed : tie.Need-shared-slice-read-is-allowed
 shared-slice-read-is-allowed c = search needs
 
 is-allowed-requires : tie.Need-is-allowed-requires
-is-allowed-requires c κs = search needs
+is-allowed-requires c κs = tt
 
 returns-2 : tie.Need-returns-2
 returns-2 c =
@@ -50,7 +50,7 @@ returns-5 c =
     way-reserved (e .before .before .before .before .before .before .args .bytes .now) (some e) (known (e .before)) (c .if5 .taken)
 
 wide-requires : tie.Need-wide-requires
-wide-requires c κs = search needs
+wide-requires c κs = tt
 
 sub-if6 : tie.Need-sub-if6
 sub-if6 c = search needs
