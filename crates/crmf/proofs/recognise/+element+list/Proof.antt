@@ -5,7 +5,6 @@ use Prim.Native.Nat.{ℕ, _+_, _-_, _*_, _≤_, _<_}
 use mathlib.Core.Path.{_≡_, sym, ap, subst, _∙_}
 use mathlib.Core.List.{List}
 use native.Mathlib.Omega.{arith}
-use borrow.Author.Needs.{needs}
 use borrow.Fn.Kinds.{In}
 use borrow.Fn.PlainCycle.{Measures, is, falls, and}
 use denote.Ref.{now}
@@ -116,7 +115,7 @@ module _ (t : ℕ) where
   element-sub-measure c = omega (arith, c .before .pre .1 .1)
 
   element-part-measure-start : element-lts.Need-part-measure-start element-calls element-at element.Post
-  element-part-measure-start c = search needs
+  element-part-measure-start c = omega arith
 
   element-part-measure-end : element-lts.Need-part-measure-end element-calls element-at element.Post
   element-part-measure-end c = le-refl _

@@ -1,4 +1,5 @@
 -- `crmf::rows::onward` meets its contract: the word's fields are the line's, and its code says whether the value selects. Assumes nothing.
+use native.Mathlib.Omega.{arith}
 use borrow.Author.Needs.{needs}
 use Prim.Native.Nat.{ℕ, _+_, _-_}
 use mathlib.Core.Path.{_≡_, sym, ap, _∙_}
@@ -29,19 +30,19 @@ returns c = λ k e.
     next ∙ goes-on (line k .next) _ content (c .if1 .taken) j coded
 
 sub-selected : tie.Need-sub-selected
-sub-selected c = search needs
+sub-selected c = omega arith
 
 part-selected-start : tie.Need-part-selected-start
-part-selected-start c = search needs
+part-selected-start c = omega arith
 
 part-selected-end : tie.Need-part-selected-end
-part-selected-end c = search needs
+part-selected-end c = omega arith
 
 selected-requires : tie.Need-selected-requires
 selected-requires c κs = tt
 
 add-word : tie.Need-add-word
-add-word c = search needs
+add-word c = omega arith
 
 word-requires : tie.Need-word-requires
 word-requires c κs = search needs

@@ -1,5 +1,5 @@
 -- `crmf::rows::row_above` meets its contract: the word's fields are the line's. Assumes nothing.
-use borrow.Author.Needs.{needs}
+use native.Mathlib.Omega.{arith}
 use Prim.Native.Nat.{ℕ, _+_}
 use mathlib.Core.Path.{_≡_, ap, ap₂, _∙_}
 use Rattle.crmf.specs.steps.grammar.Packed.{itemField, kindField}
@@ -16,7 +16,7 @@ row-of-requires : tie.Need-row-of-requires
 row-of-requires c κs = tt
 
 add-own : tie.Need-add-own
-add-own c = search needs
+add-own c = omega arith
 
 kind-of-requires : tie.Need-kind-of-requires
 kind-of-requires c κs = tt

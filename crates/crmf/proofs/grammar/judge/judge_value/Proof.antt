@@ -1,4 +1,5 @@
 -- `crmf::grammar::judge::judge_value` meets its contract: the word's fields are the line's, and each way out is what the judge says. Assumes nothing.
+use native.Mathlib.Omega.{arith}
 use borrow.Author.Needs.{needs}
 use Prim.Native.Nat.{ℕ, _+_}
 use mathlib.Core.Path.{_≡_, sym, ap, _∙_}
@@ -58,7 +59,7 @@ ways-requires : tie.Need-ways-requires
 ways-requires c κs = tt
 
 add-word : tie.Need-add-word
-add-word c = search needs
+add-word c = omega arith
 
 word-requires : tie.Need-word-requires
 word-requires c κs = search needs

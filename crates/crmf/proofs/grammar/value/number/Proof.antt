@@ -1,7 +1,6 @@
 -- `crmf::grammar::value::number` meets its contract: its test is the definition's, and if it passes, there is an octet to read.
 -- Assumes nothing.
 use mathlib.Core.Path.{sym, _∙_}
-use borrow.Author.Needs.{needs}
 use borrow.Author.Tests.{eqb-true}
 use native.Mathlib.Omega.{arith}
 use lib.ListN.{length}
@@ -27,7 +26,7 @@ unfolding number
 returns c = rw (number, sym (c .before .before .is-up-to .ensures), c .before .if1 .taken)
 
 add-result : tie.Need-add-result
-add-result c = search needs
+add-result c = omega arith
 
 returns-2 : tie.Need-returns-2
 unfolding number

@@ -3,7 +3,6 @@
 use Prim.Native.Nat.{ℕ, _+_, _≤_}
 use mathlib.Core.Bool.{_&&_}
 use mathlib.Core.Path.{_≡_, sym, ap₂, _∙_}
-use borrow.Author.Needs.{needs}
 use native.Mathlib.Omega.{arith}
 use lib.ListN.{getD}
 use Rattle.crmf.specs.meaning.Value.{digit}
@@ -12,13 +11,13 @@ use Rattle.crmf.proofs.grammar.value.pair_at.Statement.{statement}
 use Rattle.crmf.proofs.grammar.value.pair_at.Tie as tie
 
 shared-slice-read-tens : tie.Need-shared-slice-read-tens
-shared-slice-read-tens c = search needs
+shared-slice-read-tens c = omega arith
 
 add-ones : tie.Need-add-ones
-add-ones c = search needs
+add-ones c = omega arith
 
 shared-slice-read-ones : tie.Need-shared-slice-read-ones
-shared-slice-read-ones c = search needs
+shared-slice-read-ones c = omega arith
 
 is-digit-requires : tie.Need-is-digit-requires
 is-digit-requires c κs = tt

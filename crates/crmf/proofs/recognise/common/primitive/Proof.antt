@@ -1,6 +1,6 @@
 -- `crmf::recognise::common::primitive` meets its contract: one primitive element is a value after an OBJECT IDENTIFIER. Assumes nothing.
+use native.Mathlib.Omega.{arith}
 use native.Mathlib.Nat.{le-refl}
-use borrow.Author.Needs.{needs}
 use mathlib.Core.Bool.{Bool, true, false, not, _||_, false≢true}
 use mathlib.Core.Path.{_≡_, refl, sym, _∙_}
 use Rattle.crmf.proofs.theorems.recognise.RowlessInsides.{sole-starts, rowless-primitive}
@@ -8,7 +8,7 @@ use Rattle.crmf.proofs.recognise.common.primitive.Statement.{statement}
 use Rattle.crmf.proofs.recognise.common.primitive.Tie as tie
 
 shared-slice-read-id : tie.Need-shared-slice-read-id
-shared-slice-read-id c = search needs
+shared-slice-read-id c = omega arith
 
 sole-requires : tie.Need-sole-requires
 sole-requires c κs = tt

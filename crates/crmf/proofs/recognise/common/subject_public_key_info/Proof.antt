@@ -1,4 +1,5 @@
 -- `crmf::recognise::common::subject_public_key_info` meets its contract: an AlgorithmIdentifier, and a BIT STRING after it. Assumes nothing.
+use native.Mathlib.Omega.{arith}
 use native.Mathlib.Nat.{le-refl, le-add-right}
 use borrow.Author.Needs.{needs}
 use borrow.Author.Tests.{not-false}
@@ -23,7 +24,7 @@ add-to : tie.Need-add-to
 add-to c = search (needs, first (c .before) .fits)
 
 sub-type-and-value : tie.Need-sub-type-and-value
-sub-type-and-value c = search needs
+sub-type-and-value c = omega arith
 
 part-type-and-value-start : tie.Need-part-type-and-value-start
 part-type-and-value-start c = le-add-right _ _

@@ -1,4 +1,5 @@
 -- `crmf::recognise::common::type_and_value` meets its contract: an OBJECT IDENTIFIER, and a primitive element after it or nothing. Assumes nothing.
+use native.Mathlib.Omega.{arith}
 use native.Mathlib.Nat.{le-refl, le-add-right}
 use borrow.Author.Needs.{needs}
 use borrow.Author.Tests.{not-true, not-false}
@@ -23,7 +24,7 @@ add-to : tie.Need-add-to
 add-to c = search (needs, first (c .before) .fits)
 
 sub-object-identifier : tie.Need-sub-object-identifier
-sub-object-identifier c = search needs
+sub-object-identifier c = omega arith
 
 part-object-identifier-start : tie.Need-part-object-identifier-start
 part-object-identifier-start c = le-add-right _ _

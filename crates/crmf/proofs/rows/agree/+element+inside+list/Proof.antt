@@ -5,7 +5,6 @@ use mathlib.Core.Path.{_≡_, refl, sym, ap, subst, _∙_}
 use mathlib.Core.Bool.{true}
 use mathlib.Core.List.{List, []}
 use native.Mathlib.Omega.{arith}
-use borrow.Author.Needs.{needs}
 use borrow.Fn.Kinds.{In}
 use borrow.Fn.PlainCycle.{Measures, is, falls, and}
 use denote.Ref.{now}
@@ -162,7 +161,7 @@ module _ (t : ℕ) where
       (sym (own .own-rows .ensures .0 (h .number) (h .word)) ∙ c .if1 .taken)
 
   element-sub-t16 : element-lts.Need-sub-t16 element-calls element-at element.Post
-  element-sub-t16 c = search needs
+  element-sub-t16 c = omega arith
 
   element-inside-requires : element-lts.Need-inside-requires element-calls element-at element.Post
   element-inside-requires c κs =
@@ -212,7 +211,7 @@ module _ (t : ℕ) where
       (lent d .right, ordered d .ordered, omega (arith, ordered d .within, lent d .inside))
 
   element-sub-t17 : element-lts.Need-sub-t17 element-calls element-at element.Post
-  element-sub-t17 c = search needs
+  element-sub-t17 c = omega arith
 
   element-returns-4 : element-lts.Need-returns-4 element-calls element-at element.Post
   element-returns-4 c =

@@ -36,7 +36,7 @@ own-entry-requires : tie.Need-own-entry-requires
 own-entry-requires c κs = search needs
 
 sub-compare : tie.Need-sub-compare
-sub-compare c = search needs
+sub-compare c = omega arith
 
 compare-requires-2 : tie.Need-compare-requires-2
 compare-requires-2 c κs =
