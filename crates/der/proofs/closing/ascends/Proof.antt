@@ -24,10 +24,10 @@ unfolding ascends
 loop-holds c = (search needs, search needs, refl)
 
 sub-measure : tie.Need-sub-measure Inv-loop μ-loop
-sub-measure c = search needs
+sub-measure c = omega arith
 
 part-measure-start : tie.Need-part-measure-start Inv-loop μ-loop
-part-measure-start c = search needs
+part-measure-start c = omega arith
 
 part-measure-end : tie.Need-part-measure-end Inv-loop μ-loop
 part-measure-end c = le-refl _
@@ -81,19 +81,19 @@ add-end-2 : tie.Need-add-end-2 Inv-loop μ-loop
 add-end-2 c = search (needs, within (c .before .before))
 
 sub-descends : tie.Need-sub-descends Inv-loop μ-loop
-sub-descends c = search needs
+sub-descends c = omega arith
 
 part-descends-start : tie.Need-part-descends-start Inv-loop μ-loop
-part-descends-start c = search needs
+part-descends-start c = omega arith
 
 part-descends-end : tie.Need-part-descends-end Inv-loop μ-loop
-part-descends-end c = search needs
+part-descends-end c = omega arith
 
 sub-descends-2 : tie.Need-sub-descends-2 Inv-loop μ-loop
-sub-descends-2 c = search needs
+sub-descends-2 c = omega arith
 
 part-descends-start-2 : tie.Need-part-descends-start-2 Inv-loop μ-loop
-part-descends-start-2 c = search needs
+part-descends-start-2 c = omega arith
 
 part-descends-end-2 : tie.Need-part-descends-end-2 Inv-loop μ-loop
 part-descends-end-2 c = search (needs, within (c .before .before .before))

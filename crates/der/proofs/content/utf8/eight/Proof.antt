@@ -17,10 +17,10 @@ use Rattle.der.proofs.content.utf8.eight.Statement.{statement}
 use Rattle.der.proofs.content.utf8.eight.Tie as tie
 
 sub-four : tie.Need-sub-four
-sub-four c = search needs
+sub-four c = omega arith
 
 part-four-start : tie.Need-part-four-start
-part-four-start c = search needs
+part-four-start c = omega arith
 
 part-four-end : tie.Need-part-four-end
 part-four-end c = le-refl _
@@ -29,13 +29,13 @@ four-requires : tie.Need-four-requires
 four-requires c κs = search needs
 
 mul-all : tie.Need-mul-all
-mul-all c = search needs
+mul-all c = omega arith
 
 four-requires-2 : tie.Need-four-requires-2
 four-requires-2 c κs = search needs
 
 add-all : tie.Need-add-all
-add-all c = search needs
+add-all c = omega arith
 
 returns : tie.Need-returns
 returns c =

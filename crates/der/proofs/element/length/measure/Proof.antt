@@ -13,7 +13,7 @@ returns : tie.Need-returns
 returns c = c .nothing .ensures ∙ way-none (c .before .before .before .args .bytes .now) (c .before .if1 .taken)
 
 shared-slice-read-wide : tie.Need-shared-slice-read-wide
-shared-slice-read-wide c = search needs
+shared-slice-read-wide c = omega arith
 
 wide-requires : tie.Need-wide-requires
 wide-requires c κs = tt
@@ -37,7 +37,7 @@ returns-3 c =
     c .nothing2 .ensures ∙ way-short bs (d .before .before .if1 .left) (c .before .if3 .taken) (omega (arith, d .wide .ensures, c .before .before .if2 .left))
 
 shared-slice-read-wide-2 : tie.Need-shared-slice-read-wide-2
-shared-slice-read-wide-2 c = search needs
+shared-slice-read-wide-2 c = omega arith
 
 wide-requires-2 : tie.Need-wide-requires-2
 wide-requires-2 c κs = tt
@@ -56,7 +56,7 @@ mul-fit : tie.Need-mul-fit
 mul-fit c = omega (arith, c .before .before .wide2 .ensures, c .before .before .before .shared-slice-known3 .given 2)
 
 shared-slice-read-wide-3 : tie.Need-shared-slice-read-wide-3
-shared-slice-read-wide-3 c = search needs
+shared-slice-read-wide-3 c = omega arith
 
 wide-requires-3 : tie.Need-wide-requires-3
 wide-requires-3 c κs = tt
