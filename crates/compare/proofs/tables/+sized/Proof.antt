@@ -58,13 +58,13 @@ module _ (t : ℕ) where
   returns c = search needs
 
   sub-room : sized-lts.Need-sub-room calls sized-at sized.Post
-  sub-room c = search needs
+  sub-room c = omega arith
 
   room-requires : sized-lts.Need-room-requires calls sized-at sized.Post
-  room-requires c κs = search needs
+  room-requires c κs = tt
 
   sub-sized : sized-lts.Need-sub-sized calls sized-at sized.Post
-  sub-sized c = search needs
+  sub-sized c = omega arith
 
   sized-requires : sized-lts.Need-sized-requires calls sized-at sized.Post
   sized-requires c κs =
