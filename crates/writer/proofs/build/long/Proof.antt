@@ -2,6 +2,7 @@
 use Prim.Native.Nat.{ℕ}
 use borrow.Author.Needs.{needs}
 use lib.ListN.{replicate, length-replicate}
+use native.Mathlib.Nat.{le-refl}
 use native.Mathlib.Omega.{arith}
 use mathlib.Core.Path.{refl, sym}
 use Rattle.der.specs.meaning.Bounds.{longest}
@@ -35,7 +36,7 @@ returns-2 c =
     let built = c .before .before .before .before in
     let a = built .before .before .before .before .before .before .before .before .before .args in
     tried 2 (a .edition) (a .draft .now) (a .bytes .now) (a .output .now) (replicate {A = ℕ} longest 0) (built .build .result) (built .build .last .1 .1 .1 .1 .1 .0)
-    (λ shorter. omega arith) (built .build .ensures)
+    (λ shorter. le-refl 3) (built .build .ensures)
 
 pub long-spec : {M : Type 1} → statement M
 long-spec =
