@@ -1,27 +1,27 @@
 -- `compare::found::part_of` meets its contract: the row read back. Assumes nothing.
-use native.Mathlib.Omega.{arith}
 use Prim.Native.Nat.{ℕ}
 use mathlib.Core.Path.{ap₂}
+use borrow.Author.Needs.{needs}
 use Rattle.compare.proofs.found.part_of.Statement.{statement}
 use Rattle.compare.proofs.found.part_of.Tie as tie
 
 mul-first : tie.Need-mul-first
-mul-first c = omega arith
+mul-first c = search needs
 
 shared-slice-read-first : tie.Need-shared-slice-read-first
-shared-slice-read-first c = omega arith
+shared-slice-read-first c = search needs
 
 first-requires : tie.Need-first-requires
-first-requires c κs = tt
+first-requires c κs = search needs
 
 mul-whole : tie.Need-mul-whole
-mul-whole c = omega arith
+mul-whole c = search needs
 
 shared-slice-read-whole : tie.Need-shared-slice-read-whole
-shared-slice-read-whole c = omega arith
+shared-slice-read-whole c = search needs
 
 whole-requires : tie.Need-whole-requires
-whole-requires c κs = tt
+whole-requires c κs = search needs
 
 returns : tie.Need-returns
 returns c =
