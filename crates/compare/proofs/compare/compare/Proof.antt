@@ -20,10 +20,10 @@ refused-as {e} {first} {second} {old} {new} number place file same says =
     subst (λ (x : PairAnswer). Compares e first second old (x .number) (x .place) (x .file) (x .count) new) (sym same) says
 
 accept-requires : tie.Need-accept-requires
-accept-requires c κs = tt
+accept-requires c κs = search needs
 
 refuse-pair-requires : tie.Need-refuse-pair-requires
-refuse-pair-requires c κs = tt
+refuse-pair-requires c κs = search needs
 
 returns : tie.Need-returns
 returns c =
@@ -31,10 +31,10 @@ returns c =
     refused-as (found .result .number) (found .result .place) 1 (c .refuse-pair .ensures) (first-refused (found .ensures) (c .before .if1 .taken))
 
 accept-requires-2 : tie.Need-accept-requires-2
-accept-requires-2 c κs = tt
+accept-requires-2 c κs = search needs
 
 refuse-pair-requires-2 : tie.Need-refuse-pair-requires-2
-refuse-pair-requires-2 c κs = tt
+refuse-pair-requires-2 c κs = search needs
 
 returns-2 : tie.Need-returns-2
 returns-2 c =
@@ -47,7 +47,7 @@ find-in-tables-requires c κs =
     (ready (c .before .before .before .before .before .before .accept .ensures) (c .before .before .before .before .if1 .left), ready (c .before .before .before .accept2 .ensures) (c .before .if2 .left), refl)
 
 refuse-pair-requires-3 : tie.Need-refuse-pair-requires-3
-refuse-pair-requires-3 c κs = tt
+refuse-pair-requires-3 c κs = search needs
 
 same-length : tie.Need-same-length
 same-length c = search needs

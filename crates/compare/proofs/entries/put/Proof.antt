@@ -25,10 +25,10 @@ returns : tie.Need-returns
 returns c = λ d is before base counted old. old ∙ early (c .before .args .from) d before base (omega (arith, c .if1 .taken))
 
 mul-at : tie.Need-mul-at
-mul-at c = omega arith
+mul-at c = search needs
 
 add-if2 : tie.Need-add-if2
-add-if2 c = omega arith
+add-if2 c = search needs
 
 returns-2 : tie.Need-returns-2
 returns-2 c = λ d is before base counted old.
@@ -36,34 +36,34 @@ returns-2 c = λ d is before base counted old.
     old ∙ late (a .from) d before base (omega (arith, c .before .if1 .left)) (omega (arith, c .if2 .taken, ap length old, window-length (a .from) before base, ap (λ (n : ℕ). n - a .from) counted))
 
 cast-list : tie.Need-cast-list
-cast-list c = omega arith
+cast-list c = search needs
 
 mul-list : tie.Need-mul-list
-mul-list c = omega arith
+mul-list c = search needs
 
 slice-set-from-list : tie.Need-slice-set-from-list
 slice-set-from-list c = search needs
 
 cast-list-2 : tie.Need-cast-list-2
-cast-list-2 c = omega arith
+cast-list-2 c = search needs
 
 add-list : tie.Need-add-list
-add-list c = omega arith
+add-list c = search needs
 
 mul-list-2 : tie.Need-mul-list-2
-mul-list-2 c = omega arith
+mul-list-2 c = search needs
 
 slice-set-from-list-2 : tie.Need-slice-set-from-list-2
 slice-set-from-list-2 c = simp length-set (omega arith)
 
 cast-list-3 : tie.Need-cast-list-3
-cast-list-3 c = omega arith
+cast-list-3 c = search needs
 
 add-t9 : tie.Need-add-t9
-add-t9 c = omega arith
+add-t9 c = search needs
 
 mul-t10 : tie.Need-mul-t10
-mul-t10 c = omega arith
+mul-t10 c = search needs
 
 slice-set-from-list-3 : tie.Need-slice-set-from-list-3
 slice-set-from-list-3 c = simp length-set (omega arith)

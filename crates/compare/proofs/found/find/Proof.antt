@@ -5,10 +5,10 @@ use Rattle.compare.proofs.found.find.Statement.{statement}
 use Rattle.compare.proofs.found.find.Tie as tie
 
 pack-requires : tie.Need-pack-requires
-pack-requires c κs = tt
+pack-requires c κs = search needs
 
 pack-requires-2 : tie.Need-pack-requires-2
-pack-requires-2 c κs = tt
+pack-requires-2 c κs = search needs
 
 gather-requires : tie.Need-gather-requires
 gather-requires c κs =

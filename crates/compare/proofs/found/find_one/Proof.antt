@@ -9,7 +9,7 @@ merge-requires : tie.Need-merge-requires
 merge-requires c κs = search needs
 
 counted-requires : tie.Need-counted-requires
-counted-requires c κs = tt
+counted-requires c κs = search needs
 
 same-length : tie.Need-same-length
 same-length c = search needs

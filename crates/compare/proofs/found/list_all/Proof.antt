@@ -6,13 +6,13 @@ use Rattle.compare.proofs.found.list_all.Statement.{statement}
 use Rattle.compare.proofs.found.list_all.Tie as tie
 
 add-if1 : tie.Need-add-if1
-add-if1 c = omega arith
+add-if1 c = search needs
 
 merge-requires : tie.Need-merge-requires
 merge-requires c κs = search needs
 
 counted-requires : tie.Need-counted-requires
-counted-requires c κs = tt
+counted-requires c κs = search needs
 
 same-length : tie.Need-same-length
 same-length c = search needs
@@ -27,7 +27,7 @@ merge-requires-2 : tie.Need-merge-requires-2
 merge-requires-2 c κs = search needs
 
 counted-requires-2 : tie.Need-counted-requires-2
-counted-requires-2 c κs = tt
+counted-requires-2 c κs = search needs
 
 same-length-2 : tie.Need-same-length-2
 same-length-2 c = search needs
@@ -42,7 +42,7 @@ merge-requires-3 : tie.Need-merge-requires-3
 merge-requires-3 c κs = search needs
 
 counted-requires-3 : tie.Need-counted-requires-3
-counted-requires-3 c κs = tt
+counted-requires-3 c κs = search needs
 
 same-length-3 : tie.Need-same-length-3
 same-length-3 c = search needs

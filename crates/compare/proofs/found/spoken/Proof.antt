@@ -1,6 +1,7 @@
 -- `compare::found::spoken` meets its contract: the numbers of the entry are read back. Assumes nothing.
 use native.Mathlib.Omega.{arith}
 use Rattle.compare.proofs.theorems.ReadNumbers.{three-numbers, in-second, in-first, row-read, spoken-second, spoken-first}
+use borrow.Author.Needs.{needs}
 use Rattle.compare.proofs.found.spoken.Statement.{statement}
 use Rattle.compare.proofs.found.spoken.Tie as tie
 
@@ -8,7 +9,7 @@ shared-slice-copy-out-if1 : tie.Need-shared-slice-copy-out-if1
 shared-slice-copy-out-if1 c = let l = c .before .before .pre in omega (arith, three-numbers _ (l .change) (l .numbers))
 
 cast-if1 : tie.Need-cast-if1
-cast-if1 c = omega arith
+cast-if1 c = search needs
 
 shared-slice-copy-out-part-of : tie.Need-shared-slice-copy-out-part-of
 shared-slice-copy-out-part-of c = let l = c .before .before .before .before .pre in omega (arith, three-numbers _ (l .change) (l .numbers))

@@ -125,16 +125,16 @@ module _ (t : ℕ) where
         (omega (arith, e .one .there, standing-of .first .sized), omega (arith, e .two .there, standing-of .second .sized))
 
   both-add-container : both-lts.Need-add-container both-calls both-at both.Post
-  both-add-container c = omega arith
+  both-add-container c = search needs
 
   both-add-t14 : both-lts.Need-add-t14 both-calls both-at both.Post
-  both-add-t14 c = omega arith
+  both-add-t14 c = search needs
 
   both-kind-at-requires : both-lts.Need-kind-at-requires both-calls both-at both.Post
   both-kind-at-requires c κs = facing-of (c .before .before .before .before .before .before) .0
 
   both-container-requires : both-lts.Need-container-requires both-calls both-at both.Post
-  both-container-requires c κs = tt
+  both-container-requires c κs = search needs
 
   both-children-requires : both-lts.Need-children-requires both-calls both-at both.Post
   both-children-requires c κs =
@@ -177,7 +177,7 @@ module _ (t : ℕ) where
       (there, omega (arith, x .second .firsts j there, x .second .wholes j there, x .second .arranged .within j (omega (arith, there, x .second .sized))))
 
   both-equal-requires : both-lts.Need-equal-requires both-calls both-at both.Post
-  both-equal-requires c κs = tt
+  both-equal-requires c κs = search needs
 
   module _ (c : both-lts.After-equal both-calls both-at both.Post) where
     abbrev entered : both-lts.Start both-calls both-at both.Post
@@ -242,10 +242,10 @@ module _ (t : ℕ) where
       (went-none (begun .pre .1) (begun .args .from) (begun .args .list .now), refl)
 
   children-is-child-requires : children-lts.Need-is-child-requires children-calls children-at children.Post children-Inv-loop children-μ-loop
-  children-is-child-requires c κs = tt
+  children-is-child-requires c κs = search needs
 
   children-is-child-requires-2 : children-lts.Need-is-child-requires-2 children-calls children-at children.Post children-Inv-loop children-μ-loop
-  children-is-child-requires-2 c κs = tt
+  children-is-child-requires-2 c κs = search needs
 
   children-spot-requires : children-lts.Need-spot-requires children-calls children-at children.Post children-Inv-loop children-μ-loop
   children-spot-requires c κs =
@@ -290,7 +290,7 @@ module _ (t : ℕ) where
         (omega (arith, d .there, stands .second .sized), stands .second .few, omega (arith, stands .in-first, stands .first .few), stands .few)
 
   spot-is-child-requires : spot-lts.Need-is-child-requires spot-calls spot-at spot.Post
-  spot-is-child-requires c κs = tt
+  spot-is-child-requires c κs = search needs
 
   module _ (c : spot-lts.Then1 spot-calls spot-at spot.Post) where
     -- there is none of the second, so one of the first
@@ -314,7 +314,7 @@ module _ (t : ℕ) where
       step-first x (one-of-first found) (λ d. absurd (table-no-child (x .second) (none-of-second found) d)) (passed .0) (passed .1) (passed .2) (passed .3)
 
   spot-is-child-requires-2 : spot-lts.Need-is-child-requires-2 spot-calls spot-at spot.Post
-  spot-is-child-requires-2 c κs = tt
+  spot-is-child-requires-2 c κs = search needs
 
   module _ (c : spot-lts.Else1 spot-calls spot-at spot.Post) where
     -- there is one of the second
@@ -380,7 +380,7 @@ module _ (t : ℕ) where
       omega (arith, stands start .past-first, stands start .in-first)
 
   spot-by-position-requires : spot-lts.Need-by-position-requires spot-calls spot-at spot.Post
-  spot-by-position-requires c κs = tt
+  spot-by-position-requires c κs = search needs
 
   module _ (c : spot-lts.After-by-position spot-calls spot-at spot.Post) where
     abbrev asked-kinds : spot-lts.After-kind-at2 spot-calls spot-at spot.Post

@@ -13,7 +13,7 @@ after-requires : tie.Need-after-requires
 after-requires c κs = search needs
 
 add-t9 : tie.Need-add-t9
-add-t9 c = omega arith
+add-t9 c = search needs
 
 same-length : tie.Need-same-length
 same-length c = search needs

@@ -50,16 +50,16 @@ loop-holds : tie.Need-loop-holds Inv-loop μ-loop
 loop-holds c = (λ k below. absurd (omega arith), omega arith, c .if1 .left)
 
 shared-slice-read-differs : tie.Need-shared-slice-read-differs Inv-loop μ-loop
-shared-slice-read-differs c = omega arith
+shared-slice-read-differs c = search needs
 
 shared-slice-read-differs-2 : tie.Need-shared-slice-read-differs-2 Inv-loop μ-loop
 shared-slice-read-differs-2 c = let l = c .before .before .before .loop in omega (arith, l .inv .2)
 
 add-i : tie.Need-add-i Inv-loop μ-loop
-add-i c = omega arith
+add-i c = search needs
 
 loop-less : tie.Need-loop-less Inv-loop μ-loop
-loop-less c = omega arith
+loop-less c = search needs
 
 loop-again : tie.Need-loop-again Inv-loop μ-loop
 loop-again c =

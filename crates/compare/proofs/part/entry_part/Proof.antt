@@ -1,6 +1,6 @@
 -- `compare::part::entry_part` meets its contract: the part always lies within the file that it is of. Assumes nothing.
 use Prim.Native.Nat.{_+_}
-use native.Mathlib.Nat.{add-sub-cancel-left, le-add-right}
+use native.Mathlib.Nat.{add-sub-cancel-left}
 use native.Mathlib.Omega.{arith}
 use mathlib.Core.Path.{_≡_, refl}
 use mir.Syntax.{w64}
@@ -8,11 +8,12 @@ use mir.Val.{Fits}
 use Rattle.der.proofs.Laws.{take-drop}
 use Rattle.compare.proofs.theorems.RowOrder.{same-or-not}
 use Rattle.compare.proofs.theorems.Comparing.{part-within}
+use borrow.Author.Needs.{needs}
 use Rattle.compare.proofs.part.entry_part.Statement.{statement}
 use Rattle.compare.proofs.part.entry_part.Tie as tie
 
 find-part-requires : tie.Need-find-part-requires
-find-part-requires c κs = tt
+find-part-requires c κs = search needs
 
 -- the end of the part is a place in a file
 end-fits : (c : tie.After-struct-known) → Dec (c .before .find-part .result .file ≡ 2) → Fits w64 (c .before .find-part .result .from + c .before .find-part .result .length)
@@ -23,10 +24,10 @@ add-end : tie.Need-add-end
 add-end c = end-fits c (same-or-not (c .before .find-part .result .file) 2)
 
 sub-result : tie.Need-sub-result
-sub-result c = omega arith
+sub-result c = search needs
 
 part-result-start : tie.Need-part-result-start
-part-result-start c = le-add-right _ _
+part-result-start c = search needs
 
 part-result-end : tie.Need-part-result-end
 part-result-end c = omega (arith, part-within (c .before .before .before .find-part .ensures) .in-second (c .if1 .taken))
@@ -52,10 +53,10 @@ returns c =
     }
 
 sub-result-2 : tie.Need-sub-result-2
-sub-result-2 c = omega arith
+sub-result-2 c = search needs
 
 part-result-start-2 : tie.Need-part-result-start-2
-part-result-start-2 c = le-add-right _ _
+part-result-start-2 c = search needs
 
 part-result-end-2 : tie.Need-part-result-end-2
 part-result-end-2 c = omega (arith, part-within (c .before .before .before .find-part .ensures) .in-first (c .if1 .left))

@@ -19,10 +19,10 @@ refused-as {e} {n} {first} {second} number place file same says =
     subst (λ (x : Part). Finds e first second n (x .number) (x .place) (x .file) (x .from) (x .length)) (sym same) says
 
 accept-requires : tie.Need-accept-requires
-accept-requires c κs = tt
+accept-requires c κs = search needs
 
 refuse-part-requires : tie.Need-refuse-part-requires
-refuse-part-requires c κs = tt
+refuse-part-requires c κs = search needs
 
 returns : tie.Need-returns
 returns c =
@@ -30,10 +30,10 @@ returns c =
     refused-as (found .result .number) (found .result .place) 1 (c .refuse-part .ensures) (first-refused (found .ensures) (c .before .if1 .taken))
 
 accept-requires-2 : tie.Need-accept-requires-2
-accept-requires-2 c κs = tt
+accept-requires-2 c κs = search needs
 
 refuse-part-requires-2 : tie.Need-refuse-part-requires-2
-refuse-part-requires-2 c κs = tt
+refuse-part-requires-2 c κs = search needs
 
 returns-2 : tie.Need-returns-2
 returns-2 c =
@@ -49,7 +49,7 @@ find-in-tables-requires c κs =
     (ready (c .before .before .before .before .before .before .accept .ensures) (c .before .before .before .before .if1 .left), ready (c .before .before .before .accept2 .ensures) (c .before .if2 .left), refl)
 
 refuse-part-requires-3 : tie.Need-refuse-part-requires-3
-refuse-part-requires-3 c κs = tt
+refuse-part-requires-3 c κs = search needs
 
 returns-3 : tie.Need-returns-3
 returns-3 c =

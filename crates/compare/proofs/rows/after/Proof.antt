@@ -29,19 +29,19 @@ deeper table i k known here m from to = go (decLe (suc m) k)
     go (no x) = let at : m ≡ k = omega arith in rw at here
 
 add-next : tie.Need-add-next Inv-loop μ-loop
-add-next c = omega arith
+add-next c = search needs
 
 loop-holds : tie.Need-loop-holds Inv-loop μ-loop
 loop-holds c = (omega arith, search needs, λ m from to. absurd (omega arith))
 
 mul-parent : tie.Need-mul-parent Inv-loop μ-loop
-mul-parent c = omega arith
+mul-parent c = search needs
 
 shared-slice-read-parent : tie.Need-shared-slice-read-parent Inv-loop μ-loop
-shared-slice-read-parent c = omega arith
+shared-slice-read-parent c = search needs
 
 parent-requires : tie.Need-parent-requires Inv-loop μ-loop
-parent-requires c κs = tt
+parent-requires c κs = search needs
 
 returns : tie.Need-returns Inv-loop μ-loop
 returns c =
@@ -49,10 +49,10 @@ returns c =
     record { past = l .inv .0; there = l .inv .1; below = l .inv .2; out = λ more. omega (arith, c .if1 .taken, c .before .parent .ensures) }
 
 add-next-2 : tie.Need-add-next-2 Inv-loop μ-loop
-add-next-2 c = omega arith
+add-next-2 c = search needs
 
 loop-less : tie.Need-loop-less Inv-loop μ-loop
-loop-less c = omega arith
+loop-less c = search needs
 
 loop-again : tie.Need-loop-again Inv-loop μ-loop
 loop-again c =

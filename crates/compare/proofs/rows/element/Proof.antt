@@ -1,10 +1,10 @@
 -- `compare::rows::element` meets its contract: the part from the row's first byte to its end. Assumes nothing.
-use native.Mathlib.Omega.{arith}
 use Prim.Native.Nat.{ℕ, _+_}
-use native.Mathlib.Nat.{add-sub-cancel-left, le-add-right}
+use native.Mathlib.Nat.{add-sub-cancel-left}
 use mathlib.Core.Path.{ap₂, _∙_}
 use lib.Seq.{slice}
 use Rattle.der.proofs.Laws.{take-drop}
+use borrow.Author.Needs.{needs}
 use Rattle.compare.proofs.rows.element.Statement.{statement}
 use Rattle.compare.proofs.rows.element.Tie as tie
 use Rattle.compare.proofs.rows.element.Reads as reads
@@ -14,43 +14,43 @@ use Rattle.crmf.proofs.rows.packed.whole.Reads as whole-reads
 
 -- src/rows.rt:50:30
 mul-first : tie.Need-mul-first
-mul-first c = omega arith
+mul-first c = search needs
 
 -- src/rows.rt:50:30
 shared-slice-read-first : tie.Need-shared-slice-read-first
-shared-slice-read-first c = omega arith
+shared-slice-read-first c = search needs
 
 -- src/rows.rt:50:9
 first-requires : tie.Need-first-requires
-first-requires c κs = tt
+first-requires c κs = search needs
 
 -- src/rows.rt:51:35
 mul-whole : tie.Need-mul-whole
-mul-whole c = omega arith
+mul-whole c = search needs
 
 -- src/rows.rt:51:35
 shared-slice-read-whole : tie.Need-shared-slice-read-whole
-shared-slice-read-whole c = omega arith
+shared-slice-read-whole c = search needs
 
 -- src/rows.rt:51:21
 whole-requires : tie.Need-whole-requires
-whole-requires c κs = tt
+whole-requires c κs = search needs
 
 -- src/rows.rt:51:14
 add-to : tie.Need-add-to
-add-to c = omega arith
+add-to c = search needs
 
 -- src/rows.rt:52:5
 sub-result : tie.Need-sub-result
-sub-result c = omega arith
+sub-result c = search needs
 
 -- src/rows.rt:52:5
 part-result-start : tie.Need-part-result-start
-part-result-start c = le-add-right _ _
+part-result-start c = search needs
 
 -- src/rows.rt:52:5
 part-result-end : tie.Need-part-result-end
-part-result-end c = omega arith
+part-result-end c = search needs
 
 -- src/rows.rt:46:1
 returns : tie.Need-returns

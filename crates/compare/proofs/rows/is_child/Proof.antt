@@ -1,9 +1,9 @@
 -- `compare::rows::is_child` meets its contract: its tests are those of the definition. Assumes nothing.
-use native.Mathlib.Omega.{arith}
 use mathlib.Core.Path.{ap}
 use Prim.Native.Nat.{ℕ}
 use lib.ListN.{length}
 use lib.Dec.{eqb}
+use borrow.Author.Needs.{needs}
 use borrow.Author.Tests.{le-ltb, lt-ltb}
 use Rattle.compare.specs.steps.Tables.{childAt}
 use Rattle.compare.proofs.rows.is_child.Statement.{statement}
@@ -14,13 +14,13 @@ unfolding childAt
 returns c = rw (le-ltb _ _ (c .if1 .taken))
 
 mul-parent : tie.Need-mul-parent
-mul-parent c = omega arith
+mul-parent c = search needs
 
 shared-slice-read-parent : tie.Need-shared-slice-read-parent
-shared-slice-read-parent c = omega arith
+shared-slice-read-parent c = search needs
 
 parent-requires : tie.Need-parent-requires
-parent-requires c κs = tt
+parent-requires c κs = search needs
 
 returns-2 : tie.Need-returns-2
 unfolding childAt

@@ -58,13 +58,13 @@ module _ (t : ℕ) where
   returns c = search needs
 
   sub-room : sized-lts.Need-sub-room calls sized-at sized.Post
-  sub-room c = omega arith
+  sub-room c = search needs
 
   room-requires : sized-lts.Need-room-requires calls sized-at sized.Post
-  room-requires c κs = tt
+  room-requires c κs = search needs
 
   sub-sized : sized-lts.Need-sub-sized calls sized-at sized.Post
-  sub-sized c = omega arith
+  sub-sized c = search needs
 
   sized-requires : sized-lts.Need-sized-requires calls sized-at sized.Post
   sized-requires c κs =
