@@ -1,6 +1,7 @@
 -- Any two batches' rows can be merged, so they have a list of changes. Assumes nothing.
 use Prim.Native.Nat.{ℕ, zero, suc, _+_, _-_, _≤_, _<_}
 use native.Mathlib.Decide.{decLe}
+use native.Mathlib.Nat.{le-refl, le-of-lt, le-suc}
 use native.Mathlib.Omega.{arith}
 use mathlib.Core.Path.{_≡_, refl, ap, ap₂}
 use mathlib.Core.Bool.{Bool, true, false}
@@ -64,6 +65,18 @@ pub record Merges (s t : List ℕ) (A B : List Row) (p q i j : ℕ) : Type 0 whe
 abbrev left : (A B : List Row) (i j : ℕ) → ℕ
 left A B i j = (length A - i) + (length B - j)
 
+-- past a row of the first list, and no row back in the second, fewer are left
+fewer : (m n i j k l : ℕ) → i < k → j ≤ l → i < m → (m - k) + (n - l) < (m - i) + (n - j)
+fewer m n i j k l past on there = omega arith
+
+-- fewer than a number below suc n is below n
+still : (k m n : ℕ) → k < m → m < suc n → k < n
+still k m n less most = omega arith
+
+-- two numbers of which neither is less are the same
+neither : (m n : ℕ) → (m < n → ⊥) → (n < m → ⊥) → m ≡ n
+neither m n x y = omega arith
+
 module _ {s t : List ℕ} {A B : List Row} (a : Arranged s A) (b : Arranged t B) where
   -- a merge with fewer rows left than some goes on to its end
   abbrev Further : ℕ → Type 0
@@ -96,12 +109,19 @@ module _ {s t : List ℕ} {A B : List Row} (a : Arranged s A) (b : Arranged t B)
         go (yes equal) y = record { listed = _; one = y .one; two = y .two; merge = same e leaf equal (y .merge) }
         go (no unequal) y = record { listed = _; one = y .one; two = y .two; merge = differing e leaf unequal (y .merge) }
 
+    -- containers: their insides are merged, and then what is after both
+    take-after : (e : Alike A B p q i j) → container (rowAt A i .kind) ≡ true → (z : Merges s t A B i j (suc i) (suc j)) → Next A i (z .one) → Next B j (z .two) → Merges s t A B p q i j
+    take-after e box z u v =
+        let y = further p q (z .one) (z .two) (at-after a b x e (z .merge)) (fewer (length A) (length B) i j (z .one) (z .two) (u .past) (le-of-lt (v .past)) (e .one .there)) in
+        record { listed = _; one = y .one; two = y .two; merge = within e box (z .merge) (y .merge) }
+
+    take-inside : (e : Alike A B p q i j) → container (rowAt A i .kind) ≡ true → Merges s t A B i j (suc i) (suc j) → Merges s t A B p q i j
+    take-inside e box z = let ends = merge-end a b (at-inside a b x e) (z .merge) in take-after e box z (ends .0) (ends .1)
+
     take-containers : Alike A B p q i j → container (rowAt A i .kind) ≡ true → Merges s t A B p q i j
     take-containers e box =
-        let inside = further i j (suc i) (suc j) (at-inside a b x e) (omega (arith, e .one .there)) in
-        let (u, v) = merge-end a b (at-inside a b x e) (inside .merge) in
-        let y = further p q (inside .one) (inside .two) (at-after a b x e (inside .merge)) (omega (arith, u .past, v .past, e .one .there)) in
-        record { listed = _; one = y .one; two = y .two; merge = within e box (inside .merge) (y .merge) }
+        take-inside e box
+        (further i j (suc i) (suc j) (at-inside a b x e) (fewer (length A) (length B) i j (suc i) (suc j) (le-refl (suc i)) (le-suc j) (e .one .there)))
 
     -- one step, and then further
     one-step : Dec (Child A p i) → Dec (Child B q j) → Merges s t A B p q i j
@@ -124,13 +144,13 @@ module _ {s t : List ℕ} {A B : List Row} (a : Arranged s A) (b : Arranged t B)
         go : Dec (matchKind A i < matchKind B j) → Dec (matchKind B j < matchKind A i) → Merges s t A B p q i j
         go (yes before) y = take-first c (λ e. before)
         go (no y) (yes before) = take-second d (λ e. before)
-        go (no y) (no z) = alike-step (omega arith) (same-or-not (rowAt A i .kind) (rowAt B j .kind))
+        go (no y) (no z) = alike-step (neither (matchKind A i) (matchKind B j) y z) (same-or-not (rowAt A i .kind) (rowAt B j .kind))
 
   -- Wherever a merge stands it can go on to its end.
   merges : (fuel : ℕ) → Further fuel
   merges zero p q i j x less = absurd (omega arith)
   merges (suc fuel) p q i j x less =
-      one-step x (λ p q m n y fewer. merges fuel p q m n y (omega arith)) (child-or-not A p i) (child-or-not B q j)
+      one-step x (λ p q m n y fewer. merges fuel p q m n y (still _ _ fuel fewer less)) (child-or-not A p i) (child-or-not B q j)
 
   -- Two batches' rows can be merged.
   pub whole-merge : Merges s t A B 0 0 1 1

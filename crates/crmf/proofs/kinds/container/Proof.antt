@@ -1,11 +1,12 @@
 -- `crmf::kinds::container` meets its contract: the kinds are named one by one. Assumes nothing.
-use mathlib.Core.Bool.{or-assoc, or-false}
-use Rattle.crmf.proofs.theorems.pieces.PieceLaws.{container-kinds}
+use Rattle.crmf.specs.meaning.Rows.{container}
+use Rattle.crmf.proofs.theorems.lists.Tests.{passedOr, compared-one-by-one}
 use Rattle.crmf.proofs.kinds.container.Statement.{statement}
 use Rattle.crmf.proofs.kinds.container.Tie as tie
 
 returns : tie.Need-returns
-returns c = rw (container-kinds (c .args .kind)) (simp (or-assoc, or-false))
+unfolding container passedOr
+returns c = compared-one-by-one _ _ (c .args .kind)
 
 pub container-spec : {M : Type 1} → statement M
 container-spec = tie.close (tie.spec returns)

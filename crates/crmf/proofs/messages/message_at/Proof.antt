@@ -1,5 +1,4 @@
 -- `crmf::messages::message_at` meets its contract. Assumes nothing.
-use borrow.Author.Needs.{needs}
 use native.Mathlib.Omega.{arith}
 use mathlib.Core.Path.{sym, ap, _∙_}
 use lib.ListN.{length, drop}
@@ -14,7 +13,7 @@ returns : tie.Need-returns
 returns c = let a = c .before .before .args in sym (place-long (a .bytes .now) (a .position .0) (c .if1 .taken))
 
 read-at-requires : tie.Need-read-at-requires
-read-at-requires c κs = search needs
+read-at-requires c κs = tt
 
 skip-requires : tie.Need-skip-requires
 skip-requires c κs =

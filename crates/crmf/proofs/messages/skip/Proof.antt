@@ -4,7 +4,6 @@ use Prim.Native.Nat.{ℕ, suc, _-_}
 use native.Mathlib.Omega.{arith}
 use mathlib.Core.Path.{_≡_, refl, sym, ap, _∙_}
 use mathlib.Core.List.{List}
-use borrow.Author.Needs.{needs}
 use lib.ListN.{drop}
 use Rattle.crmf.specs.meaning.Fields.{Field}
 use Rattle.crmf.specs.steps.Fields.{fieldsBetween, Places}
@@ -31,13 +30,13 @@ returns c =
     ∙ ap (firstPlace (a .end)) (sym (skip-end (a .bytes .now) (l .place) (a .end) (l .inv .0) (l .left) (c .if1 .taken)) ∙ l .inv .1)
 
 read-at-requires : tie.Need-read-at-requires Inv-loop μ-loop
-read-at-requires c κs = search needs
+read-at-requires c κs = tt
 
 sub-left : tie.Need-sub-left Inv-loop μ-loop
-sub-left c = search needs
+sub-left c = omega arith
 
 loop-less : tie.Need-loop-less Inv-loop μ-loop
-loop-less c = search needs
+loop-less c = omega arith
 
 loop-again : tie.Need-loop-again Inv-loop μ-loop
 loop-again c =

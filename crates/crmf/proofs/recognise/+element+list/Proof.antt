@@ -1,10 +1,10 @@
 -- `crmf::recognise::list` and `element` meet their contracts, by one induction on the bytes that are left: an inside has fewer. The list's loop
 -- keeps this: the count from its place on is the whole list's. An element's count is what its line and its content say. Assumes nothing.
+use native.Mathlib.Nat.{le-refl, le-add-right}
 use Prim.Native.Nat.{ℕ, _+_, _-_, _*_, _≤_, _<_}
 use mathlib.Core.Path.{_≡_, sym, ap, subst, _∙_}
 use mathlib.Core.List.{List}
 use native.Mathlib.Omega.{arith}
-use borrow.Author.Needs.{needs}
 use borrow.Fn.Kinds.{In}
 use borrow.Fn.PlainCycle.{Measures, is, falls, and}
 use denote.Ref.{now}
@@ -115,10 +115,10 @@ module _ (t : ℕ) where
   element-sub-measure c = omega (arith, c .before .pre .1 .1)
 
   element-part-measure-start : element-lts.Need-part-measure-start element-calls element-at element.Post
-  element-part-measure-start c = search needs
+  element-part-measure-start c = omega arith
 
   element-part-measure-end : element-lts.Need-part-measure-end element-calls element-at element.Post
-  element-part-measure-end c = search needs
+  element-part-measure-end c = le-refl _
 
   element-measure-requires : element-lts.Need-measure-requires element-calls element-at element.Post
   element-measure-requires c κs = tt
@@ -195,10 +195,10 @@ module _ (t : ℕ) where
   element-find-line-requires c κs = lent (measuring (c .before .before)) .right
 
   element-enum-known-found : element-lts.Need-enum-known-found element-calls element-at element.Post
-  element-enum-known-found c = search needs
+  element-enum-known-found c = c .match .keys1
 
   element-enum-told : element-lts.Need-enum-told element-calls element-at element.Post
-  element-enum-told c = search needs
+  element-enum-told c = c .match .keys2
 
   element-returns-3 : element-lts.Need-returns-3 element-calls element-at element.Post
   element-returns-3 c =
@@ -227,7 +227,7 @@ module _ (t : ℕ) where
   element-sub-take c = omega arith
 
   element-part-take-start : element-lts.Need-part-take-start element-calls element-at element.Post
-  element-part-take-start c = search needs
+  element-part-take-start c = le-add-right _ _
 
   element-part-take-end : element-lts.Need-part-take-end element-calls element-at element.Post
   element-part-take-end c = omega (arith, fits (c .before .before .before .before .before .before .before .before .before))
@@ -304,19 +304,19 @@ module _ (t : ℕ) where
       (omega (arith, fits d, few))
 
   element-enum-told-2 : element-lts.Need-enum-told-2 element-calls element-at element.Post
-  element-enum-told-2 c = search needs
+  element-enum-told-2 c = c .match2 .keys1
 
   element-enum-known-next : element-lts.Need-enum-known-next element-calls element-at element.Post
-  element-enum-known-next c = search needs
+  element-enum-known-next c = c .match2 .keys2
 
   element-enum-known-next-2 : element-lts.Need-enum-known-next-2 element-calls element-at element.Post
-  element-enum-known-next-2 c = search needs
+  element-enum-known-next-2 c = c .match2 .keys3
 
   element-sub-list : element-lts.Need-sub-list element-calls element-at element.Post
   element-sub-list c = omega arith
 
   element-part-list-start : element-lts.Need-part-list-start element-calls element-at element.Post
-  element-part-list-start c = search needs
+  element-part-list-start c = le-add-right _ _
 
   element-part-list-end : element-lts.Need-part-list-end element-calls element-at element.Post
   element-part-list-end c = omega (arith, fits (c .before .before .before .before .before .before .before .before .before .before .before .before .before .before))
@@ -341,10 +341,10 @@ module _ (t : ℕ) where
   element-decoded-requires c κs = tt
 
   element-enum-known-inside : element-lts.Need-enum-known-inside element-calls element-at element.Post
-  element-enum-known-inside c = search needs
+  element-enum-known-inside c = c .match3 .keys1
 
   element-enum-told-3 : element-lts.Need-enum-told-3 element-calls element-at element.Post
-  element-enum-told-3 c = search needs
+  element-enum-told-3 c = c .match3 .keys2
 
   -- what the list inside the element answers
   module _ (c : element-lts.After-decoded element-calls element-at element.Post) where
@@ -415,10 +415,10 @@ module _ (t : ℕ) where
       )
 
   list-enum-known-advance : list-lts.Need-enum-known-advance list-calls list-at list.Post list-Inv-loop list-μ-loop
-  list-enum-known-advance c = search needs
+  list-enum-known-advance c = c .match .keys1
 
   list-enum-told : list-lts.Need-enum-told list-calls list-at list.Post list-Inv-loop list-μ-loop
-  list-enum-told c = search needs
+  list-enum-told c = c .match .keys2
 
   list-returns : list-lts.Need-returns list-calls list-at list.Post list-Inv-loop list-μ-loop
   list-returns c =

@@ -8,7 +8,7 @@ use Rattle.crmf.proofs.recognise.agrees.Statement.{statement}
 use Rattle.crmf.proofs.recognise.agrees.Tie as tie
 
 words-requires : tie.Need-words-requires
-words-requires c κs = search needs
+words-requires c κs = tt
 
 agree-requires : tie.Need-agree-requires
 agree-requires c κs = search needs
@@ -23,10 +23,10 @@ count-by-requires : tie.Need-count-by-requires
 count-by-requires c κs = search needs
 
 enum-known-count : tie.Need-enum-known-count
-enum-known-count c = search needs
+enum-known-count c = c .match .keys1
 
 enum-told : tie.Need-enum-told
-enum-told c = search needs
+enum-told c = c .match .keys2
 
 returns-2 : tie.Need-returns-2
 returns-2 c =

@@ -15,7 +15,7 @@ list-requires : tie.Need-list-requires
 list-requires c κs = search needs
 
 decoded-requires : tie.Need-decoded-requires
-decoded-requires c κs = search needs
+decoded-requires c κs = tt
 
 returns-2 : tie.Need-returns-2
 unfolding recognised start startsFrom order

@@ -1,5 +1,5 @@
 -- `crmf::recognise::decoded` meets its contract: 0 means unrecognised, and any other number is one more than the rows. Assumes nothing.
-use borrow.Author.Needs.{needs}
+use native.Mathlib.Omega.{arith}
 use borrow.Author.Tests.{eq-eqb, ne-eqb}
 use Rattle.crmf.specs.steps.recognise.Inner.{decode}
 use Rattle.crmf.proofs.recognise.decoded.Statement.{statement}
@@ -9,7 +9,7 @@ returns : tie.Need-returns
 returns c = rw (decode, eq-eqb _ 0 (c .if1 .taken))
 
 sub-t3 : tie.Need-sub-t3
-sub-t3 c = search needs
+sub-t3 c = omega arith
 
 returns-2 : tie.Need-returns-2
 returns-2 c = rw (decode, ne-eqb _ 0 (c .if1 .left))

@@ -6,19 +6,19 @@ use Rattle.crmf.proofs.recognise.read.Statement.{statement}
 use Rattle.crmf.proofs.recognise.read.Tie as tie
 
 words-requires : tie.Need-words-requires
-words-requires c κs = search needs
+words-requires c κs = tt
 
 count-by-requires : tie.Need-count-by-requires
 count-by-requires c κs = search needs
 
 enum-known-recognition : tie.Need-enum-known-recognition
-enum-known-recognition c = search needs
+enum-known-recognition c = c .match .keys1
 
 fill-requires : tie.Need-fill-requires
 fill-requires c κs = search needs
 
 enum-told : tie.Need-enum-told
-enum-told c = search needs
+enum-told c = c .match .keys2
 
 same-length : tie.Need-same-length
 same-length c = search needs

@@ -6,7 +6,6 @@ use mathlib.Core.Path.{_≡_, refl, sym, ap, subst, _∙_}
 use mathlib.Core.Bool.{true}
 use mathlib.Core.List.{List, [], _++_, append-nil}
 use native.Mathlib.Omega.{arith}
-use borrow.Author.Needs.{needs}
 use borrow.Fn.Kinds.{In}
 use borrow.Fn.PlainCycle.{Measures, is, falls, and}
 use denote.Ref.{now}
@@ -95,16 +94,16 @@ module _ (t : ℕ) where
   list-calls = (element-below, element.Post)
 
   element-read-at-requires : element-lts.Need-read-at-requires element-calls element-at element.Post
-  element-read-at-requires c κs = search needs
+  element-read-at-requires c κs = tt
 
   element-line-for-requires : element-lts.Need-line-for-requires element-calls element-at element.Post
   element-line-for-requires c κs = c .before .before .before .pre .1 .0 .right
 
   element-enum-known-fitting : element-lts.Need-enum-known-fitting element-calls element-at element.Post
-  element-enum-known-fitting c = search needs
+  element-enum-known-fitting c = c .match .keys1
 
   element-enum-told : element-lts.Need-enum-told element-calls element-at element.Post
-  element-enum-told c = search needs
+  element-enum-told c = c .match .keys2
 
   element-returns : element-lts.Need-returns element-calls element-at element.Post
   element-returns c =
@@ -186,10 +185,10 @@ module _ (t : ℕ) where
       (l .room) (inner .inside .ensures .1)
 
   inside-inside-of-requires : inside-lts.Need-inside-of-requires inside-calls inside-at inside.Post
-  inside-inside-of-requires c κs = search needs
+  inside-inside-of-requires c κs = tt
 
   inside-rowless-requires : inside-lts.Need-rowless-requires inside-calls inside-at inside.Post
-  inside-rowless-requires c κs = search needs
+  inside-rowless-requires c κs = tt
 
   inside-returns : inside-lts.Need-returns inside-calls inside-at inside.Post
   inside-returns c =

@@ -1,4 +1,5 @@
 -- `crmf::rows::onward` meets its contract: the word's fields are the line's, and its code says whether the value selects. Assumes nothing.
+use native.Mathlib.Omega.{arith}
 use borrow.Author.Needs.{needs}
 use Prim.Native.Nat.{ℕ, _+_, _-_}
 use mathlib.Core.Path.{_≡_, sym, ap, _∙_}
@@ -14,10 +15,10 @@ use Rattle.crmf.proofs.rows.onward.Statement.{statement}
 use Rattle.crmf.proofs.rows.onward.Tie as tie
 
 judge-of-requires : tie.Need-judge-of-requires
-judge-of-requires c κs = search needs
+judge-of-requires c κs = tt
 
 next-of-requires : tie.Need-next-of-requires
-next-of-requires c κs = search needs
+next-of-requires c κs = tt
 
 returns : tie.Need-returns
 returns c = λ k e.
@@ -29,25 +30,25 @@ returns c = λ k e.
     next ∙ goes-on (line k .next) _ content (c .if1 .taken) j coded
 
 sub-selected : tie.Need-sub-selected
-sub-selected c = search needs
+sub-selected c = omega arith
 
 part-selected-start : tie.Need-part-selected-start
-part-selected-start c = search needs
+part-selected-start c = omega arith
 
 part-selected-end : tie.Need-part-selected-end
-part-selected-end c = search needs
+part-selected-end c = omega arith
 
 selected-requires : tie.Need-selected-requires
-selected-requires c κs = search needs
+selected-requires c κs = tt
 
 add-word : tie.Need-add-word
-add-word c = search needs
+add-word c = omega arith
 
 word-requires : tie.Need-word-requires
 word-requires c κs = search needs
 
 next-of-requires-2 : tie.Need-next-of-requires-2
-next-of-requires-2 c κs = search needs
+next-of-requires-2 c κs = tt
 
 returns-2 : tie.Need-returns-2
 returns-2 c = λ k e.

@@ -12,7 +12,7 @@ use Rattle.crmf.proofs.rows.own_rows.Statement.{statement}
 use Rattle.crmf.proofs.rows.own_rows.Tie as tie
 
 item-entry-requires : tie.Need-item-entry-requires
-item-entry-requires c κs = search needs
+item-entry-requires c κs = tt
 
 put-requires : tie.Need-put-requires
 put-requires c κs = search needs

@@ -15,7 +15,7 @@ returns c =
     put-none (a .bounds .packed) (a .out .now) (a .row) (a .bounds .limit) (a .new) (c .if1 .taken)
 
 add-result : tie.Need-add-result
-add-result c = search needs
+add-result c = omega arith
 
 returns-2 : tie.Need-returns-2
 returns-2 c =
@@ -23,17 +23,17 @@ returns-2 c =
     put-past (a .bounds .packed) (a .out .now) (a .row) (a .bounds .limit) (a .new) (c .before .before .if1 .left) (c .if2 .taken)
 
 number-requires : tie.Need-number-requires
-number-requires c κs = search needs
+number-requires c κs = tt
 
 mul-out : tie.Need-mul-out
-mul-out c = search needs
+mul-out c = omega arith
 
 slice-write-out : tie.Need-slice-write-out
 slice-write-out c =
     one-fits (c .before .if3 .taken) (c .before .before .if2 .left) (c .before .before .before .before .before .before .before .pre .1)
 
 add-result-2 : tie.Need-add-result-2
-add-result-2 c = search needs
+add-result-2 c = omega arith
 
 same-length : tie.Need-same-length
 same-length c = search needs
@@ -47,52 +47,52 @@ returns-3 c =
     (put-packed (a .bounds .packed) (a .out .now) (a .row) (a .bounds .limit) (a .new) (fourth .before .before .if1 .left) (fourth .if2 .left) (start .pre .1) (c .before .if3 .taken))
 
 mul-at : tie.Need-mul-at
-mul-at c = search needs
+mul-at c = omega arith
 
 mul-out-2 : tie.Need-mul-out-2
-mul-out-2 c = search needs
+mul-out-2 c = omega arith
 
 slice-write-out-2 : tie.Need-slice-write-out-2
 slice-write-out-2 c = omega (arith, five-fit (c .if3 .left) (c .before .if2 .left) (c .before .before .before .before .before .before .pre .1))
 
 add-out : tie.Need-add-out
-add-out c = search needs
+add-out c = omega arith
 
 mul-out-3 : tie.Need-mul-out-3
-mul-out-3 c = search needs
+mul-out-3 c = omega arith
 
 slice-write-out-3 : tie.Need-slice-write-out-3
 slice-write-out-3 c = simp length-set (omega (arith, five-fit (c .if3 .left) (c .before .if2 .left) (c .before .before .before .before .before .before .pre .1)))
 
 add-out-2 : tie.Need-add-out-2
-add-out-2 c = search needs
+add-out-2 c = omega arith
 
 mul-out-4 : tie.Need-mul-out-4
-mul-out-4 c = search needs
+mul-out-4 c = omega arith
 
 slice-write-out-4 : tie.Need-slice-write-out-4
 slice-write-out-4 c = simp length-set (omega (arith, five-fit (c .if3 .left) (c .before .if2 .left) (c .before .before .before .before .before .before .pre .1)))
 
 add-out-3 : tie.Need-add-out-3
-add-out-3 c = search needs
+add-out-3 c = omega arith
 
 mul-out-5 : tie.Need-mul-out-5
-mul-out-5 c = search needs
+mul-out-5 c = omega arith
 
 slice-write-out-5 : tie.Need-slice-write-out-5
 slice-write-out-5 c = simp length-set (omega (arith, five-fit (c .if3 .left) (c .before .if2 .left) (c .before .before .before .before .before .before .pre .1)))
 
 add-out-4 : tie.Need-add-out-4
-add-out-4 c = search needs
+add-out-4 c = omega arith
 
 mul-out-6 : tie.Need-mul-out-6
-mul-out-6 c = search needs
+mul-out-6 c = omega arith
 
 slice-write-out-6 : tie.Need-slice-write-out-6
 slice-write-out-6 c = simp length-set (omega (arith, five-fit (c .if3 .left) (c .before .if2 .left) (c .before .before .before .before .before .before .pre .1)))
 
 add-result-3 : tie.Need-add-result-3
-add-result-3 c = search needs
+add-result-3 c = omega arith
 
 same-length-2 : tie.Need-same-length-2
 same-length-2 c = search needs

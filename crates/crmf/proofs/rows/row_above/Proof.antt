@@ -1,5 +1,5 @@
 -- `crmf::rows::row_above` meets its contract: the word's fields are the line's. Assumes nothing.
-use borrow.Author.Needs.{needs}
+use native.Mathlib.Omega.{arith}
 use Prim.Native.Nat.{ℕ, _+_}
 use mathlib.Core.Path.{_≡_, ap, ap₂, _∙_}
 use Rattle.crmf.specs.steps.grammar.Packed.{itemField, kindField}
@@ -10,22 +10,22 @@ use Rattle.crmf.proofs.rows.row_above.Statement.{statement}
 use Rattle.crmf.proofs.rows.row_above.Tie as tie
 
 item-of-requires : tie.Need-item-of-requires
-item-of-requires c κs = search needs
+item-of-requires c κs = tt
 
 row-of-requires : tie.Need-row-of-requires
-row-of-requires c κs = search needs
+row-of-requires c κs = tt
 
 add-own : tie.Need-add-own
-add-own c = search needs
+add-own c = omega arith
 
 kind-of-requires : tie.Need-kind-of-requires
-kind-of-requires c κs = search needs
+kind-of-requires c κs = tt
 
 parent-if-requires : tie.Need-parent-if-requires
-parent-if-requires c κs = search needs
+parent-if-requires c κs = tt
 
 parent-if-requires-2 : tie.Need-parent-if-requires-2
-parent-if-requires-2 c κs = search needs
+parent-if-requires-2 c κs = tt
 
 returns : tie.Need-returns
 returns c = λ k e.

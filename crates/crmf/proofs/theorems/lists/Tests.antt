@@ -1,11 +1,11 @@
 -- Tests of lists that compute, and what they say of the entries: a test of all entries holds at each, and a test of some entry holds
 -- at one that can be named. Assumes nothing.
 use Prim.Native.Nat.{ℕ, zero, suc}
-use mathlib.Core.Bool.{Bool, true, false, _&&_, _||_, and-eq-true-iff, false≢true}
+use mathlib.Core.Bool.{Bool, true, false, _&&_, _||_, and-eq-true-iff, false≢true, or-assoc, or-false}
 use mathlib.Core.List.{List, [], _∷_, _++_}
 use mathlib.Core.Logic.{_⊎_, inl, inr, ⊎-elim}
 use mathlib.Core.Option.{some}
-use mathlib.Core.Path.{_≡_, refl}
+use mathlib.Core.Path.{_≡_, refl, sym, _∙_}
 use native.Mathlib.Omega.{arith}
 use borrow.Author.Tests.{eqb-true}
 use lib.Dec.{eqb}
@@ -60,3 +60,18 @@ all-among f [] e n h = absurd (false≢true h)
 all-among f (x ∷ xs) e n h =
     let p = and-eq-true-iff (f x) (all f xs) .0 e in
     ⊎-elim (λ q. rw (eqb-true n x q) (p .0)) (all-among f xs (p .1) n) (either (eqb n x) (among xs n) h)
+
+-- a test has passed, or a number is an entry: it is compared with one entry after another, each time beside all that was tested before
+unfoldable pub passedOr : Bool → ℕ → List ℕ → Bool
+passedOr b n [] = b
+passedOr b n (x ∷ xs) = passedOr (b || eqb n x) n xs
+
+pub passed-or-among : (b : Bool) (n : ℕ) (xs : List ℕ) → passedOr b n xs ≡ (b || among xs n)
+unfolding passedOr among
+passed-or-among b n [] = sym (or-false b)
+passed-or-among b n (x ∷ xs) = passed-or-among (b || eqb n x) n xs ∙ or-assoc b (eqb n x) (among xs n)
+
+-- so a number that is compared with the entries of a list one by one is tested as the definition has it
+pub compared-one-by-one : (x : ℕ) (xs : List ℕ) (n : ℕ) → passedOr (eqb n x) n xs ≡ among (x ∷ xs) n
+unfolding among
+compared-one-by-one x xs n = passed-or-among (eqb n x) n xs

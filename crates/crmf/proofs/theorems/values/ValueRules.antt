@@ -28,6 +28,15 @@ digit-range b e = let p = both (leb 0x30 b) (leb b 0x39) e in (leb-true 0x30 b (
 pub digits-range : (a b : ℕ) → digit a && digit b ≡ true → ((0x30 ≤ a) × (a ≤ 0x39)) × ((0x30 ≤ b) × (b ≤ 0x39))
 digits-range a b e = let p = both (digit a) (digit b) e in (digit-range a (p .0), digit-range b (p .1))
 
+-- the number of two digits, coded with 100 for none
+pub pair-coded : (c : List ℕ) (i : ℕ) → digit (getD c i 0) && digit (getD c (i + 1) 0) ≡ true → (getD c i 0 - 0x30) * 10 + (getD c (i + 1) 0 - 0x30) ≡ Option·getD (pairAt c i) 100
+unfolding pairAt
+pair-coded c i e = rw (pairAt, e)
+
+pub pair-missing : (c : List ℕ) (i : ℕ) → digit (getD c i 0) && digit (getD c (i + 1) 0) ≡ false → 100 ≡ Option·getD (pairAt c i) 100
+unfolding pairAt
+pair-missing c i e = rw (pairAt, e)
+
 -- two digits make a number of at most 99
 pub pair-most : (c : List ℕ) (i n : ℕ) → pairAt c i ≡ some n → n ≤ 99
 unfolding pairAt

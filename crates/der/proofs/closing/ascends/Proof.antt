@@ -1,5 +1,6 @@
 -- `der::closing::ascends` meets its contract. The loop's invariant: the elements from `at` on, after the one at `before`, decide as all of them do.
 -- Assumes nothing.
+use native.Mathlib.Nat.{le-refl}
 use Prim.Native.Nat.{ℕ, _+_, _-_, _≤_, _<_}
 use mathlib.Core.Path.{_≡_, refl, sym, ap, _∙_}
 use mathlib.Core.Bool.{Bool, true, false, not, _&&_}
@@ -23,16 +24,16 @@ unfolding ascends
 loop-holds c = (search needs, search needs, refl)
 
 sub-measure : tie.Need-sub-measure Inv-loop μ-loop
-sub-measure c = search needs
+sub-measure c = omega arith
 
 part-measure-start : tie.Need-part-measure-start Inv-loop μ-loop
-part-measure-start c = search needs
+part-measure-start c = omega arith
 
 part-measure-end : tie.Need-part-measure-end Inv-loop μ-loop
-part-measure-end c = search needs
+part-measure-end c = le-refl _
 
 measure-requires : tie.Need-measure-requires Inv-loop μ-loop
-measure-requires c κs = search needs
+measure-requires c κs = tt
 
 -- the span at `at` is found
 module _ (d : tie.After-measure Inv-loop μ-loop) where
@@ -80,25 +81,25 @@ add-end-2 : tie.Need-add-end-2 Inv-loop μ-loop
 add-end-2 c = search (needs, within (c .before .before))
 
 sub-descends : tie.Need-sub-descends Inv-loop μ-loop
-sub-descends c = search needs
+sub-descends c = omega arith
 
 part-descends-start : tie.Need-part-descends-start Inv-loop μ-loop
-part-descends-start c = search needs
+part-descends-start c = omega arith
 
 part-descends-end : tie.Need-part-descends-end Inv-loop μ-loop
-part-descends-end c = search needs
+part-descends-end c = omega arith
 
 sub-descends-2 : tie.Need-sub-descends-2 Inv-loop μ-loop
-sub-descends-2 c = search needs
+sub-descends-2 c = omega arith
 
 part-descends-start-2 : tie.Need-part-descends-start-2 Inv-loop μ-loop
-part-descends-start-2 c = search needs
+part-descends-start-2 c = omega arith
 
 part-descends-end-2 : tie.Need-part-descends-end-2 Inv-loop μ-loop
 part-descends-end-2 c = search (needs, within (c .before .before .before))
 
 descends-requires : tie.Need-descends-requires Inv-loop μ-loop
-descends-requires c κs = search needs
+descends-requires c κs = tt
 
 -- the answer of `descends` decides
 decided : (c : tie.After-descends Inv-loop μ-loop) → let e = c .before .before .before .before .before in

@@ -1,5 +1,4 @@
 -- `der::closing::closes` meets its contract: its test is the definition's. Assumes nothing.
-use borrow.Author.Needs.{needs}
 use mathlib.Core.Bool.{not}
 use mathlib.Core.Path.{sym, ap, _∙_}
 use borrow.Author.Tests.{eq-eqb, ne-eqb}
@@ -8,7 +7,7 @@ use Rattle.der.proofs.closing.closes.Statement.{statement}
 use Rattle.der.proofs.closing.closes.Tie as tie
 
 ascends-requires : tie.Need-ascends-requires
-ascends-requires c κs = search needs
+ascends-requires c κs = tt
 
 returns : tie.Need-returns
 returns c =

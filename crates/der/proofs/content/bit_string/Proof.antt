@@ -4,7 +4,6 @@ use Prim.Native.Nat.{ℕ, _-_, _<_}
 use mathlib.Core.Bool.{Bool, true, false, _&&_}
 use mathlib.Core.List.{List, [], _∷_}
 use mathlib.Core.Path.{_≡_, refl, sym, ap}
-use borrow.Author.Needs.{needs}
 use borrow.Author.Tests.{leb-true}
 use native.Mathlib.Omega.{arith}
 use lib.Count.{trailingZeros}
@@ -36,17 +35,17 @@ unfolding bitString
 returns c = sym (ap bitString (none (c .before .args .content .now) (c .if1 .taken)))
 
 shared-slice-read-unused : tie.Need-shared-slice-read-unused
-shared-slice-read-unused c = search needs
+shared-slice-read-unused c = omega arith
 
 returns-2 : tie.Need-returns-2
 unfolding bitString
 returns-2 c = sym (ap bitString (one (c .before .before .before .args .content .now) (c .if2 .taken)))
 
 sub-last : tie.Need-sub-last
-sub-last c = search needs
+sub-last c = omega arith
 
 shared-slice-read-last : tie.Need-shared-slice-read-last
-shared-slice-read-last c = search needs
+shared-slice-read-last c = omega arith
 
 cast-result : tie.Need-cast-result
 cast-result c = omega (arith, c .shared-slice-known2 .given 0)

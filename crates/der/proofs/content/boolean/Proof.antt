@@ -1,10 +1,10 @@
 -- `der::content::boolean` meets its contract: one octet is judged as the definition does, and any other
 -- length is refused. Assumes nothing.
+use native.Mathlib.Omega.{arith}
 use Prim.Native.Nat.{ℕ}
 use mathlib.Core.Bool.{false}
 use mathlib.Core.List.{List, [], _∷_}
 use mathlib.Core.Path.{_≡_, refl, sym, ap}
-use borrow.Author.Needs.{needs}
 use lib.ListN.{length}
 use Rattle.der.specs.meaning.Content.{boolean}
 use Rattle.der.proofs.theorems.lists.Ends.{one}
@@ -21,7 +21,7 @@ returns : tie.Need-returns
 returns c = other-length _ (c .if1 .taken)
 
 shared-slice-read-octet : tie.Need-shared-slice-read-octet
-shared-slice-read-octet c = search needs
+shared-slice-read-octet c = omega arith
 
 returns-2 : tie.Need-returns-2
 unfolding boolean

@@ -1,5 +1,4 @@
 -- `der::content::holds` meets its contract: each arm's identifier picks its case of the definition. Assumes nothing.
-use borrow.Author.Needs.{needs}
 use borrow.Author.Tests.{ne-eqb}
 use mathlib.Core.Path.{_≡_, refl}
 use mathlib.Core.List.{List, [], _∷_}
@@ -18,19 +17,19 @@ is-null [] = refl
 is-null (b ∷ bs) = eqb·suc-zero (length bs)
 
 boolean-requires : tie.Need-boolean-requires
-boolean-requires c κs = search needs
+boolean-requires c κs = tt
 
 integer-requires : tie.Need-integer-requires
-integer-requires c κs = search needs
+integer-requires c κs = tt
 
 bit-string-requires : tie.Need-bit-string-requires
-bit-string-requires c κs = search needs
+bit-string-requires c κs = tt
 
 object-identifier-requires : tie.Need-object-identifier-requires
-object-identifier-requires c κs = search needs
+object-identifier-requires c κs = tt
 
 is-text-requires : tie.Need-is-text-requires
-is-text-requires c κs = search needs
+is-text-requires c κs = tt
 
 returns : tie.Need-returns
 unfolding holds

@@ -3,7 +3,6 @@
 use Prim.Native.Nat.{ℕ, _<_}
 use mathlib.Core.List.{List, [], _∷_}
 use mathlib.Core.Path.{_≡_, refl, sym, ap}
-use borrow.Author.Needs.{needs}
 use native.Mathlib.Omega.{arith}
 use lib.Dec.{eqb}
 use lib.ListN.{length}
@@ -22,10 +21,10 @@ returns : tie.Need-returns
 returns c = short _ (c .if1 .taken)
 
 shared-slice-read-first : tie.Need-shared-slice-read-first
-shared-slice-read-first c = search needs
+shared-slice-read-first c = omega arith
 
 shared-slice-read-second : tie.Need-shared-slice-read-second
-shared-slice-read-second c = search needs
+shared-slice-read-second c = omega arith
 
 returns-2 : tie.Need-returns-2
 unfolding integer

@@ -13,13 +13,13 @@ unfolding objectIdentifier
 returns c = sym (ap objectIdentifier (none (c .before .before .args .content .now) (c .if1 .taken)))
 
 lacks-80-requires : tie.Need-lacks-80-requires
-lacks-80-requires c κs = search needs
+lacks-80-requires c κs = tt
 
 sub-result : tie.Need-sub-result
-sub-result c = search needs
+sub-result c = omega arith
 
 shared-slice-read-result : tie.Need-shared-slice-read-result
-shared-slice-read-result c = search needs
+shared-slice-read-result c = omega arith
 
 returns-2 : tie.Need-returns-2
 returns-2 c =

@@ -6,7 +6,6 @@ use mathlib.Core.Path.{_≡_, sym, ap, _∙_}
 use mathlib.Core.Bool.{Bool}
 use native.Mathlib.Nat.{add-zero}
 use native.Mathlib.Omega.{arith}
-use borrow.Author.Needs.{needs}
 use borrow.Fn.Kinds.{In}
 use borrow.Fn.PlainCycle.{Measures, is, falls, and}
 use denote.Ref.{now}
@@ -96,13 +95,13 @@ module _ (t : ℕ) where
   element-read-requires c κs = c .before .before .pre .1 .short
 
   element-enum-known-cause : element-lts.Need-enum-known-cause element-calls element-at element.Post
-  element-enum-known-cause c = search needs
+  element-enum-known-cause c = c .match .keys1
 
   element-fault-requires-2 : element-lts.Need-fault-requires-2 element-calls element-at element.Post
   element-fault-requires-2 c κs = tt
 
   element-enum-known-identifier : element-lts.Need-enum-known-identifier element-calls element-at element.Post
-  element-enum-known-identifier c = search needs
+  element-enum-known-identifier c = c .match .keys2
 
   -- the header stands, with its three numbers
   module _ (c : element-lts.After-identifier element-calls element-at element.Post) where
@@ -215,7 +214,7 @@ module _ (t : ℕ) where
       (omega (arith, start .pre .0, part .0), part .1)
 
   list-enum-known-end : list-lts.Need-enum-known-end list-calls list-at list.Post list-Inv-loop list-μ-loop
-  list-enum-known-end c = search needs
+  list-enum-known-end c = c .match .keys1
 
   -- the element at `at` ends, after `at` and within the list
   module _ (c : list-lts.After-end list-calls list-at list.Post list-Inv-loop list-μ-loop) where
@@ -245,7 +244,7 @@ module _ (t : ℕ) where
       (omega (arith, within d), sym next ∙ d .before .before .before .before .before .loop .inv .1)
 
   list-enum-known-number : list-lts.Need-enum-known-number list-calls list-at list.Post list-Inv-loop list-μ-loop
-  list-enum-known-number c = search needs
+  list-enum-known-number c = c .match .keys2
 
   list-returns : list-lts.Need-returns list-calls list-at list.Post list-Inv-loop list-μ-loop
   list-returns c =

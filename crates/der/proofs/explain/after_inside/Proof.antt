@@ -1,5 +1,4 @@
 -- `der::explain::after_inside` meets its contract: the answer for the inside picks the case. Assumes nothing.
-use borrow.Author.Needs.{needs}
 use mathlib.Core.Bool.{Bool}
 use mathlib.Core.Path.{sym, ap, _∙_}
 use Rattle.der.specs.steps.Explain.{byRule, afterInside}
@@ -8,16 +7,16 @@ use Rattle.der.proofs.explain.after_inside.Statement.{statement}
 use Rattle.der.proofs.explain.after_inside.Tie as tie
 
 enum-known-answer : tie.Need-enum-known-answer
-enum-known-answer c = search needs
+enum-known-answer c = c .match .keys1
 
 closes-requires : tie.Need-closes-requires
-closes-requires c κs = search needs
+closes-requires c κs = tt
 
 by-rule-requires : tie.Need-by-rule-requires
-by-rule-requires c κs = search needs
+by-rule-requires c κs = tt
 
 enum-known-answer-2 : tie.Need-enum-known-answer-2
-enum-known-answer-2 c = search needs
+enum-known-answer-2 c = c .match .keys2
 
 returns : tie.Need-returns
 returns c =

@@ -1,5 +1,5 @@
 -- `der::explain::by_rule` meets its contract: whether the rule is kept picks the case. Assumes nothing.
-use borrow.Author.Needs.{needs}
+use native.Mathlib.Omega.{arith}
 use mathlib.Core.Path.{sym, _∙_}
 use Rattle.der.specs.meaning.Identifier.{tagNumber}
 use Rattle.der.proofs.theorems.explain.Steps.{rule-kept, rule-broken}
@@ -10,10 +10,10 @@ returns : tie.Need-returns
 returns c = let a = c .before .args in sym (rule-kept (a .place) (a .end) (a .id) (c .if1 .taken))
 
 cast-t7 : tie.Need-cast-t7
-cast-t7 c = search needs
+cast-t7 c = omega arith
 
 fault-requires : tie.Need-fault-requires
-fault-requires c κs = search needs
+fault-requires c κs = tt
 
 returns-2 : tie.Need-returns-2
 unfolding tagNumber

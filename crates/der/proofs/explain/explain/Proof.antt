@@ -1,5 +1,4 @@
 -- `der::explain::explain` meets its contract: the part that is lent is the octets from one place to the other. Assumes nothing.
-use borrow.Author.Needs.{needs}
 use mathlib.Core.Path.{sym, ap, _∙_}
 use native.Mathlib.Omega.{arith}
 use Rattle.der.specs.meaning.Bounds.{depth}
@@ -11,7 +10,7 @@ use Rattle.der.proofs.explain.explain.Statement.{statement}
 use Rattle.der.proofs.explain.explain.Tie as tie
 
 fault-requires : tie.Need-fault-requires
-fault-requires c κs = search needs
+fault-requires c κs = tt
 
 returns : tie.Need-returns
 returns c =
@@ -21,7 +20,7 @@ returns c =
     (c .fault .ensures ∙ sym (walk-long (a .bytes .now) (a .at) (a .end) (c .before .if1 .taken)))
 
 between-requires : tie.Need-between-requires
-between-requires c κs = search needs
+between-requires c κs = tt
 
 element-requires : tie.Need-element-requires
 element-requires c κs =

@@ -9,7 +9,6 @@ use native.Mathlib.Omega.{arith}
 use mathlib.Core.Logic.{⊎-elim}
 use lib.Dec.{ltb}
 use borrow.Author.Tests.{not-true, not-false, ltb-false}
-use borrow.Author.Needs.{needs}
 use borrow.Fn.Kinds.{In}
 use borrow.Fn.PlainCycle.{Measures, is, falls, and}
 use denote.Ref.{now}
@@ -238,19 +237,19 @@ module _ (t : ℕ) where
     sound = decided (f .before) true (not-false _ (f .if4 .left))
 
   is-list-sub-descends : is-list-lts.Need-sub-descends is-list-calls is-list-at is-list.Post is-list-Inv-loop is-list-μ-loop
-  is-list-sub-descends c = search needs
+  is-list-sub-descends c = omega arith
 
   is-list-part-descends-start : is-list-lts.Need-part-descends-start is-list-calls is-list-at is-list.Post is-list-Inv-loop is-list-μ-loop
-  is-list-part-descends-start c = search needs
+  is-list-part-descends-start c = omega arith
 
   is-list-part-descends-end : is-list-lts.Need-part-descends-end is-list-calls is-list-at is-list.Post is-list-Inv-loop is-list-μ-loop
-  is-list-part-descends-end c = search needs
+  is-list-part-descends-end c = omega arith
 
   is-list-sub-descends-2 : is-list-lts.Need-sub-descends-2 is-list-calls is-list-at is-list.Post is-list-Inv-loop is-list-μ-loop
-  is-list-sub-descends-2 c = search needs
+  is-list-sub-descends-2 c = omega arith
 
   is-list-part-descends-start-2 : is-list-lts.Need-part-descends-start-2 is-list-calls is-list-at is-list.Post is-list-Inv-loop is-list-μ-loop
-  is-list-part-descends-start-2 c = search needs
+  is-list-part-descends-start-2 c = omega arith
 
   is-list-part-descends-end-2 : is-list-lts.Need-part-descends-end-2 is-list-calls is-list-at is-list.Post is-list-Inv-loop is-list-μ-loop
   is-list-part-descends-end-2 c = omega (arith, within (there (c .before .before)))

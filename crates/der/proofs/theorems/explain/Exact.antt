@@ -319,6 +319,35 @@ unique-inside left p id first whole first′ whole′ c inside inside′ f f′ 
         inner (p + length (header id c)) (i .1) (i′ .1) (i .0) (sym (i .0) ∙ i′ .0)
     go false plain = f .valued plain .0 ∙ sym (f′ .valued plain .0)
 
+-- elements with equal parts are equal
+same-element : {id id′ first first′ whole whole′ : ℕ} {c c′ : List ℕ} {inside inside′ rest rest′ : Tree}
+    → id ≡ id′ → first ≡ first′ → whole ≡ whole′ → c ≡ c′ → inside ≡ inside′ → rest ≡ rest′
+    → element id first whole c inside rest ≡ element id′ first′ whole′ c′ inside′ rest′
+same-element tags places wholes contents insides rests = cc
+
+-- equal encodings are of equal elements, if equal encodings of what is inside and after them are of equal trees
+unique-element : (left p id first whole id′ first′ whole′ : ℕ) (c c′ : List ℕ) (inside rest inside′ rest′ : Tree)
+    → WellFormed (suc left) p (element id first whole c inside rest)
+    → WellFormed (suc left) p (element id′ first′ whole′ c′ inside′ rest′)
+    → length (encode (element id first whole c inside rest)) ≤ longest
+    → encode (element id first whole c inside rest) ≡ encode (element id′ first′ whole′ c′ inside′ rest′)
+    → ((q : ℕ) → WellFormed left q inside → WellFormed left q inside′ → length (encode inside) ≤ longest → encode inside ≡ encode inside′ → inside ≡ inside′)
+    → ((q : ℕ) → WellFormed (suc left) q rest → WellFormed (suc left) q rest′ → length (encode rest) ≤ longest → encode rest ≡ encode rest′ → rest ≡ rest′)
+    → element id first whole c inside rest ≡ element id′ first′ whole′ c′ inside′ rest′
+unfolding encode WellFormed
+unique-element left p id first whole id′ first′ whole′ c c′ inside rest inside′ rest′ ft fu short same inner after =
+    let size = length-append (header id c ++ c) (encode rest) in
+    let sized = length-append (header id c) c in
+    let size′ = length-append (header id′ c′ ++ c′) (encode rest′) in
+    let sized′ = length-append (header id′ c′) c′ in
+    let s = unique-octets id id′ c c′ (encode rest) (encode rest′) (ft .0 .identified) (fu .0 .identified) (omega arith)
+    (omega (arith, ap length same)) same in
+    let places : first ≡ first′ = ft .0 .placed ∙ sym (fu .0 .placed) in
+    let wholes : whole ≡ whole′ = cc (ft .0 .sized, fu .0 .sized, s .0, s .1) in
+    let f′ : Formed p id first′ whole′ c inside′ (WellFormed left (p + length (header id c)) inside′) = rw (s .0, s .1) (fu .0) in
+    let insides = unique-inside left p id first whole first′ whole′ c inside inside′ (ft .0) f′ (λ q f g filled e. inner q f g (omega (arith, ap length filled)) e) in
+    same-element (s .0) places wholes (s .1) insides (after (p + whole) (ft .1) (rw wholes (fu .1)) (omega arith) (s .2))
+
 -- Uniqueness: two well-formed trees with one encoding are equal.
 pub unique : (left p : ℕ) (t u : Tree) → WellFormed left p t → WellFormed left p u → length (encode t) ≤ longest → encode t ≡ encode u → t ≡ u
 unfolding encode WellFormed
@@ -329,16 +358,5 @@ unique left p (element id first whole c inside rest) none ft fu short same =
     absurd (omega (arith, ap length same, encode-length id first whole c inside rest, some-octets id c))
 unique zero p (element id first whole c inside rest) (element id′ first′ whole′ c′ inside′ rest′) ft fu short same = absurd ft
 unique (suc left) p (element id first whole c inside rest) (element id′ first′ whole′ c′ inside′ rest′) ft fu short same =
-    let size = length-append (header id c ++ c) (encode rest) in
-    let sized = length-append (header id c) c in
-    let size′ = length-append (header id′ c′ ++ c′) (encode rest′) in
-    let sized′ = length-append (header id′ c′) c′ in
-    let s = unique-octets id id′ c c′ (encode rest) (encode rest′) (ft .0 .identified) (fu .0 .identified) (omega arith)
-    (omega (arith, ap length same)) same in
-    let places : first ≡ first′ = ft .0 .placed ∙ sym (fu .0 .placed) in
-    let wholes : whole ≡ whole′ = cc (ft .0 .sized, fu .0 .sized, s .0, s .1) in
-    let f′ : Formed p id first′ whole′ c inside′ (WellFormed left (p + length (header id c)) inside′) = rw (s .0, s .1) (fu .0) in
-    let insides = unique-inside left p id first whole first′ whole′ c inside inside′ (ft .0) f′
-    (λ q f g filled e. unique left q inside inside′ f g (omega (arith, ap length filled)) e) in
-    let rests = unique (suc left) (p + whole) rest rest′ (ft .1) (rw wholes (fu .1)) (omega arith) (s .2) in
-    cc (s .0, s .1)
+    unique-element left p id first whole id′ first′ whole′ c c′ inside rest inside′ rest′ ft fu short same
+    (λ q f g fit e. unique left q inside inside′ f g fit e) (λ q f g fit e. unique (suc left) q rest rest′ f g fit e)

@@ -9,7 +9,7 @@ use Rattle.writer.proofs.answers.deliver.Statement.{statement}
 use Rattle.writer.proofs.answers.deliver.Tie as tie
 
 refuse-requires : tie.Need-refuse-requires
-refuse-requires c κs = search needs
+refuse-requires c κs = tt
 
 returns : tie.Need-returns
 returns c =

@@ -16,7 +16,7 @@ abbrev μ-loop : tie.MeasureT-loop
 μ-loop draft bytes sums scratch₀ count at₀ i₀ scratch at i = count - i
 
 rows-requires : tie.Need-rows-requires Inv-loop μ-loop
-rows-requires c κs = search needs
+rows-requires c κs = tt
 
 loop-holds : tie.Need-loop-holds Inv-loop μ-loop
 loop-holds c = let a = c .before .before .before .before .before .args in joined-first (a .bytes .now) (draftRows (a .draft .now)) (a .scratch .now) (c .before .before .before .before .before .pre .short) (c .before .before .before .before .before .pre .fit)
@@ -56,10 +56,10 @@ returns c =
     joined-stops (a .bytes .now) rs (l .i) (l .at) (a .scratch .now) (l .scratch) (l .inv) r (c .before .before .before .before .before .before .row-at .ensures) there inner sum (c .before .before .before .put .result) (c .before .before .before .put .last .1 .1 .1 .1 .0) (c .before .before .before .put .kept .1 .1 .1 .1 .0) (c .before .before .before .put .ensures) (omega (arith, c .if1 .taken, c .before .before .before .put .kept .1 .1 .1 .1 .0, l .inv .sized))
 
 add-i : tie.Need-add-i Inv-loop μ-loop
-add-i c = search needs
+add-i c = omega arith
 
 loop-less : tie.Need-loop-less Inv-loop μ-loop
-loop-less c = search needs
+loop-less c = omega arith
 
 loop-again : tie.Need-loop-again Inv-loop μ-loop
 loop-again c =

@@ -47,7 +47,7 @@ module _ (t : ℕ) where
       tried-after (a .size) 0 (a .edition) (a .draft .now) (a .bytes .now) (a .output .now) (a .output .now) (c .before .before .tiny .result) (c .before .before .tiny .last .1 .1 .1 .0) refl (λ lesser. omega (arith, c .before .before .before .before .if1 .taken)) (c .before .before .tiny .ensures)
 
   sub-sized : sized-lts.Need-sub-sized calls sized-at sized.Post
-  sub-sized c = search needs
+  sub-sized c = omega arith
 
   sized-requires : sized-lts.Need-sized-requires calls sized-at sized.Post
   sized-requires c κs = let begun = c .before .before .before .before .before in (omega (arith, begun .pre .0, c .before .if1 .left), begun .pre .1)

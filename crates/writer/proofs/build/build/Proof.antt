@@ -28,7 +28,7 @@ add-up-requires : tie.Need-add-up-requires
 add-up-requires c κs = search needs
 
 refuse-requires : tie.Need-refuse-requires
-refuse-requires c κs = search needs
+refuse-requires c κs = tt
 
 same-length : tie.Need-same-length
 same-length c = search needs
@@ -90,7 +90,7 @@ returns-2 : tie.Need-returns-2
 returns-2 c = (refl, omega (arith, sized (c .before .before), c .if3 .taken))
 
 refuse-requires-2 : tie.Need-refuse-requires-2
-refuse-requires-2 c κs = search needs
+refuse-requires-2 c κs = tt
 
 same-length-4 : tie.Need-same-length-4
 same-length-4 c = search needs
@@ -117,7 +117,7 @@ slice-aggregate-judge : tie.Need-slice-aggregate-judge
 slice-aggregate-judge c = sym (length-take-le _ (scratch (c .before .before)) (omega (arith, c .before .if2 .left)))
 
 judge-requires : tie.Need-judge-requires
-judge-requires c κs = search needs
+judge-requires c κs = tt
 
 same-length-6 : tie.Need-same-length-6
 same-length-6 c = search needs

@@ -13,7 +13,7 @@ use Rattle.writer.proofs.build.judge.Statement.{statement}
 use Rattle.writer.proofs.build.judge.Tie as tie
 
 agrees-requires : tie.Need-agrees-requires
-agrees-requires c κs = search needs
+agrees-requires c κs = tt
 
 -- the answer and the output, by whether the rows agree
 abbrev answered : List ℕ → List ℕ → Bool → Answer
@@ -23,7 +23,7 @@ abbrev left : List ℕ → List ℕ → Bool → List ℕ
 left batch old b = elim b [ false ↦ old | true ↦ deliveredOutput batch old ]
 
 refuse-requires : tie.Need-refuse-requires
-refuse-requires c κs = search needs
+refuse-requires c κs = tt
 
 returns : tie.Need-returns
 returns c =
@@ -33,7 +33,7 @@ returns c =
     (c .refuse .ensures ∙ sym (ap (answered (a .batch .now) (a .output .now)) other), sym (ap (left (a .batch .now) (a .output .now)) other))
 
 deliver-requires : tie.Need-deliver-requires
-deliver-requires c κs = search needs
+deliver-requires c κs = tt
 
 same-length : tie.Need-same-length
 same-length c = search needs

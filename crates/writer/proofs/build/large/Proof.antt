@@ -2,7 +2,8 @@
 -- Assumes nothing.
 use Prim.Native.Nat.{ℕ}
 use borrow.Author.Needs.{needs}
-use lib.ListN.{replicate}
+use lib.ListN.{replicate, length-replicate}
+use mathlib.Core.Path.{sym}
 use native.Mathlib.Omega.{arith}
 use Rattle.der.specs.meaning.Bounds.{longest}
 use Rattle.writer.specs.steps.Writing.{mostRows}
@@ -12,10 +13,10 @@ use Rattle.writer.proofs.build.large.Statement.{statement}
 use Rattle.writer.proofs.build.large.Tie as tie
 
 slice-aggregate-build : tie.Need-slice-aggregate-build
-slice-aggregate-build c = search needs
+slice-aggregate-build c = sym (length-replicate {A = ℕ} mostRows 0)
 
 slice-aggregate-build-2 : tie.Need-slice-aggregate-build-2
-slice-aggregate-build-2 c = search needs
+slice-aggregate-build-2 c = sym (length-replicate {A = ℕ} longest 0)
 
 build-requires : tie.Need-build-requires
 build-requires c κs =

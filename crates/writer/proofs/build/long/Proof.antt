@@ -1,25 +1,26 @@
 -- `writer::build::long` meets its contract: the sums and the scratch are zeros, with room for the draft's rows. Assumes nothing.
 use Prim.Native.Nat.{ℕ}
 use borrow.Author.Needs.{needs}
-use lib.ListN.{replicate}
+use lib.ListN.{replicate, length-replicate}
+use native.Mathlib.Nat.{le-refl}
 use native.Mathlib.Omega.{arith}
-use mathlib.Core.Path.{refl}
+use mathlib.Core.Path.{refl, sym}
 use Rattle.der.specs.meaning.Bounds.{longest}
 use Rattle.writer.proofs.theorems.Answering.{zeros-room, tried}
 use Rattle.writer.proofs.build.long.Statement.{statement}
 use Rattle.writer.proofs.build.long.Tie as tie
 
 rows-requires : tie.Need-rows-requires
-rows-requires c κs = search needs
+rows-requires c κs = tt
 
 returns : tie.Need-returns
 returns c = (refl, omega arith)
 
 slice-aggregate-build : tie.Need-slice-aggregate-build
-slice-aggregate-build c = search needs
+slice-aggregate-build c = sym (length-replicate {A = ℕ} 4096 0)
 
 slice-aggregate-build-2 : tie.Need-slice-aggregate-build-2
-slice-aggregate-build-2 c = search needs
+slice-aggregate-build-2 c = sym (length-replicate {A = ℕ} longest 0)
 
 build-requires : tie.Need-build-requires
 build-requires c κs =
@@ -35,7 +36,7 @@ returns-2 c =
     let built = c .before .before .before .before in
     let a = built .before .before .before .before .before .before .before .before .before .args in
     tried 2 (a .edition) (a .draft .now) (a .bytes .now) (a .output .now) (replicate {A = ℕ} longest 0) (built .build .result) (built .build .last .1 .1 .1 .1 .1 .0)
-    (λ shorter. omega arith) (built .build .ensures)
+    (λ shorter. le-refl 3) (built .build .ensures)
 
 pub long-spec : {M : Type 1} → statement M
 long-spec =

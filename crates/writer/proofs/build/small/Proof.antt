@@ -9,7 +9,7 @@ use Rattle.writer.proofs.build.small.Statement.{statement}
 use Rattle.writer.proofs.build.small.Tie as tie
 
 rows-requires : tie.Need-rows-requires
-rows-requires c κs = search needs
+rows-requires c κs = tt
 
 returns : tie.Need-returns
 returns c = (refl, omega arith)

@@ -9,7 +9,7 @@ use Rattle.writer.proofs.build.tiny.Statement.{statement}
 use Rattle.writer.proofs.build.tiny.Tie as tie
 
 rows-requires : tie.Need-rows-requires
-rows-requires c κs = search needs
+rows-requires c κs = tt
 
 returns : tie.Need-returns
 returns c = (refl, omega arith)

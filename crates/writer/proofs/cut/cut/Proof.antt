@@ -1,5 +1,6 @@
 -- `writer::cut::cut` meets its contract: the batch's refusal, no message at the position, or what is answered of the batch around that message.
 -- Assumes nothing.
+use native.Mathlib.Nat.{le-refl}
 use borrow.Author.Needs.{needs}
 use Prim.Native.Nat.{ℕ, _-_, _≤_, _<_}
 use native.Mathlib.Omega.{arith}
@@ -21,7 +22,7 @@ use Rattle.writer.proofs.cut.cut.Statement.{statement}
 use Rattle.writer.proofs.cut.cut.Tie as tie
 
 accept-requires : tie.Need-accept-requires
-accept-requires c κs = search needs
+accept-requires c κs = tt
 
 returns : tie.Need-returns
 returns c =
@@ -32,10 +33,10 @@ returns c =
     (refused (found .accept .ensures) (c .if1 .taken))
 
 message-at-requires : tie.Need-message-at-requires
-message-at-requires c κs = search needs
+message-at-requires c κs = tt
 
 refuse-requires : tie.Need-refuse-requires
-refuse-requires c κs = search needs
+refuse-requires c κs = tt
 
 -- the batch is accepted
 batch : (c : tie.Else1) → let a = c .before .before .before .before .before .args in Accepted (a .edition) (a .bytes .now)
@@ -55,7 +56,7 @@ returns-2 c =
     (missing (batch found) none)
 
 read-at-requires : tie.Need-read-at-requires
-read-at-requires c κs = search needs
+read-at-requires c κs = tt
 
 -- the message at the position stands at the place
 there : (c : tie.Else2) → let found = c .before .before in let a = found .before .before .before .before .before .args in
@@ -92,10 +93,10 @@ part-put-around-end : tie.Need-part-put-around-end
 part-put-around-end c = own c .1
 
 sub-put-around-2 : tie.Need-sub-put-around-2
-sub-put-around-2 c = search needs
+sub-put-around-2 c = omega arith
 
 part-put-around-start-2 : tie.Need-part-put-around-start-2
-part-put-around-start-2 c = search needs
+part-put-around-start-2 c = le-refl _
 
 part-put-around-end-2 : tie.Need-part-put-around-end-2
 part-put-around-end-2 c = own (c .before) .1

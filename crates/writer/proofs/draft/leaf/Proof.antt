@@ -2,7 +2,7 @@
 use borrow.Author.Needs.{needs}
 use Prim.Native.Nat.{_+_, _-_, _≤_}
 use mathlib.Core.Path.{sym, _∙_}
-use native.Mathlib.Nat.{add-sub-cancel-left}
+use native.Mathlib.Nat.{add-sub-cancel-left, le-add-right, le-refl}
 use lib.ListN.{length, take, drop, length-take, length-drop, drop-of-length-le}
 use lib.Seq.{take-all}
 use Rattle.der.proofs.Laws.{take-drop}
@@ -20,16 +20,16 @@ returns c =
     sym (drop-of-length-le (take (a .first + a .whole) (a .bytes .now)) short)
 
 sub-if2 : tie.Need-sub-if2
-sub-if2 c = search needs
+sub-if2 c = omega arith
 
 sub-result : tie.Need-sub-result
-sub-result c = search needs
+sub-result c = omega arith
 
 part-result-start : tie.Need-part-result-start
-part-result-start c = search needs
+part-result-start c = omega arith
 
 part-result-end : tie.Need-part-result-end
-part-result-end c = search needs
+part-result-end c = le-refl _
 
 returns-2 : tie.Need-returns-2
 returns-2 c =
@@ -39,16 +39,16 @@ returns-2 c =
     take-all (length (a .bytes .now) - a .first) rest (omega (arith, left)) ∙ sym (take-all (a .whole) rest (omega (arith, left))) ∙ take-drop (a .whole) (a .first) (a .bytes .now)
 
 add-end : tie.Need-add-end
-add-end c = search needs
+add-end c = omega arith
 
 sub-result-2 : tie.Need-sub-result-2
-sub-result-2 c = search needs
+sub-result-2 c = omega arith
 
 part-result-start-2 : tie.Need-part-result-start-2
-part-result-start-2 c = search needs
+part-result-start-2 c = le-add-right _ _
 
 part-result-end-2 : tie.Need-part-result-end-2
-part-result-end-2 c = search needs
+part-result-end-2 c = omega arith
 
 returns-3 : tie.Need-returns-3
 returns-3 c =

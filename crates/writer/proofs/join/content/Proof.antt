@@ -1,5 +1,5 @@
 -- `writer::join::content` meets its contract: what is read first has its content within the bytes. Assumes nothing.
-use borrow.Author.Needs.{needs}
+use native.Mathlib.Nat.{le-refl}
 use Prim.Native.Nat.{_-_, _≤_}
 use native.Mathlib.Omega.{arith}
 use mathlib.Core.Path.{ap, _∙_}
@@ -11,7 +11,7 @@ use Rattle.writer.proofs.join.content.Statement.{statement}
 use Rattle.writer.proofs.join.content.Tie as tie
 
 read-at-requires : tie.Need-read-at-requires
-read-at-requires c κs = search needs
+read-at-requires c κs = tt
 
 -- the content begins within the bytes
 within : (c : tie.After-read-at) → c .read-at .result .content ≤ length (c .before .before .args .bytes .now)
@@ -27,7 +27,7 @@ part-result-start : tie.Need-part-result-start
 part-result-start c = within c
 
 part-result-end : tie.Need-part-result-end
-part-result-end c = search needs
+part-result-end c = le-refl _
 
 returns : tie.Need-returns
 returns c =

@@ -10,7 +10,7 @@ use Rattle.writer.proofs.lengths.whole_around.Statement.{statement}
 use Rattle.writer.proofs.lengths.whole_around.Tie as tie
 
 implied-length-requires : tie.Need-implied-length-requires
-implied-length-requires c κs = search needs
+implied-length-requires c κs = tt
 
 add-content : tie.Need-add-content
 add-content c = omega (arith, c .implied-length .ensures, implied-short (c .before .args .kind))

@@ -8,7 +8,7 @@ use Rattle.writer.proofs.lengths.whole_of.Statement.{statement}
 use Rattle.writer.proofs.lengths.whole_of.Tie as tie
 
 container-requires : tie.Need-container-requires
-container-requires c κs = search needs
+container-requires c κs = tt
 
 whole-around-requires : tie.Need-whole-around-requires
 whole-around-requires c κs = search needs
@@ -19,7 +19,7 @@ returns c =
     container-whole (s .args .bytes .now) (rowOf (s .args .row)) (s .args .inner) (sym (c .before .before .container .ensures) ∙ c .before .if1 .taken) (c .whole-around .ensures)
 
 add-result : tie.Need-add-result
-add-result c = search needs
+add-result c = omega arith
 
 returns-2 : tie.Need-returns-2
 returns-2 c =
@@ -27,10 +27,10 @@ returns-2 c =
     leaf-outside (s .args .bytes .now) (rowOf (s .args .row)) (s .args .inner) (sym (c .before .before .container .ensures) ∙ c .before .if1 .left) (omega arith) (omega arith)
 
 sub-if3 : tie.Need-sub-if3
-sub-if3 c = search needs
+sub-if3 c = omega arith
 
 add-result-2 : tie.Need-add-result-2
-add-result-2 c = search needs
+add-result-2 c = omega arith
 
 returns-3 : tie.Need-returns-3
 returns-3 c =

@@ -1,11 +1,12 @@
 -- `writer::octets::append` meets its contract. Assumes nothing.
+use native.Mathlib.Omega.{arith}
 use borrow.Author.Needs.{needs}
 use Rattle.writer.proofs.theorems.OctetRuns.{runs-out, append-copy}
 use Rattle.writer.proofs.octets.append.Statement.{statement}
 use Rattle.writer.proofs.octets.append.Tie as tie
 
 add-end : tie.Need-add-end
-add-end c = search needs
+add-end c = omega arith
 
 returns : tie.Need-returns
 returns c = let a = c .before .before .before .args in runs-out (a .scratch .now) (a .at) (a .octets .now) (a .scratch .now) (c .if1 .taken)

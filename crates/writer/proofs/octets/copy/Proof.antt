@@ -1,20 +1,22 @@
 -- `writer::octets::copy` meets its contract: the part that is lent is put back as a copy. Assumes nothing.
+use native.Mathlib.Nat.{le-add-right}
+use native.Mathlib.Omega.{arith}
 use borrow.Author.Needs.{needs}
 use Rattle.writer.proofs.theorems.OctetRuns.{copied}
 use Rattle.writer.proofs.octets.copy.Statement.{statement}
 use Rattle.writer.proofs.octets.copy.Tie as tie
 
 add-end : tie.Need-add-end
-add-end c = search needs
+add-end c = omega arith
 
 sub-copy : tie.Need-sub-copy
-sub-copy c = search needs
+sub-copy c = omega arith
 
 part-copy-start : tie.Need-part-copy-start
-part-copy-start c = search needs
+part-copy-start c = le-add-right _ _
 
 part-copy-end : tie.Need-part-copy-end
-part-copy-end c = search needs
+part-copy-end c = omega arith
 
 copy-requires : tie.Need-copy-requires
 copy-requires c κs = search needs

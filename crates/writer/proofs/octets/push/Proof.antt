@@ -7,16 +7,16 @@ use Rattle.writer.proofs.octets.push.Statement.{statement}
 use Rattle.writer.proofs.octets.push.Tie as tie
 
 add-result : tie.Need-add-result
-add-result c = search needs
+add-result c = omega arith
 
 returns : tie.Need-returns
 returns c = let a = c .before .args in runs-out (a .scratch .now) (a .at) (a .octet ∷ []) (a .scratch .now) (omega arith)
 
 slice-write-scratch : tie.Need-slice-write-scratch
-slice-write-scratch c = search needs
+slice-write-scratch c = omega arith
 
 add-result-2 : tie.Need-add-result-2
-add-result-2 c = search needs
+add-result-2 c = omega arith
 
 same-length : tie.Need-same-length
 same-length c = search needs

@@ -12,7 +12,7 @@ use Rattle.writer.proofs.octets.put.Statement.{statement}
 use Rattle.writer.proofs.octets.put.Tie as tie
 
 container-requires : tie.Need-container-requires
-container-requires c κs = search needs
+container-requires c κs = tt
 
 put-header-requires : tie.Need-put-header-requires
 put-header-requires c κs =
@@ -30,7 +30,7 @@ returns c =
     subst (λ (l : List ℕ). Appended (a .scratch .now) (a .at) l (c .before .before .put-header .result) (c .before .before .put-header .last .1 .1 .1 .0)) (sym (own-container (pieceOf (a .bytes .now) (rowOf (a .row))) (a .inner) is)) (c .before .before .put-header .ensures)
 
 leaf-requires : tie.Need-leaf-requires
-leaf-requires c κs = search needs
+leaf-requires c κs = tt
 
 append-requires : tie.Need-append-requires
 append-requires c κs = search needs

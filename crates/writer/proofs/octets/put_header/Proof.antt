@@ -13,16 +13,16 @@ use Rattle.writer.proofs.octets.put_header.Statement.{statement}
 use Rattle.writer.proofs.octets.put_header.Tie as tie
 
 identifier-requires : tie.Need-identifier-requires
-identifier-requires c κs = search needs
+identifier-requires c κs = tt
 
 push-requires : tie.Need-push-requires
 push-requires c κs = search needs
 
 implied-length-requires : tie.Need-implied-length-requires
-implied-length-requires c κs = search needs
+implied-length-requires c κs = tt
 
 add-put-length : tie.Need-add-put-length
-add-put-length c = search needs
+add-put-length c = omega arith
 
 put-length-requires : tie.Need-put-length-requires
 put-length-requires c κs = search needs

@@ -1,4 +1,5 @@
 -- `writer::octets::put_length` meets its contract: one, two or three octets. Assumes nothing.
+use native.Mathlib.Omega.{arith}
 use borrow.Author.Needs.{needs}
 use Prim.Native.Nat.{ℕ, _/_, _%_}
 use mathlib.Core.Path.{sym, subst}
@@ -10,7 +11,7 @@ use Rattle.writer.proofs.octets.put_length.Statement.{statement}
 use Rattle.writer.proofs.octets.put_length.Tie as tie
 
 cast-push : tie.Need-cast-push
-cast-push c = search needs
+cast-push c = omega arith
 
 push-requires : tie.Need-push-requires
 push-requires c κs = search needs
@@ -27,7 +28,7 @@ push-requires-2 : tie.Need-push-requires-2
 push-requires-2 c κs = search needs
 
 cast-push-2 : tie.Need-cast-push-2
-cast-push-2 c = search needs
+cast-push-2 c = omega arith
 
 push-requires-3 : tie.Need-push-requires-3
 push-requires-3 c κs = search needs
@@ -46,13 +47,13 @@ push-requires-4 : tie.Need-push-requires-4
 push-requires-4 c κs = search needs
 
 cast-push-3 : tie.Need-cast-push-3
-cast-push-3 c = search needs
+cast-push-3 c = omega arith
 
 push-requires-5 : tie.Need-push-requires-5
 push-requires-5 c κs = search needs
 
 cast-push-4 : tie.Need-cast-push-4
-cast-push-4 c = search needs
+cast-push-4 c = omega arith
 
 push-requires-6 : tie.Need-push-requires-6
 push-requires-6 c κs = search needs

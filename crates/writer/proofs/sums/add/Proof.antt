@@ -9,16 +9,16 @@ returns : tie.Need-returns
 returns c = let a = c .before .args in added-past (a .table .now) (a .parent) (a .i) (a .whole) (c .if1 .taken)
 
 mul-table : tie.Need-mul-table
-mul-table c = search needs
+mul-table c = omega arith
 
 slice-read-table : tie.Need-slice-read-table
-slice-read-table c = search needs
+slice-read-table c = omega arith
 
 add-table : tie.Need-add-table
 add-table c = let s = c .before .before in omega (arith, s .pre .2 (s .args .parent) (c .before .if1 .left))
 
 slice-write-table : tie.Need-slice-write-table
-slice-write-table c = search needs
+slice-write-table c = omega arith
 
 same-length : tie.Need-same-length
 same-length c = search needs

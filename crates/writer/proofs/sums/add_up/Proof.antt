@@ -16,7 +16,7 @@ abbrev μ-loop : tie.MeasureT-loop
 μ-loop draft bytes table₀ i₀ table i = i
 
 rows-requires : tie.Need-rows-requires Inv-loop μ-loop
-rows-requires c κs = search needs
+rows-requires c κs = tt
 
 loop-holds : tie.Need-loop-holds Inv-loop μ-loop
 loop-holds c =
@@ -25,16 +25,16 @@ loop-holds c =
     subst (λ (n : ℕ). Settled (s .args .bytes .now) rs n (s .args .table .now) (s .args .table .now)) (sym (c .rows .ensures)) (settled-last (s .args .bytes .now) rs (s .args .table .now) (s .pre))
 
 sub-i : tie.Need-sub-i Inv-loop μ-loop
-sub-i c = search needs
+sub-i c = omega arith
 
 row-at-requires : tie.Need-row-at-requires Inv-loop μ-loop
 row-at-requires c κs = search needs
 
 mul-whole-of : tie.Need-mul-whole-of Inv-loop μ-loop
-mul-whole-of c = search needs
+mul-whole-of c = omega arith
 
 slice-read-whole-of : tie.Need-slice-read-whole-of Inv-loop μ-loop
-slice-read-whole-of c = search needs
+slice-read-whole-of c = omega arith
 
 whole-of-requires : tie.Need-whole-of-requires Inv-loop μ-loop
 whole-of-requires c κs =
@@ -64,7 +64,7 @@ add-requires c κs =
     (omega (arith, s .room, s .below), c .before .if1 .left, λ k before. sum-bound (a .bytes .now) rs (l .loop .i - 1) (a .table .now) (l .loop .table) s k (omega arith))
 
 loop-less : tie.Need-loop-less Inv-loop μ-loop
-loop-less c = search needs
+loop-less c = omega arith
 
 loop-again : tie.Need-loop-again Inv-loop μ-loop
 loop-again c =

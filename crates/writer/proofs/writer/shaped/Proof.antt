@@ -1,5 +1,4 @@
 -- `writer::writer::shaped` meets its contract. Assumes nothing.
-use borrow.Author.Needs.{needs}
 use Prim.Native.Nat.{ℕ, _*_}
 use mathlib.Core.Path.{ap₂}
 use mathlib.Core.Bool.{_&&_}
@@ -13,13 +12,13 @@ use Rattle.writer.proofs.writer.shaped.Statement.{statement}
 use Rattle.writer.proofs.writer.shaped.Tie as tie
 
 rows-requires : tie.Need-rows-requires
-rows-requires c κs = search needs
+rows-requires c κs = tt
 
 mul-result : tie.Need-mul-result
 mul-result c = omega (arith, c .rows .ensures, rows-room (c .before .before .args .draft .now))
 
 rows-requires-2 : tie.Need-rows-requires-2
-rows-requires-2 c κs = search needs
+rows-requires-2 c κs = tt
 
 returns : tie.Need-returns
 returns c = ap₂ (λ (m n : ℕ). eqb (width * m) (length (c .before .before .before .args .draft .now)) && leb n mostRows) (c .before .rows .ensures) (c .rows2 .ensures)

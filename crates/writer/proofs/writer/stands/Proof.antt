@@ -6,7 +6,7 @@ use Rattle.writer.proofs.writer.stands.Statement.{statement}
 use Rattle.writer.proofs.writer.stands.Tie as tie
 
 rows-requires : tie.Need-rows-requires
-rows-requires c κs = search needs
+rows-requires c κs = tt
 
 returns : tie.Need-returns
 returns c = λ is. absurd (false≢true is)
@@ -18,7 +18,7 @@ returns-2 : tie.Need-returns-2
 returns-2 c = λ is. absurd (false≢true is)
 
 agrees-requires : tie.Need-agrees-requires
-agrees-requires c κs = search needs
+agrees-requires c κs = tt
 
 returns-3 : tie.Need-returns-3
 returns-3 c = λ is. sym (c .agrees .ensures) ∙ is

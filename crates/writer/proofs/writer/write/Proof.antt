@@ -37,7 +37,7 @@ answers c r new =
     writes-exactly (a .edition) (a .draft .now) (a .bytes .now) (a .output .now) (octets c) r new .1
 
 refuse-requires : tie.Need-refuse-requires
-refuse-requires c κs = search needs
+refuse-requires c κs = tt
 
 returns : tie.Need-returns
 returns c =
@@ -47,10 +47,10 @@ returns c =
     (no-edition (a .edition) (a .draft .now) (a .bytes .now) (a .output .now) (c .before .if1 .taken) (c .refuse .result) (c .refuse .ensures))
 
 shaped-requires : tie.Need-shaped-requires
-shaped-requires c κs = search needs
+shaped-requires c κs = tt
 
 refuse-requires-2 : tie.Need-refuse-requires-2
-refuse-requires-2 c κs = search needs
+refuse-requires-2 c κs = tt
 
 returns-2 : tie.Need-returns-2
 returns-2 c =
@@ -63,7 +63,7 @@ returns-2 c =
     (shapeless (a .edition) (a .draft .now) (a .bytes .now) no-shape) (c .refuse2 .result) (c .refuse2 .ensures))
 
 stands-requires : tie.Need-stands-requires
-stands-requires c κs = search needs
+stands-requires c κs = tt
 
 -- the edition is known, and the draft has a batch's shape
 module _ (c : tie.Else2) where
@@ -74,7 +74,7 @@ module _ (c : tie.Else2) where
   begun = known .before
 
 deliver-requires : tie.Need-deliver-requires
-deliver-requires c κs = search needs
+deliver-requires c κs = tt
 
 same-length : tie.Need-same-length
 same-length c = search needs
@@ -102,13 +102,13 @@ sized-requires c κs =
     record { edition = known d .if1 .left; shape = sym (d .before .shaped .ensures) ∙ not-false _ (d .if2 .left) }
 
 enum-known-outcome : tie.Need-enum-known-outcome
-enum-known-outcome c = search needs
+enum-known-outcome c = c .match .keys1
 
 enum-told : tie.Need-enum-told
-enum-told c = search needs
+enum-told c = c .match .keys2
 
 refuse-requires-3 : tie.Need-refuse-requires-3
-refuse-requires-3 c κs = search needs
+refuse-requires-3 c κs = tt
 
 -- what the sizes have come to
 module _ (c : tie.After-slice-known3) where

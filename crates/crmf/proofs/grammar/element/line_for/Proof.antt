@@ -8,10 +8,10 @@ find-line-requires : tie.Need-find-line-requires
 find-line-requires c κs = search needs
 
 enum-known-found : tie.Need-enum-known-found
-enum-known-found c = search needs
+enum-known-found c = c .match .keys1
 
 enum-told : tie.Need-enum-told
-enum-told c = search needs
+enum-told c = c .match .keys2
 
 returns : tie.Need-returns
 returns c = sym (c .before .before .find-line .ensures) ∙ c .enum-told .given .1

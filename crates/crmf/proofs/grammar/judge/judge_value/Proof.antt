@@ -1,4 +1,5 @@
 -- `crmf::grammar::judge::judge_value` meets its contract: the word's fields are the line's, and each way out is what the judge says. Assumes nothing.
+use native.Mathlib.Omega.{arith}
 use borrow.Author.Needs.{needs}
 use Prim.Native.Nat.{ℕ, _+_}
 use mathlib.Core.Path.{_≡_, sym, ap, _∙_}
@@ -13,10 +14,10 @@ use Rattle.crmf.proofs.grammar.judge.judge_value.Statement.{statement}
 use Rattle.crmf.proofs.grammar.judge.judge_value.Tie as tie
 
 judge-of-requires : tie.Need-judge-of-requires
-judge-of-requires c κs = search needs
+judge-of-requires c κs = tt
 
 next-of-requires : tie.Need-next-of-requires
-next-of-requires c κs = search needs
+next-of-requires c κs = tt
 
 -- after the reading of the word
 module _ (c : tie.After-next-of) where
@@ -34,7 +35,7 @@ module _ (c : tie.After-next-of) where
   next k e = c .next-of .ensures ∙ ap nextField e ∙ next-at k
 
 keeps-requires : tie.Need-keeps-requires
-keeps-requires c κs = search needs
+keeps-requires c κs = tt
 
 returns : tie.Need-returns
 returns c = λ k e.
@@ -43,7 +44,7 @@ returns c = λ k e.
     ∙ kept (line k .next) _ (content d) (c .before .before .if1 .taken) (line k .judge) (coded d k e) _ (c .before .keeps .ensures) (c .if2 .taken)
 
 rule-detail-requires : tie.Need-rule-detail-requires
-rule-detail-requires c κs = search needs
+rule-detail-requires c κs = tt
 
 returns-2 : tie.Need-returns-2
 returns-2 c = λ k e.
@@ -52,19 +53,19 @@ returns-2 c = λ k e.
     _ (c .rule-detail .ensures)
 
 selected-requires : tie.Need-selected-requires
-selected-requires c κs = search needs
+selected-requires c κs = tt
 
 ways-requires : tie.Need-ways-requires
-ways-requires c κs = search needs
+ways-requires c κs = tt
 
 add-word : tie.Need-add-word
-add-word c = search needs
+add-word c = omega arith
 
 word-requires : tie.Need-word-requires
 word-requires c κs = search needs
 
 next-of-requires-2 : tie.Need-next-of-requires-2
-next-of-requires-2 c κs = search needs
+next-of-requires-2 c κs = tt
 
 returns-3 : tie.Need-returns-3
 returns-3 c = λ k e.

@@ -23,7 +23,7 @@ loop-holds : tie.Need-loop-holds Inv-loop μ-loop
 loop-holds c = refl
 
 mul-pass : tie.Need-mul-pass Inv-loop μ-loop
-mul-pass c = search needs
+mul-pass c = omega arith
 
 element-copy-out-pass : tie.Need-element-copy-out-pass Inv-loop μ-loop
 element-copy-out-pass c = search needs
@@ -49,7 +49,7 @@ returns c =
     rw e (closed-here (a .loop .k) (inside (c .before .before)) (omega arith) ∙ a .loop .inv)
 
 add-k : tie.Need-add-k Inv-loop μ-loop
-add-k c = search needs
+add-k c = omega arith
 
 loop-less : tie.Need-loop-less Inv-loop μ-loop
 loop-less c = omega (arith, inside (c .before .before))

@@ -25,7 +25,7 @@ loop-holds : tie.Need-loop-holds Inv-loop μ-loop
 loop-holds c = refl
 
 mul-word : tie.Need-mul-word Inv-loop μ-loop
-mul-word c = search needs
+mul-word c = omega arith
 
 element-copy-out-word : tie.Need-element-copy-out-word Inv-loop μ-loop
 element-copy-out-word c = search needs
@@ -47,7 +47,7 @@ module _ (c : tie.After-word Inv-loop μ-loop) where
   looked = ap (λ t. passField (getD t (a .loop .k) 0)) (a .before .pre) ∙ pass-at (a .loop .k)
 
 add-if1 : tie.Need-add-if1 Inv-loop μ-loop
-add-if1 c = search needs
+add-if1 c = omega arith
 
 returns : tie.Need-returns Inv-loop μ-loop
 returns c =
@@ -83,7 +83,7 @@ returns-3 c =
     find-line-stops k (inside (d .before)) (a d .before .args .id) (unfit (c .before)) (stays (line k .pass) (omega arith)) ∙ a d .loop .inv
 
 add-k : tie.Need-add-k Inv-loop μ-loop
-add-k c = search needs
+add-k c = omega arith
 
 loop-less : tie.Need-loop-less Inv-loop μ-loop
 loop-less c = omega (arith, inside (c .before .before .before .before))

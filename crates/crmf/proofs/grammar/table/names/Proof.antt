@@ -1,14 +1,13 @@
 -- `crmf::grammar::table::names` meets its contract: the codes tell the identifiers apart. Assumes nothing.
 use mathlib.Core.Path.{sym}
 use native.Mathlib.Omega.{arith}
-use borrow.Author.Needs.{needs}
 use Rattle.crmf.specs.meaning.Notation.{octet, generalName, anything, nothing, named}
 use Rattle.crmf.specs.steps.grammar.Packed.{identifiersCode}
 use Rattle.crmf.proofs.grammar.table.names.Statement.{statement}
 use Rattle.crmf.proofs.grammar.table.names.Tie as tie
 
 general-requires : tie.Need-general-requires
-general-requires c κs = search needs
+general-requires c κs = tt
 
 returns : tie.Need-returns
 unfolding identifiersCode named

@@ -1,4 +1,5 @@
 -- `crmf::grammar::table::word` meets its contract: past the table's end `getD` answers 0, as the code does. Assumes nothing.
+use native.Mathlib.Omega.{arith}
 use Prim.Native.Nat.{ℕ, _≤_}
 use mathlib.Core.Path.{ap, sym, subst}
 use borrow.Author.Needs.{needs}
@@ -9,7 +10,7 @@ use Rattle.crmf.proofs.grammar.table.word.Statement.{statement}
 use Rattle.crmf.proofs.grammar.table.word.Tie as tie
 
 mul-result : tie.Need-mul-result
-mul-result c = search needs
+mul-result c = omega arith
 
 element-copy-out-result : tie.Need-element-copy-out-result
 element-copy-out-result c = search needs

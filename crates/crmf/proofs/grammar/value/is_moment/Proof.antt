@@ -1,4 +1,5 @@
 -- `crmf::grammar::value::is_moment` meets its contract: the numbers that it reads are the definition's, and so are its tests. Assumes nothing.
+use native.Mathlib.Omega.{arith}
 use Prim.Native.Nat.{_+_}
 use borrow.Author.Needs.{needs}
 use lib.Dec.{eqb}
@@ -9,7 +10,7 @@ use Rattle.crmf.proofs.grammar.value.is_moment.Statement.{statement}
 use Rattle.crmf.proofs.grammar.value.is_moment.Tie as tie
 
 add-pair-at : tie.Need-add-pair-at
-add-pair-at c = search needs
+add-pair-at c = omega arith
 
 pair-at-requires : tie.Need-pair-at-requires
 pair-at-requires c κs = search needs
@@ -18,31 +19,31 @@ pair-at-requires-2 : tie.Need-pair-at-requires-2
 pair-at-requires-2 c κs = search needs
 
 days-in-requires : tie.Need-days-in-requires
-days-in-requires c κs = search needs
+days-in-requires c κs = tt
 
 add-pair-at-2 : tie.Need-add-pair-at-2
-add-pair-at-2 c = search needs
+add-pair-at-2 c = omega arith
 
 pair-at-requires-3 : tie.Need-pair-at-requires-3
 pair-at-requires-3 c κs = search needs
 
 add-pair-at-3 : tie.Need-add-pair-at-3
-add-pair-at-3 c = search needs
+add-pair-at-3 c = omega arith
 
 pair-at-requires-4 : tie.Need-pair-at-requires-4
 pair-at-requires-4 c κs = search needs
 
 add-pair-at-4 : tie.Need-add-pair-at-4
-add-pair-at-4 c = search needs
+add-pair-at-4 c = omega arith
 
 pair-at-requires-5 : tie.Need-pair-at-requires-5
 pair-at-requires-5 c κs = search needs
 
 add-result : tie.Need-add-result
-add-result c = search needs
+add-result c = omega arith
 
 shared-slice-read-result : tie.Need-shared-slice-read-result
-shared-slice-read-result c = search needs
+shared-slice-read-result c = omega arith
 
 returns : tie.Need-returns
 unfolding momentAt

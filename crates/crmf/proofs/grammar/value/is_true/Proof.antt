@@ -1,7 +1,7 @@
 -- `crmf::grammar::value::is_true` meets its contract: a single octet is compared, and any other length is refused. Assumes nothing.
+use native.Mathlib.Omega.{arith}
 use mathlib.Core.List.{[], _∷_}
 use mathlib.Core.Path.{sym}
-use borrow.Author.Needs.{needs}
 use Rattle.crmf.specs.meaning.Value.{isTrue}
 use Rattle.crmf.proofs.theorems.values.ValueRules.{other-length, same-one}
 use Rattle.crmf.proofs.grammar.value.is_true.Statement.{statement}
@@ -12,7 +12,7 @@ unfolding isTrue
 returns c = sym (other-length _ (0xFF ∷ []) (c .if1 .taken))
 
 shared-slice-read-result : tie.Need-shared-slice-read-result
-shared-slice-read-result c = search needs
+shared-slice-read-result c = omega arith
 
 returns-2 : tie.Need-returns-2
 unfolding isTrue

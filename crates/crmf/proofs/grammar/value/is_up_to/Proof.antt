@@ -1,6 +1,6 @@
 -- `crmf::grammar::value::is_up_to` meets its contract: a single octet is tested as the definition does, and any other length is refused.
 -- Assumes nothing.
-use borrow.Author.Needs.{needs}
+use native.Mathlib.Omega.{arith}
 use borrow.Author.Tests.{eq-eqb, ne-eqb}
 use Rattle.crmf.specs.meaning.Value.{isUpTo}
 use Rattle.crmf.proofs.grammar.value.is_up_to.Statement.{statement}
@@ -11,7 +11,7 @@ unfolding isUpTo
 returns c = rw (isUpTo, ne-eqb _ _ (c .if1 .taken))
 
 shared-slice-read-result : tie.Need-shared-slice-read-result
-shared-slice-read-result c = search needs
+shared-slice-read-result c = omega arith
 
 returns-2 : tie.Need-returns-2
 unfolding isUpTo

@@ -1,7 +1,6 @@
 -- `crmf::grammar::value::number` meets its contract: its test is the definition's, and if it passes, there is an octet to read.
 -- Assumes nothing.
 use mathlib.Core.Path.{sym, _∙_}
-use borrow.Author.Needs.{needs}
 use borrow.Author.Tests.{eqb-true}
 use native.Mathlib.Omega.{arith}
 use lib.ListN.{length}
@@ -11,7 +10,7 @@ use Rattle.crmf.proofs.grammar.value.number.Statement.{statement}
 use Rattle.crmf.proofs.grammar.value.number.Tie as tie
 
 is-up-to-requires : tie.Need-is-up-to-requires
-is-up-to-requires c κs = search needs
+is-up-to-requires c κs = tt
 
 shared-slice-read-result : tie.Need-shared-slice-read-result
 unfolding isUpTo
@@ -27,7 +26,7 @@ unfolding number
 returns c = rw (number, sym (c .before .before .is-up-to .ensures), c .before .if1 .taken)
 
 add-result : tie.Need-add-result
-add-result c = search needs
+add-result c = omega arith
 
 returns-2 : tie.Need-returns-2
 unfolding number

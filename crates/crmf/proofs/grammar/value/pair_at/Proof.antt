@@ -1,38 +1,42 @@
 -- `crmf::grammar::value::pair_at` meets its contract: its test is the definition's, and if it passes, the digits are in their range.
 -- Assumes nothing.
 use Prim.Native.Nat.{ℕ, _+_, _≤_}
-use mathlib.Core.Path.{sym, _∙_}
-use borrow.Author.Needs.{needs}
+use mathlib.Core.Bool.{_&&_}
+use mathlib.Core.Path.{_≡_, sym, ap₂, _∙_}
 use native.Mathlib.Omega.{arith}
 use lib.ListN.{getD}
-use Rattle.crmf.specs.meaning.Value.{pairAt}
-use Rattle.crmf.proofs.theorems.values.ValueRules.{digits-range}
+use Rattle.crmf.specs.meaning.Value.{digit}
+use Rattle.crmf.proofs.theorems.values.ValueRules.{digits-range, pair-coded, pair-missing}
 use Rattle.crmf.proofs.grammar.value.pair_at.Statement.{statement}
 use Rattle.crmf.proofs.grammar.value.pair_at.Tie as tie
 
 shared-slice-read-tens : tie.Need-shared-slice-read-tens
-shared-slice-read-tens c = search needs
+shared-slice-read-tens c = omega arith
 
 add-ones : tie.Need-add-ones
-add-ones c = search needs
+add-ones c = omega arith
 
 shared-slice-read-ones : tie.Need-shared-slice-read-ones
-shared-slice-read-ones c = search needs
+shared-slice-read-ones c = omega arith
 
 is-digit-requires : tie.Need-is-digit-requires
-is-digit-requires c κs = search needs
+is-digit-requires c κs = tt
 
 is-digit-requires-2 : tie.Need-is-digit-requires-2
-is-digit-requires-2 c κs = search needs
+is-digit-requires-2 c κs = tt
 
--- both octets are digits
+-- the test of both octets is the definition's, and if it passes, both are digits
+tested : (c : tie.After-is-digit2) →
+    let a = c .before .before .before .before .before .args in
+    c .before .is-digit .result && c .is-digit2 .result ≡ digit (getD (a .content .now) (a .i) 0) && digit (getD (a .content .now) (a .i + 1) 0)
+tested c = ap₂ _&&_ (c .before .is-digit .ensures) (c .is-digit2 .ensures)
+
 ranges : (c : tie.Then1) →
     let a = c .before .before .before .before .before .before .args in
     let tens : ℕ = getD (a .content .now) (a .i) 0 in
     let ones : ℕ = getD (a .content .now) (a .i + 1) 0 in
     ((0x30 ≤ tens) × (tens ≤ 0x39)) × ((0x30 ≤ ones) × (ones ≤ 0x39))
-ranges c =
-    digits-range _ _ (sym (cc (c .before .before .is-digit .ensures, c .before .is-digit2 .ensures)) ∙ c .if1 .taken)
+ranges c = digits-range _ _ (sym (tested (c .before)) ∙ c .if1 .taken)
 
 sub-result : tie.Need-sub-result
 sub-result c = omega (arith, ranges c)
@@ -53,12 +57,14 @@ add-result : tie.Need-add-result
 add-result c = omega (arith, ranges c)
 
 returns : tie.Need-returns
-unfolding pairAt
-returns c = rw (pairAt, sym (c .before .before .is-digit .ensures), sym (c .before .is-digit2 .ensures), c .if1 .taken)
+returns c =
+    let a = c .before .before .before .before .before .before .args in
+    pair-coded (a .content .now) (a .i) (sym (tested (c .before)) ∙ c .if1 .taken)
 
 returns-2 : tie.Need-returns-2
-unfolding pairAt
-returns-2 c = rw (pairAt, sym (c .before .before .is-digit .ensures), sym (c .before .is-digit2 .ensures), c .if1 .left)
+returns-2 c =
+    let a = c .before .before .before .before .before .before .args in
+    pair-missing (a .content .now) (a .i) (sym (tested (c .before)) ∙ c .if1 .left)
 
 pub pair-at-spec : {M : Type 1} → statement M
 pair-at-spec =

@@ -10,16 +10,16 @@ use Rattle.crmf.proofs.grammar.value.selected.Statement.{statement}
 use Rattle.crmf.proofs.grammar.value.selected.Tie as tie
 
 number-requires : tie.Need-number-requires
-number-requires c κs = search needs
+number-requires c κs = tt
 
 number-requires-2 : tie.Need-number-requires-2
-number-requires-2 c κs = search needs
+number-requires-2 c κs = tt
 
 type-number-requires : tie.Need-type-number-requires
-type-number-requires c κs = search needs
+type-number-requires c κs = tt
 
 type-number-requires-2 : tie.Need-type-number-requires-2
-type-number-requires-2 c κs = search needs
+type-number-requires-2 c κs = tt
 
 returns : tie.Need-returns
 unfolding selected judgeCode

@@ -1,5 +1,5 @@
 -- `crmf::recognise::common::key_bits` meets its contract: the bytes are one element, a BIT STRING. Assumes nothing.
-use borrow.Author.Needs.{needs}
+use native.Mathlib.Nat.{le-refl}
 use borrow.Author.Tests.{eq-eqb}
 use mathlib.Core.Bool.{not, false≢true}
 use mathlib.Core.Path.{sym, ap, _∙_}
@@ -8,7 +8,7 @@ use Rattle.crmf.proofs.recognise.common.key_bits.Statement.{statement}
 use Rattle.crmf.proofs.recognise.common.key_bits.Tie as tie
 
 sole-requires : tie.Need-sole-requires
-sole-requires c κs = search needs
+sole-requires c κs = tt
 
 sub-bit-string : tie.Need-sub-bit-string
 sub-bit-string c = sole-starts (c .before .sole .ensures (c .if1 .taken))
@@ -17,10 +17,10 @@ part-bit-string-start : tie.Need-part-bit-string-start
 part-bit-string-start c = sole-starts (c .before .sole .ensures (c .if1 .taken))
 
 part-bit-string-end : tie.Need-part-bit-string-end
-part-bit-string-end c = search needs
+part-bit-string-end c = le-refl _
 
 bit-string-requires : tie.Need-bit-string-requires
-bit-string-requires c κs = search needs
+bit-string-requires c κs = tt
 
 returns : tie.Need-returns
 returns c = λ yes.

@@ -9,7 +9,7 @@ use Rattle.crmf.proofs.recognise.common.leading.Statement.{statement}
 use Rattle.crmf.proofs.recognise.common.leading.Tie as tie
 
 measure-requires : tie.Need-measure-requires
-measure-requires c κs = search needs
+measure-requires c κs = tt
 
 returns : tie.Need-returns
 returns c = λ some. absurd (some (c .if1 .taken))

@@ -1,4 +1,5 @@
 -- `crmf::recognise::common::name` meets its contract: one SEQUENCE of RDNs is a Name. Assumes nothing.
+use native.Mathlib.Nat.{le-refl}
 use borrow.Author.Needs.{needs}
 use borrow.Author.Tests.{eq-eqb}
 use mathlib.Core.Bool.{not, false≢true}
@@ -8,7 +9,7 @@ use Rattle.crmf.proofs.recognise.common.name.Statement.{statement}
 use Rattle.crmf.proofs.recognise.common.name.Tie as tie
 
 sole-requires : tie.Need-sole-requires
-sole-requires c κs = search needs
+sole-requires c κs = tt
 
 sub-rdn-sequence : tie.Need-sub-rdn-sequence
 sub-rdn-sequence c = sole-starts (c .before .sole .ensures (c .if1 .taken))
@@ -17,7 +18,7 @@ part-rdn-sequence-start : tie.Need-part-rdn-sequence-start
 part-rdn-sequence-start c = sole-starts (c .before .sole .ensures (c .if1 .taken))
 
 part-rdn-sequence-end : tie.Need-part-rdn-sequence-end
-part-rdn-sequence-end c = search needs
+part-rdn-sequence-end c = le-refl _
 
 rdn-sequence-requires : tie.Need-rdn-sequence-requires
 rdn-sequence-requires c κs = search needs

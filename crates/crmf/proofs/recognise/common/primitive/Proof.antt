@@ -1,5 +1,6 @@
 -- `crmf::recognise::common::primitive` meets its contract: one primitive element is a value after an OBJECT IDENTIFIER. Assumes nothing.
-use borrow.Author.Needs.{needs}
+use native.Mathlib.Omega.{arith}
+use native.Mathlib.Nat.{le-refl}
 use mathlib.Core.Bool.{Bool, true, false, not, _||_, false≢true}
 use mathlib.Core.Path.{_≡_, refl, sym, _∙_}
 use Rattle.crmf.proofs.theorems.recognise.RowlessInsides.{sole-starts, rowless-primitive}
@@ -7,19 +8,19 @@ use Rattle.crmf.proofs.recognise.common.primitive.Statement.{statement}
 use Rattle.crmf.proofs.recognise.common.primitive.Tie as tie
 
 shared-slice-read-id : tie.Need-shared-slice-read-id
-shared-slice-read-id c = search needs
+shared-slice-read-id c = omega arith
 
 sole-requires : tie.Need-sole-requires
-sole-requires c κs = search needs
+sole-requires c κs = tt
 
 returns : tie.Need-returns
 returns c = λ e. absurd (false≢true e)
 
 is-constructed-requires : tie.Need-is-constructed-requires
-is-constructed-requires c κs = search needs
+is-constructed-requires c κs = tt
 
 is-allowed-requires : tie.Need-is-allowed-requires
-is-allowed-requires c κs = search needs
+is-allowed-requires c κs = tt
 
 returns-2 : tie.Need-returns-2
 returns-2 c = λ e. absurd (false≢true e)
@@ -31,10 +32,10 @@ part-holds-start : tie.Need-part-holds-start
 part-holds-start c = let one = c .before .before .before in sole-starts (one .before .sole .ensures (one .if1 .left))
 
 part-holds-end : tie.Need-part-holds-end
-part-holds-end c = search needs
+part-holds-end c = le-refl _
 
 holds-requires : tie.Need-holds-requires
-holds-requires c κs = search needs
+holds-requires c κs = tt
 
 -- an identifier that passes both tests
 passes-both : (made may : Bool) → (made || not may) ≡ false → (made ≡ false) × (may ≡ true)

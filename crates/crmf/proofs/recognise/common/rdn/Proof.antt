@@ -1,4 +1,5 @@
 -- `crmf::recognise::common::rdn` meets its contract: one SEQUENCE of a type and a value is an RDN with one attribute. Assumes nothing.
+use native.Mathlib.Nat.{le-refl}
 use borrow.Author.Needs.{needs}
 use borrow.Author.Tests.{eq-eqb}
 use mathlib.Core.Bool.{not, false≢true}
@@ -8,7 +9,7 @@ use Rattle.crmf.proofs.recognise.common.rdn.Statement.{statement}
 use Rattle.crmf.proofs.recognise.common.rdn.Tie as tie
 
 sole-requires : tie.Need-sole-requires
-sole-requires c κs = search needs
+sole-requires c κs = tt
 
 sub-type-and-value : tie.Need-sub-type-and-value
 sub-type-and-value c = sole-starts (c .before .sole .ensures (c .if1 .taken))
@@ -17,7 +18,7 @@ part-type-and-value-start : tie.Need-part-type-and-value-start
 part-type-and-value-start c = sole-starts (c .before .sole .ensures (c .if1 .taken))
 
 part-type-and-value-end : tie.Need-part-type-and-value-end
-part-type-and-value-end c = search needs
+part-type-and-value-end c = le-refl _
 
 type-and-value-requires : tie.Need-type-and-value-requires
 type-and-value-requires c κs = search needs

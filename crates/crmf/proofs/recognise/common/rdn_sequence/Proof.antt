@@ -1,5 +1,7 @@
 -- `crmf::recognise::common::rdn_sequence` meets its contract. The loop's invariant: the bytes are RDNs if those from the place looked at on are.
 -- Assumes nothing.
+use native.Mathlib.Omega.{arith}
+use native.Mathlib.Nat.{le-refl, le-add-right}
 use Prim.Native.Nat.{_+_, _-_, _≤_}
 use borrow.Author.Needs.{needs}
 use borrow.Author.Tests.{not-false}
@@ -22,16 +24,16 @@ loop-holds : tie.Need-loop-holds Inv-loop μ-loop
 loop-holds c = (search needs, λ rest. rest)
 
 sub-leading : tie.Need-sub-leading Inv-loop μ-loop
-sub-leading c = search needs
+sub-leading c = omega arith
 
 part-leading-start : tie.Need-part-leading-start Inv-loop μ-loop
-part-leading-start c = search needs
+part-leading-start c = omega arith
 
 part-leading-end : tie.Need-part-leading-end Inv-loop μ-loop
-part-leading-end c = search needs
+part-leading-end c = le-refl _
 
 leading-requires : tie.Need-leading-requires Inv-loop μ-loop
-leading-requires c κs = search needs
+leading-requires c κs = tt
 
 returns : tie.Need-returns Inv-loop μ-loop
 returns c = λ e. absurd (false≢true e)
@@ -54,10 +56,10 @@ add-to : tie.Need-add-to Inv-loop μ-loop
 add-to c = search (needs, ends (c .before .before))
 
 sub-rdn : tie.Need-sub-rdn Inv-loop μ-loop
-sub-rdn c = search needs
+sub-rdn c = omega arith
 
 part-rdn-start : tie.Need-part-rdn-start Inv-loop μ-loop
-part-rdn-start c = search needs
+part-rdn-start c = le-add-right _ _
 
 part-rdn-end : tie.Need-part-rdn-end Inv-loop μ-loop
 part-rdn-end c = search (needs, ends (c .before .before))
@@ -69,7 +71,7 @@ returns-2 : tie.Need-returns-2 Inv-loop μ-loop
 returns-2 c = λ e. absurd (false≢true e)
 
 loop-less : tie.Need-loop-less Inv-loop μ-loop
-loop-less c = search needs
+loop-less c = omega arith
 
 loop-again : tie.Need-loop-again Inv-loop μ-loop
 loop-again c =

@@ -5,7 +5,7 @@ use Rattle.crmf.proofs.recognise.common.sole.Statement.{statement}
 use Rattle.crmf.proofs.recognise.common.sole.Tie as tie
 
 leading-requires : tie.Need-leading-requires
-leading-requires c κs = search needs
+leading-requires c κs = tt
 
 returns : tie.Need-returns
 returns c = λ some. absurd (some refl)

@@ -1,4 +1,6 @@
 -- `crmf::recognise::common::subject_public_key_info` meets its contract: an AlgorithmIdentifier, and a BIT STRING after it. Assumes nothing.
+use native.Mathlib.Omega.{arith}
+use native.Mathlib.Nat.{le-refl, le-add-right}
 use borrow.Author.Needs.{needs}
 use borrow.Author.Tests.{not-false}
 use mathlib.Core.Bool.{false≢true}
@@ -9,7 +11,7 @@ use Rattle.crmf.proofs.recognise.common.subject_public_key_info.Stateme
 use Rattle.crmf.proofs.recognise.common.subject_public_key_info.Tie as tie
 
 leading-requires : tie.Need-leading-requires
-leading-requires c κs = search needs
+leading-requires c κs = tt
 
 returns : tie.Need-returns
 returns c = λ e. absurd (false≢true e)
@@ -22,10 +24,10 @@ add-to : tie.Need-add-to
 add-to c = search (needs, first (c .before) .fits)
 
 sub-type-and-value : tie.Need-sub-type-and-value
-sub-type-and-value c = search needs
+sub-type-and-value c = omega arith
 
 part-type-and-value-start : tie.Need-part-type-and-value-start
-part-type-and-value-start c = search needs
+part-type-and-value-start c = le-add-right _ _
 
 part-type-and-value-end : tie.Need-part-type-and-value-end
 part-type-and-value-end c = search (needs, first (c .before) .fits)
@@ -43,7 +45,7 @@ part-key-bits-start : tie.Need-part-key-bits-start
 part-key-bits-start c = first (c .before .before .before .before) .fits .1
 
 part-key-bits-end : tie.Need-part-key-bits-end
-part-key-bits-end c = search needs
+part-key-bits-end c = le-refl _
 
 key-bits-requires : tie.Need-key-bits-requires
 key-bits-requires c κs = search needs

@@ -1,4 +1,6 @@
 -- `crmf::recognise::common::type_and_value` meets its contract: an OBJECT IDENTIFIER, and a primitive element after it or nothing. Assumes nothing.
+use native.Mathlib.Omega.{arith}
+use native.Mathlib.Nat.{le-refl, le-add-right}
 use borrow.Author.Needs.{needs}
 use borrow.Author.Tests.{not-true, not-false}
 use mathlib.Core.Bool.{false≢true}
@@ -9,7 +11,7 @@ use Rattle.crmf.proofs.recognise.common.type_and_value.Statement.{state
 use Rattle.crmf.proofs.recognise.common.type_and_value.Tie as tie
 
 leading-requires : tie.Need-leading-requires
-leading-requires c κs = search needs
+leading-requires c κs = tt
 
 returns : tie.Need-returns
 returns c = λ e. absurd (false≢true e)
@@ -22,16 +24,16 @@ add-to : tie.Need-add-to
 add-to c = search (needs, first (c .before) .fits)
 
 sub-object-identifier : tie.Need-sub-object-identifier
-sub-object-identifier c = search needs
+sub-object-identifier c = omega arith
 
 part-object-identifier-start : tie.Need-part-object-identifier-start
-part-object-identifier-start c = search needs
+part-object-identifier-start c = le-add-right _ _
 
 part-object-identifier-end : tie.Need-part-object-identifier-end
 part-object-identifier-end c = search (needs, first (c .before) .fits)
 
 object-identifier-requires : tie.Need-object-identifier-requires
-object-identifier-requires c κs = search needs
+object-identifier-requires c κs = tt
 
 returns-2 : tie.Need-returns-2
 returns-2 c = λ e. absurd (false≢true e)
@@ -51,7 +53,7 @@ part-primitive-start : tie.Need-part-primitive-start
 part-primitive-start c = first (c .before .before .before .before .before) .fits .1
 
 part-primitive-end : tie.Need-part-primitive-end
-part-primitive-end c = search needs
+part-primitive-end c = le-refl _
 
 primitive-requires : tie.Need-primitive-requires
 primitive-requires c κs = search (needs, first (c .before .before .before .before .before .before) .fits, c .before .if3 .left)

@@ -5,7 +5,6 @@ use mathlib.Core.Path.{_≡_, refl, sym, ap, subst, _∙_}
 use mathlib.Core.Bool.{true}
 use mathlib.Core.List.{List, []}
 use native.Mathlib.Omega.{arith}
-use borrow.Author.Needs.{needs}
 use borrow.Fn.Kinds.{In}
 use borrow.Fn.PlainCycle.{Measures, is, falls, and}
 use denote.Ref.{now}
@@ -100,16 +99,16 @@ module _ (t : ℕ) where
   list-calls = (element-below, element.Post)
 
   element-read-at-requires : element-lts.Need-read-at-requires element-calls element-at element.Post
-  element-read-at-requires c κs = search needs
+  element-read-at-requires c κs = tt
 
   element-line-for-requires : element-lts.Need-line-for-requires element-calls element-at element.Post
   element-line-for-requires c κs = c .before .before .before .pre .1 .0 .right
 
   element-enum-known-fitting : element-lts.Need-enum-known-fitting element-calls element-at element.Post
-  element-enum-known-fitting c = search needs
+  element-enum-known-fitting c = c .match .keys1
 
   element-enum-told : element-lts.Need-enum-told element-calls element-at element.Post
-  element-enum-told c = search needs
+  element-enum-told c = c .match .keys2
 
   element-returns : element-lts.Need-returns element-calls element-at element.Post
   element-returns c =
@@ -162,7 +161,7 @@ module _ (t : ℕ) where
       (sym (own .own-rows .ensures .0 (h .number) (h .word)) ∙ c .if1 .taken)
 
   element-sub-t16 : element-lts.Need-sub-t16 element-calls element-at element.Post
-  element-sub-t16 c = search needs
+  element-sub-t16 c = omega arith
 
   element-inside-requires : element-lts.Need-inside-requires element-calls element-at element.Post
   element-inside-requires c κs =
@@ -212,7 +211,7 @@ module _ (t : ℕ) where
       (lent d .right, ordered d .ordered, omega (arith, ordered d .within, lent d .inside))
 
   element-sub-t17 : element-lts.Need-sub-t17 element-calls element-at element.Post
-  element-sub-t17 c = search needs
+  element-sub-t17 c = omega arith
 
   element-returns-4 : element-lts.Need-returns-4 element-calls element-at element.Post
   element-returns-4 c =
@@ -228,10 +227,10 @@ module _ (t : ℕ) where
       (omega (arith, i .inside .ensures .1))
 
   inside-inside-of-requires : inside-lts.Need-inside-of-requires inside-calls inside-at inside.Post
-  inside-inside-of-requires c κs = search needs
+  inside-inside-of-requires c κs = tt
 
   inside-rowless-requires : inside-lts.Need-rowless-requires inside-calls inside-at inside.Post
-  inside-rowless-requires c κs = search needs
+  inside-rowless-requires c κs = tt
 
   inside-add-result : inside-lts.Need-add-result inside-calls inside-at inside.Post
   inside-add-result c = let begun = c .before .before .before .before .before .before in omega (arith, begun .pre .1 .0)
@@ -287,10 +286,10 @@ module _ (t : ℕ) where
       )
 
   list-enum-known-step : list-lts.Need-enum-known-step list-calls list-at list.Post list-Inv-loop list-μ-loop
-  list-enum-known-step c = search needs
+  list-enum-known-step c = c .match .keys1
 
   list-enum-told : list-lts.Need-enum-told list-calls list-at list.Post list-Inv-loop list-μ-loop
-  list-enum-told c = search needs
+  list-enum-told c = c .match .keys2
 
   -- the step over the element at the loop's spot
   module _ (c : list-lts.After-element list-calls list-at list.Post list-Inv-loop list-μ-loop) where

@@ -12,7 +12,7 @@ list-requires : tie.Need-list-requires
 list-requires c κs = search needs
 
 add-result : tie.Need-add-result
-add-result c = search needs
+add-result c = omega arith
 
 returns-2 : tie.Need-returns-2
 returns-2 c =

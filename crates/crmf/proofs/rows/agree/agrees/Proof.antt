@@ -1,5 +1,5 @@
 -- `crmf::rows::agree::agrees` meets its contract: the first numbers that differ decide. Assumes nothing.
-use borrow.Author.Needs.{needs}
+use native.Mathlib.Omega.{arith}
 use Prim.Native.Nat.{ℕ}
 use lib.Dec.{eqb}
 use mathlib.Core.Path.{sym, ap₂, _∙_}
@@ -12,10 +12,10 @@ use Rattle.crmf.proofs.rows.agree.agrees.Statement.{statement}
 use Rattle.crmf.proofs.rows.agree.agrees.Tie as tie
 
 mul-if1 : tie.Need-mul-if1
-mul-if1 c = search needs
+mul-if1 c = omega arith
 
 shared-slice-read-if1 : tie.Need-shared-slice-read-if1
-shared-slice-read-if1 c = search needs
+shared-slice-read-if1 c = omega arith
 
 returns : tie.Need-returns
 returns c =
@@ -23,13 +23,13 @@ returns c =
     other-kind (rowFrom (a .draft .now) (a .at)) (entryRow (a .new)) (a .in-place) (c .if1 .taken)
 
 add-if2 : tie.Need-add-if2
-add-if2 c = search needs
+add-if2 c = omega arith
 
 mul-if2 : tie.Need-mul-if2
-mul-if2 c = search needs
+mul-if2 c = omega arith
 
 shared-slice-read-if2 : tie.Need-shared-slice-read-if2
-shared-slice-read-if2 c = search needs
+shared-slice-read-if2 c = omega arith
 
 returns-2 : tie.Need-returns-2
 returns-2 c =
@@ -38,31 +38,31 @@ returns-2 c =
     other-parent (rowFrom (a .draft .now) (a .at)) (entryRow (a .new)) (kind .if1 .left) (a .in-place) (c .if2 .taken)
 
 add-first : tie.Need-add-first
-add-first c = search needs
+add-first c = omega arith
 
 mul-first : tie.Need-mul-first
-mul-first c = search needs
+mul-first c = omega arith
 
 shared-slice-read-first : tie.Need-shared-slice-read-first
-shared-slice-read-first c = search needs
+shared-slice-read-first c = omega arith
 
 add-whole : tie.Need-add-whole
-add-whole c = search needs
+add-whole c = omega arith
 
 mul-whole : tie.Need-mul-whole
-mul-whole c = search needs
+mul-whole c = omega arith
 
 shared-slice-read-whole : tie.Need-shared-slice-read-whole
-shared-slice-read-whole c = search needs
+shared-slice-read-whole c = omega arith
 
 add-content : tie.Need-add-content
-add-content c = search needs
+add-content c = omega arith
 
 mul-content : tie.Need-mul-content
-mul-content c = search needs
+mul-content c = omega arith
 
 shared-slice-read-content : tie.Need-shared-slice-read-content
-shared-slice-read-content c = search needs
+shared-slice-read-content c = omega arith
 
 returns-3 : tie.Need-returns-3
 returns-3 c =
@@ -73,7 +73,7 @@ returns-3 c =
     same-places (rowFrom (a .draft .now) (a .at)) (entryRow (a .new)) (kind .if1 .left) (parent .if2 .left) (a .in-place) (placed .if3 .taken)
 
 container-requires : tie.Need-container-requires
-container-requires c κs = search needs
+container-requires c κs = tt
 
 returns-4 : tie.Need-returns-4
 returns-4 c =
@@ -86,10 +86,10 @@ returns-4 c =
     (sym (bears .container .ensures) ∙ c .if4 .taken)
 
 header-length-requires : tie.Need-header-length-requires
-header-length-requires c κs = search needs
+header-length-requires c κs = tt
 
 header-length-requires-2 : tie.Need-header-length-requires-2
-header-length-requires-2 c κs = search needs
+header-length-requires-2 c κs = tt
 
 returns-5 : tie.Need-returns-5
 returns-5 c =

@@ -8,7 +8,7 @@ use Rattle.crmf.proofs.rows.agree.compare.Statement.{statement}
 use Rattle.crmf.proofs.rows.agree.compare.Tie as tie
 
 add-result : tie.Need-add-result
-add-result c = search needs
+add-result c = omega arith
 
 returns : tie.Need-returns
 returns c =
@@ -16,10 +16,10 @@ returns c =
     compare-none (a .in-place) (a .draft .now) (a .row) (a .new) (c .if1 .taken)
 
 mul-at : tie.Need-mul-at
-mul-at c = search needs
+mul-at c = omega arith
 
 add-if2 : tie.Need-add-if2
-add-if2 c = search needs
+add-if2 c = omega arith
 
 returns-2 : tie.Need-returns-2
 returns-2 c =
@@ -38,7 +38,7 @@ returns-3 c =
     (sym (compared .agrees .ensures) ∙ not-true _ (c .if3 .taken))
 
 add-result-2 : tie.Need-add-result-2
-add-result-2 c = search needs
+add-result-2 c = omega arith
 
 returns-4 : tie.Need-returns-4
 returns-4 c =

@@ -14,7 +14,7 @@ use Rattle.crmf.proofs.rows.agree.own_rows.Statement.{statement}
 use Rattle.crmf.proofs.rows.agree.own_rows.Tie as tie
 
 item-entry-requires : tie.Need-item-entry-requires
-item-entry-requires c κs = search needs
+item-entry-requires c κs = tt
 
 compare-requires : tie.Need-compare-requires
 compare-requires c κs = search needs
@@ -36,7 +36,7 @@ own-entry-requires : tie.Need-own-entry-requires
 own-entry-requires c κs = search needs
 
 sub-compare : tie.Need-sub-compare
-sub-compare c = search needs
+sub-compare c = omega arith
 
 compare-requires-2 : tie.Need-compare-requires-2
 compare-requires-2 c κs =

@@ -11,7 +11,7 @@ use Rattle.crmf.proofs.rows.packed.pack.Statement.{statement}
 use Rattle.crmf.proofs.rows.packed.pack.Tie as tie
 
 words-requires : tie.Need-words-requires
-words-requires c κs = search needs
+words-requires c κs = tt
 
 walk-requires : tie.Need-walk-requires
 walk-requires c κs = search needs

@@ -2,21 +2,20 @@
 use Prim.Native.Nat.{suc, _-_}
 use mathlib.Core.Path.{_≡_}
 use native.Mathlib.Omega.{arith}
-use borrow.Author.Needs.{needs}
 use Rattle.der.specs.steps.Utf8Classes.{utf8From}
 use Rattle.der.proofs.theorems.content.Utf8Steps.{go-on, no-tail}
 use Rattle.der.proofs.content.utf8.advance.Statement.{statement}
 use Rattle.der.proofs.content.utf8.advance.Tie as tie
 
 lead-requires : tie.Need-lead-requires
-lead-requires c κs = search needs
+lead-requires c κs = tt
 
 returns : tie.Need-returns
 unfolding utf8From
 returns c b bs e = rw (c .before .if1 .taken) (c .lead .ensures b bs e)
 
 sub-t8 : tie.Need-sub-t8
-sub-t8 c = search needs
+sub-t8 c = omega arith
 
 returns-2 : tie.Need-returns-2
 returns-2 c b bs e =

@@ -1,4 +1,5 @@
 -- `der::content::utf8::eight` meets its contract: the highest bits of eight octets are 0 exactly if each is below 80. Assumes nothing.
+use native.Mathlib.Nat.{le-refl}
 use Prim.Native.Nat.{ℕ, _+_, _-_, _*_}
 use mathlib.Core.List.{List}
 use mathlib.Core.Path.{_≡_, sym, ap, _∙_}
@@ -16,25 +17,25 @@ use Rattle.der.proofs.content.utf8.eight.Statement.{statement}
 use Rattle.der.proofs.content.utf8.eight.Tie as tie
 
 sub-four : tie.Need-sub-four
-sub-four c = search needs
+sub-four c = omega arith
 
 part-four-start : tie.Need-part-four-start
-part-four-start c = search needs
+part-four-start c = omega arith
 
 part-four-end : tie.Need-part-four-end
-part-four-end c = search needs
+part-four-end c = le-refl _
 
 four-requires : tie.Need-four-requires
 four-requires c κs = search needs
 
 mul-all : tie.Need-mul-all
-mul-all c = search needs
+mul-all c = omega arith
 
 four-requires-2 : tie.Need-four-requires-2
 four-requires-2 c κs = search needs
 
 add-all : tie.Need-add-all
-add-all c = search needs
+add-all c = omega arith
 
 returns : tie.Need-returns
 returns c =

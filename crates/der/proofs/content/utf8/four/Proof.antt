@@ -10,31 +10,31 @@ octet-requires : tie.Need-octet-requires
 octet-requires c κs = search needs
 
 mul-upper : tie.Need-mul-upper
-mul-upper c = search needs
+mul-upper c = omega arith
 
 octet-requires-2 : tie.Need-octet-requires-2
 octet-requires-2 c κs = search needs
 
 add-upper : tie.Need-add-upper
-add-upper c = search needs
+add-upper c = omega arith
 
 mul-result : tie.Need-mul-result
-mul-result c = search needs
+mul-result c = omega arith
 
 octet-requires-3 : tie.Need-octet-requires-3
 octet-requires-3 c κs = search needs
 
 add-result : tie.Need-add-result
-add-result c = search needs
+add-result c = omega arith
 
 mul-result-2 : tie.Need-mul-result-2
-mul-result-2 c = search needs
+mul-result-2 c = omega arith
 
 octet-requires-4 : tie.Need-octet-requires-4
 octet-requires-4 c κs = search needs
 
 add-result-2 : tie.Need-add-result-2
-add-result-2 c = search needs
+add-result-2 c = omega arith
 
 returns : tie.Need-returns
 returns c = (omega (arith, four-octets (λ k. getD (c .before .before .before .before .before .args .bytes .now) k 0)), omega arith)

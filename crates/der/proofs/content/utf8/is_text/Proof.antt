@@ -2,7 +2,6 @@
 -- Assumes nothing.
 use mathlib.Core.Path.{refl}
 use native.Mathlib.Omega.{arith}
-use borrow.Author.Needs.{needs}
 use Rattle.der.specs.steps.Utf8Classes.{classOf}
 use Rattle.der.proofs.theorems.content.Checked.{checked-begin, checked-end}
 use Rattle.der.proofs.theorems.content.Eights.{ascii-begins}
@@ -11,7 +10,7 @@ use Rattle.der.proofs.content.utf8.is_text.Statement.{statement}
 use Rattle.der.proofs.content.utf8.is_text.Tie as tie
 
 ascii-requires : tie.Need-ascii-requires
-ascii-requires c κs = search needs
+ascii-requires c κs = tt
 
 returns : tie.Need-returns
 returns c =

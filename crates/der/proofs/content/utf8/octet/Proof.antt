@@ -1,12 +1,11 @@
 -- `der::content::utf8::octet` meets its contract: an octet is below 100. Assumes nothing.
 use native.Mathlib.Omega.{arith}
 use mathlib.Core.Path.{refl}
-use borrow.Author.Needs.{needs}
 use Rattle.der.proofs.content.utf8.octet.Statement.{statement}
 use Rattle.der.proofs.content.utf8.octet.Tie as tie
 
 shared-slice-read-result : tie.Need-shared-slice-read-result
-shared-slice-read-result c = search needs
+shared-slice-read-result c = omega arith
 
 cast-result : tie.Need-cast-result
 cast-result c = omega (arith, c .shared-slice-known .given (c .before .args .i))

@@ -25,10 +25,10 @@ step-requires : tie.Need-step-requires Inv-loop μ-loop
 step-requires c κs = (c .before .loop .inv .within, begins-exactly (c .before .loop .inv))
 
 add-i : tie.Need-add-i Inv-loop μ-loop
-add-i c = search needs
+add-i c = omega arith
 
 loop-less : tie.Need-loop-less Inv-loop μ-loop
-loop-less c = search needs
+loop-less c = omega arith
 
 loop-again : tie.Need-loop-again Inv-loop μ-loop
 loop-again c =
@@ -39,7 +39,7 @@ loop-again c =
     rw none (checked-begin (stepped .1 .stand) (eight-characters content (stepped .0) (stepped .1)))
 
 shared-slice-read-b : tie.Need-shared-slice-read-b Inv-loop μ-loop
-shared-slice-read-b c = search needs
+shared-slice-read-b c = omega arith
 
 cast-b : tie.Need-cast-b Inv-loop μ-loop
 cast-b c = omega (arith, c .shared-slice-known2 .given (c .before .before .before .before .loop .i))
@@ -51,10 +51,10 @@ advance-requires : tie.Need-advance-requires Inv-loop μ-loop
 advance-requires c κs = tt
 
 enum-known-s : tie.Need-enum-known-s Inv-loop μ-loop
-enum-known-s c = search needs
+enum-known-s c = c .match .keys1
 
 enum-told : tie.Need-enum-told Inv-loop μ-loop
-enum-told c = search needs
+enum-told c = c .match .keys2
 
 -- after an octet the check goes on as its step says
 on : (c : tie.After-advance Inv-loop μ-loop) →
@@ -73,10 +73,10 @@ returns c =
     whole (at .before .before .args .content .now) (at .loop .i + 1) (rw (c .enum-told .given .1) at (on (c .before .before)))
 
 add-i-2 : tie.Need-add-i-2 Inv-loop μ-loop
-add-i-2 c = search needs
+add-i-2 c = omega arith
 
 loop-less-2 : tie.Need-loop-less-2 Inv-loop μ-loop
-loop-less-2 c = search needs
+loop-less-2 c = omega arith
 
 loop-again-2 : tie.Need-loop-again-2 Inv-loop μ-loop
 loop-again-2 c = record { within = search needs; same = rw (c .before .s .given .1) at (on (c .before .before .before)) }

@@ -1,5 +1,4 @@
 -- `der::element::length::fit` meets its contract: each return is a case of `fitted`. Assumes nothing.
-use borrow.Author.Needs.{needs}
 use borrow.Author.Tests.{le-leb, lt-leb}
 use native.Mathlib.Omega.{arith}
 use Prim.Native.Nat.{_+_, _≤_, _<_}
@@ -8,10 +7,10 @@ use Rattle.der.proofs.element.length.fit.Statement.{statement}
 use Rattle.der.proofs.element.length.fit.Tie as tie
 
 sub-if1 : tie.Need-sub-if1
-sub-if1 c = search needs
+sub-if1 c = omega arith
 
 nothing-requires : tie.Need-nothing-requires
-nothing-requires c κs = search needs
+nothing-requires c κs = tt
 
 returns : tie.Need-returns
 returns c =

@@ -7,16 +7,16 @@ use Rattle.der.proofs.element.length.measure.Statement.{statement}
 use Rattle.der.proofs.element.length.measure.Tie as tie
 
 nothing-requires : tie.Need-nothing-requires
-nothing-requires c κs = search needs
+nothing-requires c κs = tt
 
 returns : tie.Need-returns
 returns c = c .nothing .ensures ∙ way-none (c .before .before .before .args .bytes .now) (c .before .if1 .taken)
 
 shared-slice-read-wide : tie.Need-shared-slice-read-wide
-shared-slice-read-wide c = search needs
+shared-slice-read-wide c = omega arith
 
 wide-requires : tie.Need-wide-requires
-wide-requires c κs = search needs
+wide-requires c κs = tt
 
 fit-requires : tie.Need-fit-requires
 fit-requires c κs = search needs
@@ -28,7 +28,7 @@ returns-2 c =
     rw (c .fit .ensures, d .wide .ensures) (way-small bs (d .before .before .if1 .left) (omega (arith, d .wide .ensures, c .before .if2 .taken)))
 
 nothing-requires-2 : tie.Need-nothing-requires-2
-nothing-requires-2 c κs = search needs
+nothing-requires-2 c κs = tt
 
 returns-3 : tie.Need-returns-3
 returns-3 c =
@@ -37,10 +37,10 @@ returns-3 c =
     c .nothing2 .ensures ∙ way-short bs (d .before .before .if1 .left) (c .before .if3 .taken) (omega (arith, d .wide .ensures, c .before .before .if2 .left))
 
 shared-slice-read-wide-2 : tie.Need-shared-slice-read-wide-2
-shared-slice-read-wide-2 c = search needs
+shared-slice-read-wide-2 c = omega arith
 
 wide-requires-2 : tie.Need-wide-requires-2
-wide-requires-2 c κs = search needs
+wide-requires-2 c κs = tt
 
 fit-requires-2 : tie.Need-fit-requires-2
 fit-requires-2 c κs = search needs
@@ -56,10 +56,10 @@ mul-fit : tie.Need-mul-fit
 mul-fit c = omega (arith, c .before .before .wide2 .ensures, c .before .before .before .shared-slice-known3 .given 2)
 
 shared-slice-read-wide-3 : tie.Need-shared-slice-read-wide-3
-shared-slice-read-wide-3 c = search needs
+shared-slice-read-wide-3 c = omega arith
 
 wide-requires-3 : tie.Need-wide-requires-3
-wide-requires-3 c κs = search needs
+wide-requires-3 c κs = tt
 
 add-fit : tie.Need-add-fit
 add-fit c =
@@ -78,7 +78,7 @@ returns-5 c =
     (way-two bs (e .wide .result) (d .wide2 .result) (e .wide .ensures) (d .wide2 .ensures) (d .before .before .if3 .left) (c .before .before .before .if5 .taken))
 
 nothing-requires-3 : tie.Need-nothing-requires-3
-nothing-requires-3 c κs = search needs
+nothing-requires-3 c κs = tt
 
 returns-6 : tie.Need-returns-6
 returns-6 c =
