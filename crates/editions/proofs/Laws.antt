@@ -34,7 +34,7 @@
 --     with-room           given room, reading answers what is answered without a table
 --     shown-table         after an accepted reading the table is the old one with the rows written over its first numbers
 --     paper               document 01's batches marked [P] are read as it says (`ReadsEntry`)
---     refusals-explained  worked refusals are answered by number, place and detail; `refusals-told` others by number and place, and `carried-answered`
+--     refusals-explained  worked refusals are answered by number, place and detail; `refusals-told` others by number and place, and `templates-answered`
 --                         batches that edition 1 accepts, in both editions
 pub use Rattle.editions.proofs.theorems.AnswersExactly.{answer-related, related-answer, equal-related, answers-exactly, answers-once, Shows, acceptance-shows, related-number, accepted-related, reasonOf, reason-related}
 pub use Rattle.editions.proofs.theorems.AcceptedBatches.{taken, not-refused, refused-count, grammar-tree, grammar-content, content-messages, grammar-octets, accepted-edition, accepted-rows, accepted-short, grammar-accepted}
@@ -45,4 +45,4 @@ pub use Rattle.editions.proofs.theorems.Accepting.{accepted-in, in-acce
 pub use Rattle.editions.proofs.theorems.Tables.{answer-counts, Shown, shown, with-room, shown-table}
 pub use Rattle.editions.proofs.theorems.RefusalNumbers.{answer-number}
 pub use Rattle.editions.proofs.theorems.PaperVectors.{ReadsEntry, paper}
-pub use Rattle.editions.proofs.theorems.RefusalVectors.{refusals-explained, refusals-told, carried-answered}
+pub use Rattle.editions.proofs.theorems.RefusalVectors.{refusals-explained, refusals-told, templates-answered}

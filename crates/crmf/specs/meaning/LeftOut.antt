@@ -14,12 +14,12 @@ abbrev pub omitted : List ℕ
 omitted = kinds.serialNumber ∷ kinds.signingAlg ∷ kinds.issuerUID ∷ kinds.subjectUID ∷ []
 
 -- the content octets of a row's element
-abbrev pub contentOf : List ℕ → Row → List ℕ
-contentOf s r = slice (r .content) (r .first + r .whole) s
+abbrev pub rowContent : List ℕ → Row → List ℕ
+rowContent s r = slice (r .content) (r .first + r .whole) s
 
 -- A row shows a field of a template that edition 2 doesn't allow, with request A9's detail.
 pub data LeftOut (s : List ℕ) (r : Row) : (detail : ℕ) → Type 0 where
   -- "In edition 2 those four now fit no part"
   one-of-four : T (among omitted (r .kind)) → LeftOut s r fitsNoPart
   -- "and any version but 2 breaks its rule"
-  other-version : r .kind ≡ kinds.version → (contentOf s r ≡ 0x02 ∷ [] → ⊥) → LeftOut s r valueBroken
+  other-version : r .kind ≡ kinds.version → (rowContent s r ≡ 0x02 ∷ [] → ⊥) → LeftOut s r valueBroken

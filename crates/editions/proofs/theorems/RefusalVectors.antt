@@ -28,7 +28,7 @@ use Rattle.crmf.specs.steps.rows.Fill.{goes, rowsFrom, rowsOfInput}
 use Rattle.editions.specs.declared.reader.Answer.{Answer}
 use Rattle.editions.specs.meaning.Answers.{Answers, Reason}
 use Rattle.editions.specs.steps.Reading.{batchAnswer, answer}
-use Rattle.editions.specs.examples.Refusals.{Refusal, Refused, Carried, explained, carried, told}
+use Rattle.editions.specs.examples.Refusals.{Refusal, Refused, Answered, explained, templates, told}
 use Rattle.editions.proofs.theorems.AnswersExactly.{answers-exactly, reasonOf, reason-related}
 use Rattle.editions.proofs.theorems.OctetVectors.{areOctets, test-octets, each-of}
 
@@ -94,34 +94,34 @@ refusals-told =
     each-of (Both Computed) (Both Told) (λ x (one, two). (told-computed 1 (octetsOf x) (x .one) one, told-computed 2 (octetsOf x) (x .two) two)) told computed-told
 
 -- what both editions answer to a batch that edition 1 accepts
-abbrev Taken : Carried → Type 0
-Taken x = let s = base256 130 (x .octets) in Answers 1 s 0 0 (x .rows) × Answers 2 s (x .number) (x .place) (x .count)
+abbrev AnsweredSo : Answered → Type 0
+AnsweredSo x = let s = base256 130 (x .octets) in Answers 1 s 0 0 (x .rows) × Answers 2 s (x .number) (x .place) (x .count)
 
 -- the octets are octets, and the answers are computed
-abbrev TakenComputed : Carried → Type 0
-TakenComputed x =
+abbrev AnsweredComputed : Answered → Type 0
+AnsweredComputed x =
     let s = base256 130 (x .octets) in
     (areOctets s ≡ true)
     × (answer 1 s ≡ record { number = 0; place = 0; count = x .rows })
     × (answer 2 s ≡ record { number = x .number; place = x .place; count = x .count })
 
-computed-carried : Each TakenComputed carried
+computed-templates : Each AnsweredComputed templates
 unfolding tagNumber constructed allowed valueFrom shortest longForm lengthOf sizedBy headOf
     boolean null integer bitString lastOf unpadded objectIdentifier holds listOf byRule closes afterInside elementOf walkAt
     nothingAt given read treeOf tree same isEmpty isUpTo number isTwo keeps typeNumber selected among named order content
     partSize size startsFrom start insideLine passOf formLines nextLine wayLine partLines containerLines linesFrom lines
     line findLineIn findLine closedIn closed judged withForm withLongId withElement walk emptyTally firstLong goes rowsFrom rowsOfInput
     batchAnswer answer areOctets base256
-computed-carried =
+computed-templates =
     (refl, refl, refl) & (refl, refl, refl) & (refl, refl, refl) & (refl, refl, refl) & (refl, refl, refl) & (refl, refl, refl) & (refl, refl, refl)
     & (refl, refl, refl)
     & tt
 
 -- Each batch of the list that edition 1 accepts is answered so in both editions.
-pub carried-answered : Each Taken carried
-carried-answered =
-    each-of TakenComputed Taken
+pub templates-answered : Each AnsweredSo templates
+templates-answered =
+    each-of AnsweredComputed AnsweredSo
     (λ x (octets, one, two).
     let s = base256 130 (x .octets) in
     (answers-exactly 1 s (test-octets s octets) 0 0 (x .rows) .1 one, answers-exactly 2 s (test-octets s octets) (x .number) (x .place) (x .count) .1 two))
-    carried computed-carried
+    templates computed-templates

@@ -89,7 +89,7 @@ explained =
     ∷ []
 
 -- A batch that edition 1 accepts with a count of rows, and edition 2 with a count, or refuses with 9 at a place.
-pub record Carried : Type 0 where
+pub record Answered : Type 0 where
   pub octets : ℕ
   pub rows : ℕ
   pub number : ℕ
@@ -97,12 +97,12 @@ pub record Carried : Type 0 where
   pub count : ℕ
 
 -- accepted in edition 1 alone: refused with 9 at a place
-abbrev first-alone : ℕ → ℕ → ℕ → Carried
+abbrev first-alone : ℕ → ℕ → ℕ → Answered
 first-alone bs n p = record { octets = bs; rows = n; number = 9; place = p; count = 0 }
 
 -- Document 02, A4: what edition 1 accepts of a template.
-abbrev pub carried : List Carried
-carried =
+abbrev pub templates : List Answered
+templates =
     -- a version of 0; of 2, which edition 2 accepts too; each of the four
     first-alone 0x300C300A30080201003003800100 6 11
     ∷ record { octets = 0x300C300A30080201003003800102; rows = 6; number = 0; place = 0; count = 6 }

@@ -17,13 +17,13 @@ use Rattle.crmf.specs.meaning.Grammar.{content}
 use Rattle.crmf.specs.meaning.Language.{Matches, Occurrence, occurs, occurrences}
 use Rattle.crmf.specs.meaning.Rows.{Row, headerLength, noExtent, batchRows}
 use Rattle.crmf.specs.meaning.Fields.{StandsAt}
-use Rattle.crmf.specs.meaning.LeftOut.{omitted, contentOf, LeftOut, one-of-four, other-version}
+use Rattle.crmf.specs.meaning.LeftOut.{omitted, rowContent, LeftOut, one-of-four, other-version}
 use Rattle.crmf.proofs.theorems.lists.Tests.{all, all-among}
 use Rattle.crmf.proofs.theorems.values.ValueRules.{same-octets, same-itself}
 use Rattle.crmf.proofs.theorems.grammar.Choices.{never-both}
 use Rattle.crmf.proofs.theorems.grammar.Containers.{allForms}
 use Rattle.crmf.proofs.theorems.grammar.ChoicesMatch.{holds-true, true-holds}
-use Rattle.crmf.proofs.theorems.rows.TakenElements.{Taken, takes, formsPass, content-passes, occurs-taken, taken-occurs, ShownBy, row-taken, taken-row, taken-content}
+use Rattle.crmf.proofs.theorems.rows.TakenElements.{TakenElement, takes, formsPass, content-passes, occurs-taken, taken-occurs, ShownBy, row-taken, taken-row, taken-content}
 
 -- the kinds of the five fields
 abbrev five : ℕ → Bool
@@ -110,13 +110,13 @@ occurs-some p q detail c (other {m = alone e d y} none no-fourth) at =
     never-both (eqb d 4) (eq-eqb d 4 (sym (ap (λ (o : Occurrence). o .difference) (List·Memᴰ·eq-of-singleton at)))) no-fourth
 
 -- An element that is taken, and the row that shows it.
-module _ (s : List ℕ) (x : Taken) (r : Row) (shows : ShownBy x r) (stands : slice (x .first + headerLength (x .whole) (x .octets)) (x .first + x .whole) s ≡ x .octets) where
+module _ (s : List ℕ) (x : TakenElement) (r : Row) (shows : ShownBy x r) (stands : slice (x .first + headerLength (x .whole) (x .octets)) (x .first + x .whole) s ≡ x .octets) where
   -- the row's content octets are the element's
-  content-is : contentOf s r ≡ x .octets
+  content-is : rowContent s r ≡ x .octets
   content-is = rw (shows .content, shows .first, shows .whole) stands
 
   -- so they are those of 2 exactly if the test says so
-  not-two : (contentOf s r ≡ 0x02 ∷ [] → ⊥) → isTwo (x .octets) ≡ false
+  not-two : (rowContent s r ≡ 0x02 ∷ [] → ⊥) → isTwo (x .octets) ≡ false
   unfolding isTwo
   not-two unlike = go (isTwo (x .octets)) refl
     where
@@ -124,7 +124,7 @@ module _ (s : List ℕ) (x : Taken) (r : Row) (shows : ShownBy x r) (stands : sl
       go true is = absurd (unlike (content-is ∙ same-octets (x .octets) (0x02 ∷ []) is))
       go false is = is
 
-  other-octets : isTwo (x .octets) ≡ false → contentOf s r ≡ 0x02 ∷ [] → ⊥
+  other-octets : isTwo (x .octets) ≡ false → rowContent s r ≡ 0x02 ∷ [] → ⊥
   unfolding isTwo
   other-octets is two = never-both (isTwo (x .octets)) (ap isTwo (sym content-is ∙ two) ∙ same-itself (0x02 ∷ [])) is
 
@@ -169,7 +169,7 @@ module _ {R : ℕ → Bool} {t : Tree} (m : Matches R (content Top) t) (left : �
   stands-at = rw encoded (take-length s)
 
   -- how the form of an element is marked by its kind, and that it gives the element around it none of the five
-  marked : (x : Taken) → List·Memᴰ x (takes m) → MarkedAs (x .form .marking) (x .form .kind) × (five (x .form .item) ≡ false)
+  marked : (x : TakenElement) → List·Memᴰ x (takes m) → MarkedAs (x .form .marking) (x .form .kind) × (five (x .form .item) ≡ false)
   marked x at =
       let (own, item) = and-eq-true-iff (markedBy (x .form .marking) (x .form .kind)) _ .0 (content-passes rightly all-rightly Top m x at) in
       (marked-as (x .form .marking) (x .form .kind) own, not-true (five (x .form .item)) item)
@@ -190,7 +190,7 @@ module _ {R : ℕ → Bool} {t : Tree} (m : Matches R (content Top) t) (left : �
       back : (r : Row) × List·Memᴰ r (batchRows m) × (r .first ≡ p) × LeftOut s r detail → List·Memᴰ (fourth p detail) (occurrences m)
       back (r, in-rows, first, left-out) = by (row-taken m 0 0 noExtent r in-rows)
         where
-          by : (x : Taken) × List·Memᴰ x (takes m) × (ShownBy x r ⊎ (r .kind ≡ x .form .item)) → List·Memᴰ (fourth p detail) (occurrences m)
+          by : (x : TakenElement) × List·Memᴰ x (takes m) × (ShownBy x r ⊎ (r .kind ≡ x .form .item)) → List·Memᴰ (fourth p detail) (occurrences m)
           by (x, at, inl shows) =
               let own = left-out-occurs s x r shows (taken-content s m left 0 formed stands-at x at) (marked x at .0) detail left-out in
               subst (λ (q : ℕ). List·Memᴰ (fourth q detail) (occurrences m)) first (taken-occurs m x (fourth (r .first) detail) at own)

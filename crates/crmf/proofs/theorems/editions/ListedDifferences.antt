@@ -18,7 +18,7 @@ use Rattle.crmf.specs.steps.explain.Walk.{line}
 use Rattle.crmf.proofs.theorems.lists.Tests.{all, any, any-getD, either}
 use Rattle.crmf.proofs.theorems.grammar.Choices.{never-both}
 use Rattle.crmf.proofs.theorems.grammar.Containers.{allForms}
-use Rattle.crmf.proofs.theorems.lines.WordFields.{computed, given}
+use Rattle.crmf.proofs.theorems.lines.WordFields.{computed, givenMark}
 use Rattle.crmf.proofs.theorems.rows.TakenElements.{formsPass, content-passes, occurs-taken}
 
 -- whether two marks are the same
@@ -54,12 +54,12 @@ abbrev isListed : Mark → Bool
 isListed both = true
 isListed (alone e d detail) = any (sameMark (alone e d detail)) differences
 
-all-listed : all (λ n. formsPass (λ f. isListed (given (f .marking))) (content n)) names ≡ true
+all-listed : all (λ n. formsPass (λ f. isListed (givenMark (f .marking))) (content n)) names ≡ true
 unfolding differences formsPass allForms content
 all-listed = refl
 
 -- so it is with what occurs at an element, by its marking
-occurs-listed : (k : Marking) (c : List ℕ) (p : ℕ) (o : Occurrence) → isListed (given k) ≡ true → List·Memᴰ o (occurs (markOf k c) p)
+occurs-listed : (k : Marking) (c : List ℕ) (p : ℕ) (o : Occurrence) → isListed (givenMark k) ≡ true → List·Memᴰ o (occurs (markOf k c) p)
     → List·Memᴰ (alone (o .edition) (o .difference) (o .detail)) differences
 occurs-listed (whatever both) c p o good at = absurd (List·Memᴰ·not-nil at)
 occurs-listed (whatever (alone e d detail)) c p o good at = rw (List·Memᴰ·eq-of-singleton at) (found-mark (alone e d detail) differences good)
@@ -80,7 +80,7 @@ module _ {R : ℕ → Bool} (n : Name) {t : Tree} (m : Matches R (content n) t) 
   pub listed : List·Memᴰ (alone (o .edition) (o .difference) (o .detail)) differences
   listed =
       let (x, there, own) = occurs-taken m o at in
-      occurs-listed (x .form .marking) (x .octets) (x .first) o (content-passes (λ f. isListed (given (f .marking))) all-listed n m x there) own
+      occurs-listed (x .form .marking) (x .octets) (x .first) o (content-passes (λ f. isListed (givenMark (f .marking))) all-listed n m x there) own
 
   -- So its number is one of 1 to 4,
   pub numbered : (1 ≤ o .difference) × (o .difference ≤ 4)
@@ -109,8 +109,8 @@ module _ {R : ℕ → Bool} (n : Name) {t : Tree} (m : Matches R (content n) t) 
       go false is off = never-both false off refl
 
 -- Each difference of the list is the mark of some form.
-pub listed-marks : (d : Mark) → List·Memᴰ d differences → (k : ℕ) × (given (line k .marking) ≡ d)
+pub listed-marks : (d : Mark) → List·Memᴰ d differences → (k : ℕ) × (givenMark (line k .marking) ≡ d)
 unfolding differences computed line
 listed-marks d at =
-    let (k, same) = any-getD (λ x. sameMark (given (x .marking)) d) endLine lines (marks-at (λ k. any (λ x. sameMark (given (x .marking)) k) lines) d differences refl at) in
-    (k, same-mark (given (line k .marking)) d same)
+    let (k, same) = any-getD (λ x. sameMark (givenMark (x .marking)) d) endLine lines (marks-at (λ k. any (λ x. sameMark (givenMark (x .marking)) k) lines) d differences refl at) in
+    (k, same-mark (givenMark (line k .marking)) d same)

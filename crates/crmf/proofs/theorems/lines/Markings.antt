@@ -11,12 +11,12 @@ use Rattle.crmf.specs.meaning.Notation.{both, Marking, whatever, unlessT
 use Rattle.crmf.specs.steps.grammar.Codes as codes
 use Rattle.crmf.specs.steps.grammar.Packed.{markCode, markingCode}
 use Rattle.crmf.specs.steps.explain.Walk.{line}
-use Rattle.crmf.proofs.theorems.lines.WordFields.{computed, given, at-line}
+use Rattle.crmf.proofs.theorems.lines.WordFields.{computed, givenMark, at-line}
 
 -- the code of the mark that a line's marking gives is below that of "unless two"
-low-at : (k : ℕ) → markCode (given (line k .marking)) < codes.unlessTwo
+low-at : (k : ℕ) → markCode (givenMark (line k .marking)) < codes.unlessTwo
 unfolding computed
-low-at k = ltb-true _ _ (at-line (λ x. ltb (markCode (given (x .marking))) codes.unlessTwo) refl k)
+low-at k = ltb-true _ _ (at-line (λ x. ltb (markCode (givenMark (x .marking))) codes.unlessTwo) refl k)
 
 module _ (k code : ℕ) (c : List ℕ) (coded : markingCode (line k .marking) ≡ code) where
   -- a code below it is the mark's
@@ -34,7 +34,7 @@ module _ (k code : ℕ) (c : List ℕ) (coded : markingCode (line k .marking) �
   unfolding markingCode markCode
   mark-unless-two high b two = go (line k .marking) coded (low-at k) b two
     where
-      go : (m : Marking) → markingCode m ≡ code → markCode (given m) < codes.unlessTwo → (b : Bool) → isTwo c ≡ b
+      go : (m : Marking) → markingCode m ≡ code → markCode (givenMark m) < codes.unlessTwo → (b : Bool) → isTwo c ≡ b
           → (elim b [ true ↦ 0 | false ↦ code - codes.unlessTwo ]) ≡ markCode (markOf m c)
       go (whatever m) is low b two = absurd (omega (arith, is, high, low))
       go (unlessTwo m) is low true two = sym (ap (λ (t : Bool). markCode (elim t [ true ↦ both | false ↦ m ])) two)

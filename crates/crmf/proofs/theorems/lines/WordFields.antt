@@ -28,12 +28,12 @@ unfolding line lines
 at-line f = all-first f endLine (linesFrom 1 names)
 
 -- the mark that a marking gives, if it gives one
-abbrev pub given : Marking → Mark
-given (whatever m) = m
-given (unlessTwo m) = m
+abbrev pub givenMark : Marking → Mark
+givenMark (whatever m) = m
+givenMark (unlessTwo m) = m
 
 -- a test that both editions' mark passes, and the mark that the marking gives, is passed by the mark of any value
-mark-passes : (f : Mark → Bool) (m : Marking) (c : List ℕ) → f both ≡ true → f (given m) ≡ true → f (markOf m c) ≡ true
+mark-passes : (f : Mark → Bool) (m : Marking) (c : List ℕ) → f both ≡ true → f (givenMark m) ≡ true → f (markOf m c) ≡ true
 mark-passes f (whatever m) c none own = own
 mark-passes f (unlessTwo m) c none own = go (isTwo c)
   where
@@ -42,8 +42,8 @@ mark-passes f (unlessTwo m) c none own = go (isTwo c)
     go false = own
 
 -- so one that passes at every line of the table is passed by the mark of any element in the form of any line
-pub at-mark : (f : Mark → Bool) → f both ≡ true → all (λ x. f (given (x .marking))) lines ≡ true → (k : ℕ) (c : List ℕ) → f (markOf (line k .marking) c) ≡ true
-at-mark f none e k c = mark-passes f (line k .marking) c none (at-line (λ x. f (given (x .marking))) e k)
+pub at-mark : (f : Mark → Bool) → f both ≡ true → all (λ x. f (givenMark (x .marking))) lines ≡ true → (k : ℕ) (c : List ℕ) → f (markOf (line k .marking) c) ≡ true
+at-mark f none e k c = mark-passes f (line k .marking) c none (at-line (λ x. f (givenMark (x .marking))) e k)
 
 -- the word of any number is its line, packed
 pub word-at : (k : ℕ) → getD packed k 0 ≡ pack (line k)

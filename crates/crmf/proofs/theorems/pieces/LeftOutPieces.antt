@@ -13,7 +13,7 @@ use Rattle.crmf.specs.meaning.Kinds as kinds
 use Rattle.crmf.specs.meaning.Notation.{among}
 use Rattle.crmf.specs.meaning.Rows.{Row, container, RightContent}
 use Rattle.crmf.specs.meaning.Pieces.{Piece, pieceOf, piecesOf}
-use Rattle.crmf.specs.meaning.LeftOut.{omitted, contentOf, LeftOut, one-of-four, other-version}
+use Rattle.crmf.specs.meaning.LeftOut.{omitted, rowContent, LeftOut, one-of-four, other-version}
 use Rattle.crmf.proofs.theorems.rows.RowContents.{content-same}
 
 -- the row at the same place of two lists that show the same pieces shows the same piece
@@ -40,7 +40,7 @@ leaf-piece : (s : List ℕ) (r : Row) → container (r .kind) ≡ false → piec
 leaf-piece s r leaf = ap (λ (b : Bool). elim b as (λ x. List ℕ) [ true ↦ [] | false ↦ slice (r .first) (r .first + r .whole) s ]) leaf
 
 -- the content of a row that is right is its octets after their header
-content-after : (s : List ℕ) (r : Row) → RightContent s r → contentOf s r ≡ drop (r .content - r .first) (slice (r .first) (r .first + r .whole) s)
+content-after : (s : List ℕ) (r : Row) → RightContent s r → rowContent s r ≡ drop (r .content - r .first) (slice (r .first) (r .first + r .whole) s)
 content-after s r right =
     let start : r .content ≡ r .first + (r .content - r .first) = omega (arith, right .starts) in
     ap (λ (n : ℕ). drop n (first-octets (r .first + r .whole) s)) start ∙ sym (drop-drop (r .content - r .first) (r .first) (first-octets (r .first + r .whole) s))

@@ -23,21 +23,21 @@ use Rattle.crmf.proofs.theorems.rows.RowLaws.{standing}
 use Rattle.crmf.proofs.theorems.pieces.ShownPieces.{shown}
 
 -- An element that is taken in a form, by its first byte, whole length and content octets.
-pub record Taken : Type 0 where
+pub record TakenElement : Type 0 where
   pub form : Form
   pub first : ℕ
   pub whole : ℕ
   pub octets : List ℕ
 
 unfoldable mutual
-  pub takes : {R : ℕ → Bool} {ps : Parts} {t : Tree} → Matches R ps t → List Taken
+  pub takes : {R : ℕ → Bool} {ps : Parts} {t : Tree} → Matches R ps t → List TakenElement
   takes end = []
   takes (pass ok m) = takes m
   takes (take {first = p} {whole = w} {c = c} f among fits read kept within m) =
       record { form = f; first = p; whole = w; octets = c } ∷ (takesIn within ++ takes m)
   takes (choose n way m) = takes m
 
-  pub takesIn : {R : ℕ → Bool} {i : Inside} {t : Tree} → Within R i t → List Taken
+  pub takesIn : {R : ℕ → Bool} {i : Inside} {t : Tree} → Within R i t → List TakenElement
   takesIn unseen = []
   takesIn (parts m) = takes m
 
@@ -53,7 +53,7 @@ module _ (test : Form → Bool) (everywhere : all (λ n. formsPass test (content
     unfolding takes formsPass
 
     -- It passes at the form of each element that is taken.
-    pub taken-passes : {R : ℕ → Bool} {ps : Parts} {t : Tree} (m : Matches R ps t) → formsPass test ps ≡ true → (x : Taken) → List·Memᴰ x (takes m)
+    pub taken-passes : {R : ℕ → Bool} {ps : Parts} {t : Tree} (m : Matches R ps t) → formsPass test ps ≡ true → (x : TakenElement) → List·Memᴰ x (takes m)
         → test (x .form) ≡ true
     taken-passes end good x at = absurd (List·Memᴰ·not-nil at)
     taken-passes (pass {fs = fs} {ps = ps} ok m) good x at =
@@ -67,16 +67,16 @@ module _ (test : Form → Bool) (everywhere : all (λ n. formsPass test (content
         (List·Memᴰ·cases-cons at)
     taken-passes (choose n way m) good x at = taken-passes m (at-each (λ a. formsPass test (content a)) everywhere n) x at
 
-    inside-passes : {R : ℕ → Bool} {i : Inside} {t : Tree} (w : Within R i t) (x : Taken) → List·Memᴰ x (takesIn w) → test (x .form) ≡ true
+    inside-passes : {R : ℕ → Bool} {i : Inside} {t : Tree} (w : Within R i t) (x : TakenElement) → List·Memᴰ x (takesIn w) → test (x .form) ≡ true
     inside-passes unseen x at = absurd (List·Memᴰ·not-nil at)
     inside-passes (parts {n = n} m) x at = taken-passes m (at-each (λ a. formsPass test (content a)) everywhere n) x at
 
   -- in what a container holds
-  pub content-passes : {R : ℕ → Bool} (n : Name) {t : Tree} (m : Matches R (content n) t) (x : Taken) → List·Memᴰ x (takes m) → test (x .form) ≡ true
+  pub content-passes : {R : ℕ → Bool} (n : Name) {t : Tree} (m : Matches R (content n) t) (x : TakenElement) → List·Memᴰ x (takes m) → test (x .form) ≡ true
   content-passes n m = taken-passes m (at-each (λ a. formsPass test (content a)) everywhere n)
 
 -- what occurs at such an element
-abbrev pub occursAt : Taken → List Occurrence
+abbrev pub occursAt : TakenElement → List Occurrence
 occursAt x = occurs (markOf (x .form .marking) (x .octets)) (x .first)
 
 mutual
@@ -84,7 +84,7 @@ mutual
 
   -- What occurs, occurs at an element that is taken,
   pub occurs-taken : {R : ℕ → Bool} {ps : Parts} {t : Tree} (m : Matches R ps t) (o : Occurrence) → List·Memᴰ o (occurrences m)
-      → (x : Taken) × List·Memᴰ x (takes m) × List·Memᴰ o (occursAt x)
+      → (x : TakenElement) × List·Memᴰ x (takes m) × List·Memᴰ o (occursAt x)
   occurs-taken end o at = absurd (List·Memᴰ·not-nil at)
   occurs-taken (pass ok m) o at = occurs-taken m o at
   occurs-taken (take {first = p} {whole = w} {c = c} f among fits read kept within m) o at =
@@ -97,7 +97,7 @@ mutual
   occurs-taken (choose n way m) o at = occurs-taken m o at
 
   inside-taken : {R : ℕ → Bool} {i : Inside} {t : Tree} (w : Within R i t) (o : Occurrence) → List·Memᴰ o (occurrencesIn w)
-      → (x : Taken) × List·Memᴰ x (takesIn w) × List·Memᴰ o (occursAt x)
+      → (x : TakenElement) × List·Memᴰ x (takesIn w) × List·Memᴰ o (occursAt x)
   inside-taken unseen o at = absurd (List·Memᴰ·not-nil at)
   inside-taken (parts m) o at = occurs-taken m o at
 
@@ -105,13 +105,13 @@ mutual
   unfolding takes occurrences
 
   -- and what occurs at one occurs.
-  pub taken-occurs : {R : ℕ → Bool} {ps : Parts} {t : Tree} (m : Matches R ps t) (x : Taken) (o : Occurrence) → List·Memᴰ x (takes m)
+  pub taken-occurs : {R : ℕ → Bool} {ps : Parts} {t : Tree} (m : Matches R ps t) (x : TakenElement) (o : Occurrence) → List·Memᴰ x (takes m)
       → List·Memᴰ o (occursAt x) → List·Memᴰ o (occurrences m)
   taken-occurs end x o at own = absurd (List·Memᴰ·not-nil at)
   taken-occurs (pass ok m) x o at own = taken-occurs m x o at own
   taken-occurs (take {first = p} {c = c} f among fits read kept within m) x o at own =
       let here = occurs (markOf (f .marking) c) p in
-      ⊎-elim (λ same. Memᴰ·append-left (occurrencesIn within ++ occurrences m) (subst (λ (y : Taken). List·Memᴰ o (occursAt y)) same own))
+      ⊎-elim (λ same. Memᴰ·append-left (occurrencesIn within ++ occurrences m) (subst (λ (y : TakenElement). List·Memᴰ o (occursAt y)) same own))
       (λ more.
       Memᴰ·append-right here
       (⊎-elim (λ inner. Memᴰ·append-left (occurrences m) (inside-occurs within x o inner own)) (λ after. Memᴰ·append-right (occurrencesIn within) (taken-occurs m x o after own))
@@ -119,13 +119,13 @@ mutual
       (List·Memᴰ·cases-cons at)
   taken-occurs (choose n way m) x o at own = taken-occurs m x o at own
 
-  inside-occurs : {R : ℕ → Bool} {i : Inside} {t : Tree} (w : Within R i t) (x : Taken) (o : Occurrence) → List·Memᴰ x (takesIn w)
+  inside-occurs : {R : ℕ → Bool} {i : Inside} {t : Tree} (w : Within R i t) (x : TakenElement) (o : Occurrence) → List·Memᴰ x (takesIn w)
       → List·Memᴰ o (occursAt x) → List·Memᴰ o (occurrencesIn w)
   inside-occurs unseen x o at own = absurd (List·Memᴰ·not-nil at)
   inside-occurs (parts m) x o at own = taken-occurs m x o at own
 
 -- A row shows an element that is taken: its own row.
-pub record ShownBy (x : Taken) (r : Row) : Type 0 where
+pub record ShownBy (x : TakenElement) (r : Row) : Type 0 where
   pub kind : r .kind ≡ x .form .kind
   pub first : r .first ≡ x .first
   pub whole : r .whole ≡ x .whole
@@ -144,11 +144,11 @@ mutual
 
   -- Each row shows an element that is taken, or is the row that such an element gives the one around it,
   pub row-taken : {R : ℕ → Bool} {ps : Parts} {t : Tree} (m : Matches R ps t) (n up : ℕ) (extent : Extent) (r : Row) → List·Memᴰ r (rows m n up extent)
-      → (x : Taken) × List·Memᴰ x (takes m) × (ShownBy x r ⊎ (r .kind ≡ x .form .item))
+      → (x : TakenElement) × List·Memᴰ x (takes m) × (ShownBy x r ⊎ (r .kind ≡ x .form .item))
   row-taken end n up extent r at = absurd (List·Memᴰ·not-nil at)
   row-taken (pass ok m) n up extent r at = row-taken m n up extent r at
   row-taken (take {first = p} {whole = w} {c = c} f among fits read kept within m) n up extent r at =
-      let x : Taken = record { form = f; first = p; whole = w; octets = c } in
+      let x : TakenElement = record { form = f; first = p; whole = w; octets = c } in
       let here = extentOf p w c in
       let item = rowIf (f .item) extent up in
       let above = parentIf (f .item) n up in
@@ -169,7 +169,7 @@ mutual
   row-taken (choose name way m) n up extent r at = row-taken m n up extent r at
 
   inside-row : {R : ℕ → Bool} {i : Inside} {t : Tree} (w : Within R i t) (n up : ℕ) (extent : Extent) (r : Row) → List·Memᴰ r (rowsIn w n up extent)
-      → (x : Taken) × List·Memᴰ x (takesIn w) × (ShownBy x r ⊎ (r .kind ≡ x .form .item))
+      → (x : TakenElement) × List·Memᴰ x (takesIn w) × (ShownBy x r ⊎ (r .kind ≡ x .form .item))
   inside-row unseen n up extent r at = absurd (List·Memᴰ·not-nil at)
   inside-row (parts m) n up extent r at = row-taken m n up extent r at
 
@@ -177,7 +177,7 @@ mutual
   unfolding takes rows rowsIn
 
   -- and each element that is taken and has a kind is shown by a row.
-  pub taken-row : {R : ℕ → Bool} {ps : Parts} {t : Tree} (m : Matches R ps t) (n up : ℕ) (extent : Extent) (x : Taken) → List·Memᴰ x (takes m)
+  pub taken-row : {R : ℕ → Bool} {ps : Parts} {t : Tree} (m : Matches R ps t) (n up : ℕ) (extent : Extent) (x : TakenElement) → List·Memᴰ x (takes m)
       → eqb (x .form .kind) 0 ≡ false → (r : Row) × List·Memᴰ r (rows m n up extent) × ShownBy x r
   taken-row end n up extent x at some = absurd (List·Memᴰ·not-nil at)
   taken-row (pass ok m) n up extent x at some = taken-row m n up extent x at some
@@ -196,7 +196,7 @@ mutual
         rowWith (f .kind) here above,
         Memᴰ·append-right item
             (Memᴰ·append-left (inner ++ later)
-            (subst (List·Memᴰ (rowWith (f .kind) here above)) (sym (row-own (f .kind) here above (subst (λ (y : Taken). eqb (y .form .kind) 0 ≡ false) same some))) (List·Memᴰ·head refl))),
+            (subst (List·Memᴰ (rowWith (f .kind) here above)) (sym (row-own (f .kind) here above (subst (λ (y : TakenElement). eqb (y .form .kind) 0 ≡ false) same some))) (List·Memᴰ·head refl))),
         rw same (record { kind = refl; first = refl; whole = refl; content = refl }),
       ))
       (λ more.
@@ -211,7 +211,7 @@ mutual
       (List·Memᴰ·cases-cons at)
   taken-row (choose name way m) n up extent x at some = taken-row m n up extent x at some
 
-  inside-shown : {R : ℕ → Bool} {i : Inside} {t : Tree} (w : Within R i t) (n up : ℕ) (extent : Extent) (x : Taken) → List·Memᴰ x (takesIn w)
+  inside-shown : {R : ℕ → Bool} {i : Inside} {t : Tree} (w : Within R i t) (n up : ℕ) (extent : Extent) (x : TakenElement) → List·Memᴰ x (takesIn w)
       → eqb (x .form .kind) 0 ≡ false → (r : Row) × List·Memᴰ r (rowsIn w n up extent) × ShownBy x r
   inside-shown unseen n up extent x at some = absurd (List·Memᴰ·not-nil at)
   inside-shown (parts m) n up extent x at some = taken-row m n up extent x at some
@@ -229,7 +229,7 @@ module _ (s : List ℕ) where
 
     -- The content of each element that is taken stands where its row says, if the elements stand in some octets.
     pub taken-content : {R : ℕ → Bool} {ps : Parts} {t : Tree} (m : Matches R ps t) (left q : ℕ) → WellFormed left q t → StandsAt s q (encode t)
-        → (x : Taken) → List·Memᴰ x (takes m) → slice (x .first + headerLength (x .whole) (x .octets)) (x .first + x .whole) s ≡ x .octets
+        → (x : TakenElement) → List·Memᴰ x (takes m) → slice (x .first + headerLength (x .whole) (x .octets)) (x .first + x .whole) s ≡ x .octets
     taken-content end left q wf there x at = absurd (List·Memᴰ·not-nil at)
     taken-content (pass ok m) left q wf there x at = taken-content m left q wf there x at
     taken-content (take {id = id} {first = p} {whole = w} {c = c} {inside = inside} {rest = rest} f among fits read kept within m) left q wf there x at =
@@ -245,6 +245,6 @@ module _ (s : List ℕ) where
         taken-content m left (p + w) (stand .further) (shown s left q id p w c inside rest stand there .further) x at
 
     inside-content : {R : ℕ → Bool} {i : Inside} {t : Tree} (w : Within R i t) (left q : ℕ) → WellFormed left q t → StandsAt s q (encode t)
-        → (x : Taken) → List·Memᴰ x (takesIn w) → slice (x .first + headerLength (x .whole) (x .octets)) (x .first + x .whole) s ≡ x .octets
+        → (x : TakenElement) → List·Memᴰ x (takesIn w) → slice (x .first + headerLength (x .whole) (x .octets)) (x .first + x .whole) s ≡ x .octets
     inside-content unseen left q wf there x at = absurd (List·Memᴰ·not-nil at)
     inside-content (parts m) left q wf there x at = taken-content m left q wf there x at
