@@ -65,19 +65,25 @@ def sequence(tokens, within, names):
             if tokens.pop(0) != "}":
                 raise ValueError("a brace stays open")
             name = names.get(token + "_}")
-            parts.append(built(name, names, inside) if name else element(bytes.fromhex(token[:-1]), inside))
+            parts.append(expanded(name, names, inside) if name else element(bytes.fromhex(token[:-1]), inside))
         else:
             name = names.get(token)
-            parts.append(built(name, names) if name else (bytes.fromhex(token), token))
+            parts.append(expanded(name, names) if name else (bytes.fromhex(token), token))
     return b"".join(octets for octets, _ in parts), "".join(text for _, text in parts)
 
 
-def built(written, names=None, within=None):
-    """The octets of a batch, and how the program reads them; without names those of the table count."""
+def expanded(written, names, within=None):
+    """What is written stands for; a repetition has a space on either side of it."""
     tokens = TOKEN.findall(written)
-    octets, text = sequence(tokens, within, names or table()[0])
+    found = sequence(tokens, within, names)
     if tokens:
         raise ValueError(f"a brace too many: {written}")
+    return found
+
+
+def built(written, names=None):
+    """The octets of a batch, and how the program reads them; without names those of the table count."""
+    octets, text = expanded(written, names or table()[0])
     return octets, " ".join(text.split())
 
 

@@ -139,6 +139,7 @@
 --                         `whole-container`, `whole-leaf`, `children-piece`, `assembled-piece`, `within-piece`; and if there is nothing,
 --                         `numbers-none`, `pieces-none`, `children-none`, `assembled-none`, `within-none`
 --     numbers-length      each row has `width` numbers
+--     leaf-octets         the piece of a leaf has its octets
 --     container-kinds     which kinds are containers', their identifiers (`identifier-of`) and types (`implied-type`, `implied-none`)
 --     children-bound      if no piece is longer than a limit, a piece's children have together at most the limit for each piece
 --     same-more           two lists are compared by their first octets and one more; with none, `same-none`; of other lengths, `other-length`
@@ -188,7 +189,7 @@ pub use Rattle.crmf.proofs.theorems.messages.MessageRows.{messageRows, 
 pub use Rattle.crmf.proofs.theorems.messages.BatchesOfMessages.{BatchTree, BatchWith, batch-octets-parts, messages-octets, flatten-append, content-octets, batch-octets, batch-length, batch-octets-left, batch-octets-right, batchFrom, batch-from}
 pub use Rattle.crmf.proofs.theorems.messages.JoinedBatches.{joinedTree, firstMove, secondMove, joined-tree, joined-messages, joined-rows, joined-short}
 pub use Rattle.crmf.proofs.theorems.messages.CutBatches.{cutTree, cutMove, cut-tree, cut-message, cut-short}
-pub use Rattle.crmf.proofs.theorems.pieces.Agreeing.{agree-in-place, agree-itself, Within, agreed-pieces, agreed-right, pieces-agree}
+pub use Rattle.crmf.proofs.theorems.pieces.Agreeing.{leaf-octets, agree-in-place, agree-itself, Within, agreed-pieces, agreed-right, pieces-agree}
 pub use Rattle.crmf.proofs.theorems.pieces.Assembly.{assembly, rows-few, pieces-short}
 pub use Rattle.crmf.proofs.theorems.pieces.AssembledOctets.{pieces-octets, row-ends, rows-within}
 pub use Rattle.crmf.proofs.theorems.rows.Writing.{over-parts, numbers-length}

@@ -12,7 +12,7 @@ use Rattle.crmf.specs.meaning.Value.{keeps, Selector, selected}
 use Rattle.crmf.specs.meaning.Notation.{named, Mark, both, alone, markOf, Name, Inside, free, holds, Form, Occurs, once, optional, repeated, part, Parts, done, _then_, select}
 use Rattle.crmf.specs.meaning.Grammar.{content}
 
--- A form is readable if both editions allow it, or if R says that the forms of its edition alone may be read.
+-- An element with a mark is readable if both editions allow it, or if R says that what the one edition alone allows may be read.
 abbrev pub readable : (ℕ → Bool) → Mark → Bool
 readable R both = true
 readable R (alone e d detail) = R e

@@ -33,12 +33,12 @@ named generalName id = among generalNames id
 named anything id = true
 named nothing id = false
 
--- Which editions allow a form: both, or one alone, with the number of the difference (SPECIFICATION 3.7) and the detail in the other edition.
+-- Which editions allow an element in a form: both, or one alone, with the number of the difference (SPECIFICATION 3.7) and the detail in the other edition.
 pub data Mark : Type 0 where
   both : Mark
   alone : (edition difference detail : ℕ) → Mark
 
--- the detail of a form that may not be read; it is never asked of a form that both editions allow
+-- the detail of an element that may not be read; it is never asked of one that both editions allow
 abbrev pub detailOf : Mark → ℕ
 detailOf both = fitsNoPart
 detailOf (alone e d detail) = detail

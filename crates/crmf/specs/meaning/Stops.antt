@@ -55,7 +55,7 @@ mutual
     -- "the element that fits no part it can reach"
     misfit : {ps : Parts} {around id first whole : ℕ} {c : List ℕ} {inside rest : Tree} → ((h : Choice) → Has ps id h → ⊥)
         → Stops R ps around (element id first whole c inside rest) first fitsNoPart
-    -- an element in a form that this edition doesn't allow; it isn't entered
+    -- an element that this edition doesn't allow in its form; it isn't entered
     foreign : {ps qs : Parts} {around id first whole : ℕ} {c : List ℕ} {inside rest : Tree} {f : Form} → Has ps id (taking f qs)
         → (T (readable R (markOf (f .marking) c)) → ⊥) → Stops R ps around (element id first whole c inside rest) first (detailOf (markOf (f .marking) c))
     -- "insides first": a stop inside an element

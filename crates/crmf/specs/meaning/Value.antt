@@ -25,7 +25,7 @@ number n c = elim (isUpTo n c) [ true ↦ present (getD c 0 0) | false ↦ absen
 unfoldable pub isTrue : List ℕ → Bool
 isTrue c = same c (0xFF ∷ [])
 
--- whether the content octets are those of the INTEGER 2
+-- "version, if given, is 2" (document 02, A4): whether the content octets are those of the INTEGER 2
 unfoldable pub isTwo : List ℕ → Bool
 isTwo c = same c (0x02 ∷ [])
 

@@ -18,11 +18,10 @@ use Rattle.crmf.specs.meaning.Edition.{Edition}
 use Rattle.crmf.specs.meaning.Rows.{Row, container, numbers, RightContent}
 use Rattle.crmf.specs.meaning.Pieces.{Piece, pieceOf, piecesOf}
 use Rattle.crmf.specs.steps.rows.Assembly.{wholeOf, childrenOf, noneLonger}
-use Rattle.crmf.proofs.Laws.{pieces-row, whole-leaf, within-piece}
+use Rattle.crmf.proofs.Laws.{leaf-octets, pieces-row, whole-leaf, within-piece}
 use Rattle.writer.specs.meaning.Draft.{inside, HasRows}
 use Rattle.writer.specs.meaning.Writes.{Writes, unknown-edition, no-batch, no-room, written}
 use Rattle.crmf.proofs.Laws.{numbers-once}
-use Rattle.writer.proofs.theorems.WholeLengths.{leaf-octets}
 use Rattle.writer.proofs.theorems.Described.{rows-are, pieces-fit}
 use Rattle.writer.proofs.theorems.Demand2.{describes-nothing}
 

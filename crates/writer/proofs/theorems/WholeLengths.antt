@@ -4,7 +4,7 @@ use native.Mathlib.Nat.{add-sub-cancel-left}
 use native.Mathlib.Omega.{arith}
 use mathlib.Core.Path.{_≡_, refl, sym, ap, ap₂, _∙_}
 use mathlib.Core.Bool.{Bool, true, false, _&&_}
-use mathlib.Core.List.{List, []}
+use mathlib.Core.List.{List}
 use lib.Dec.{eqb, leb}
 use lib.ListN.{length}
 use lib.Seq.{slice, length-slice}
@@ -15,7 +15,7 @@ use Rattle.crmf.specs.meaning.Kinds as kinds
 use Rattle.crmf.specs.meaning.Rows.{Row, container}
 use Rattle.crmf.specs.meaning.Pieces.{pieceOf}
 use Rattle.crmf.specs.steps.rows.Assembly.{wholeOf, implied}
-use Rattle.crmf.proofs.Laws.{whole-container, whole-leaf, implied-type, implied-none}
+use Rattle.crmf.proofs.Laws.{leaf-octets, whole-container, whole-leaf, implied-type, implied-none}
 use Rattle.writer.specs.steps.Inner.{Stands, Whole, lies}
 
 -- a number stands for itself, and any that is greater than the longest for any other
@@ -38,10 +38,6 @@ implied-short kind = go (eqb kind kinds.regInfoCertReq) refl
     go : (b : Bool) → eqb kind kinds.regInfoCertReq ≡ b → length (implied kind) ≤ 11
     go true is = omega (arith, implied-size kind (eqb-true kind kinds.regInfoCertReq is))
     go false other = omega (arith, implied-empty kind (eqb-false kind kinds.regInfoCertReq other))
-
--- the octets of a leaf's piece
-pub leaf-octets : (bytes : List ℕ) (r : Row) → container (r .kind) ≡ false → pieceOf bytes r .octets ≡ slice (r .first) (r .first + r .whole) bytes
-leaf-octets bytes r is = ap (λ (b : Bool). elim b as (λ x. List ℕ) [ true ↦ [] | false ↦ slice (r .first) (r .first + r .whole) bytes ]) is
 
 module _ (bytes : List ℕ) (r : Row) (inner : ℕ) where
   -- the test of a row, by whether the row lies in the slice

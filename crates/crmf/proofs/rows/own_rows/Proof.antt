@@ -3,7 +3,6 @@ use borrow.Author.Needs.{needs}
 use mathlib.Core.Path.{_≡_, ap₂, subst}
 use mathlib.Core.List.{List, _++_}
 use native.Mathlib.Omega.{arith}
-use Rattle.crmf.specs.declared.rows.Entry.{Entry}
 use Rattle.crmf.specs.steps.explain.Walk.{line}
 use Rattle.crmf.specs.meaning.Rows.{Row}
 use Rattle.crmf.specs.steps.rows.Fill.{entryExtent, rowOf, fitExtent, ownRows, Wrote}

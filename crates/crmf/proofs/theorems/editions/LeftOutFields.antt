@@ -1,5 +1,5 @@
 -- Document 02's A4. A fourth difference occurs exactly where a row shows a field that edition 2 has left out: a test of the grammar that computes
--- says that a form is marked so exactly by its kind. And whatever occurs is on the list of the differences. Assumes nothing.
+-- says that a form is marked so exactly by its kind. Assumes nothing.
 use Prim.Native.Nat.{ℕ, _+_}
 use mathlib.Core.Path.{_≡_, refl, sym, ap, subst, _∙_}
 use mathlib.Core.Logic.{_↔_, _⊎_, inl, inr}
@@ -29,7 +29,7 @@ use Rattle.crmf.proofs.theorems.rows.TakenElements.{TakenElement, takes
 abbrev five : ℕ → Bool
 five = among (kinds.version ∷ omitted)
 
--- an element of a kind may have a marking: that of the four, that of a version, or any other but these
+-- whether a marking is right for a kind: the four have theirs, a version has its own, and no other kind has either
 abbrev markedBy : Marking → ℕ → Bool
 markedBy (whatever both) kind = not (five kind)
 markedBy (whatever (alone e d detail)) kind = elim (eqb d 4) [ true ↦ eqb e 1 && (eqb detail fitsNoPart && among omitted kind) | false ↦ not (five kind) ]

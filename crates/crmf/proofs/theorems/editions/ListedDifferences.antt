@@ -15,7 +15,7 @@ use Rattle.crmf.specs.meaning.Differences.{differences}
 use Rattle.crmf.specs.meaning.Language.{Matches, Occurrence, occurs, occurrences}
 use Rattle.crmf.specs.steps.grammar.Lines.{lines, endLine}
 use Rattle.crmf.specs.steps.explain.Walk.{line}
-use Rattle.crmf.proofs.theorems.lists.Tests.{all, any, any-getD, either}
+use Rattle.crmf.proofs.theorems.lists.Tests.{all, all-member, any, any-getD, either}
 use Rattle.crmf.proofs.theorems.grammar.Choices.{never-both}
 use Rattle.crmf.proofs.theorems.grammar.Containers.{allForms}
 use Rattle.crmf.proofs.theorems.lines.WordFields.{computed, givenMark}
@@ -42,12 +42,6 @@ found-mark : (m : Mark) (ms : List Mark) → any (sameMark m) ms ≡ true → Li
 found-mark m [] is = never-both false is refl
 found-mark m (x ∷ ms) is =
     ⊎-elim (λ here. List·Memᴰ·head (same-mark m x here)) (λ later. List·Memᴰ·tail (found-mark m ms later)) (either (sameMark m x) (any (sameMark m) ms) is)
-
--- a test that passes along some marks passes at each of them
-marks-at : (f : Mark → Bool) (m : Mark) (ms : List Mark) → all f ms ≡ true → List·Memᴰ m ms → f m ≡ true
-marks-at f m [] good at = absurd (List·Memᴰ·not-nil at)
-marks-at f m (x ∷ ms) good (List·Memᴰ·head same) = rw same (and-eq-true-iff (f x) (all f ms) .0 good .0)
-marks-at f m (x ∷ ms) good (List·Memᴰ·tail at) = marks-at f m ms (and-eq-true-iff (f x) (all f ms) .0 good .1) at
 
 -- the mark of a form is on the list, or none
 abbrev isListed : Mark → Bool
@@ -86,7 +80,7 @@ module _ {R : ℕ → Bool} (n : Name) {t : Tree} (m : Matches R (content n) t) 
   pub numbered : (1 ≤ o .difference) × (o .difference ≤ 4)
   unfolding differences
   numbered =
-      let low = marks-at (λ k. within k) (alone (o .edition) (o .difference) (o .detail)) differences refl listed in
+      let low = all-member (λ k. within k) (alone (o .edition) (o .difference) (o .detail)) differences refl listed in
       let (some, few) = and-eq-true-iff (leb 1 (o .difference)) _ .0 low in
       (leb-true 1 (o .difference) some, leb-true (o .difference) 4 few)
     where
@@ -98,7 +92,7 @@ module _ {R : ℕ → Bool} (n : Name) {t : Tree} (m : Matches R (content n) t) 
   pub fourth-first : o .difference ≡ 4 → o .edition ≡ 1
   unfolding differences
   fourth-first four =
-      eqb-true (o .edition) 1 (go (eqb (o .difference) 4) (marks-at (λ k. own k) (alone (o .edition) (o .difference) (o .detail)) differences refl listed) (ap (λ (d : ℕ). eqb d 4) four))
+      eqb-true (o .edition) 1 (go (eqb (o .difference) 4) (all-member (λ k. own k) (alone (o .edition) (o .difference) (o .detail)) differences refl listed) (ap (λ (d : ℕ). eqb d 4) four))
     where
       own : Mark → Bool
       own both = false
@@ -112,5 +106,5 @@ module _ {R : ℕ → Bool} (n : Name) {t : Tree} (m : Matches R (content n) t) 
 pub listed-marks : (d : Mark) → List·Memᴰ d differences → (k : ℕ) × (givenMark (line k .marking) ≡ d)
 unfolding differences computed line
 listed-marks d at =
-    let (k, same) = any-getD (λ x. sameMark (givenMark (x .marking)) d) endLine lines (marks-at (λ k. any (λ x. sameMark (givenMark (x .marking)) k) lines) d differences refl at) in
+    let (k, same) = any-getD (λ x. sameMark (givenMark (x .marking)) d) endLine lines (all-member (λ k. any (λ x. sameMark (givenMark (x .marking)) k) lines) d differences refl at) in
     (k, same-mark (givenMark (line k .marking)) d same)

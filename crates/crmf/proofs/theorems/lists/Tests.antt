@@ -2,7 +2,7 @@
 -- at one that can be named. Assumes nothing.
 use Prim.Native.Nat.{ℕ, zero, suc}
 use mathlib.Core.Bool.{Bool, true, false, _&&_, _||_, and-eq-true-iff, false≢true, or-assoc, or-false}
-use mathlib.Core.List.{List, [], _∷_, _++_}
+use mathlib.Core.List.{List, [], _∷_, _++_, List·Memᴰ, List·Memᴰ·head, List·Memᴰ·tail, List·Memᴰ·not-nil}
 use mathlib.Core.Logic.{_⊎_, inl, inr, ⊎-elim}
 use mathlib.Core.Option.{some}
 use mathlib.Core.Path.{_≡_, refl, sym, _∙_}
@@ -47,6 +47,11 @@ module _ {A : Type 0} (f : A → Bool) where
   all-getElem a [] e k h = let z : _≡_ {A = ℕ} 0 1 = cc in absurd (omega arith)
   all-getElem a (x ∷ xs) e zero h = let q : x ≡ a = cc in rw q at (and-eq-true-iff (f x) (all xs) .0 e .0)
   all-getElem a (x ∷ xs) e (suc k) h = all-getElem a xs (and-eq-true-iff (f x) (all xs) .0 e .1) k h
+
+  pub all-member : (a : A) (xs : List A) → all xs ≡ true → List·Memᴰ a xs → f a ≡ true
+  all-member a [] e at = absurd (List·Memᴰ·not-nil at)
+  all-member a (x ∷ xs) e (List·Memᴰ·head same) = rw same (and-eq-true-iff (f x) (all xs) .0 e .0)
+  all-member a (x ∷ xs) e (List·Memᴰ·tail at) = all-member a xs (and-eq-true-iff (f x) (all xs) .0 e .1) at
 
   pub any-getD : (d : A) (xs : List A) → any xs ≡ true → (k : ℕ) × (f (getD xs k d) ≡ true)
   any-getD d [] e = absurd (false≢true e)

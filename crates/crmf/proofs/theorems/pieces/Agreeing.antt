@@ -1,13 +1,13 @@
 -- What it means that rows agree. In place, they are the same rows. Wherever the leaves stand, they show the same pieces, if both have the same
 -- assembly: since the pieces have the same lengths, they divide it in the same way. Assumes nothing.
-use Prim.Native.Nat.{ℕ, zero, suc, _+_, _-_, _≤_, _<_}
+use Prim.Native.Nat.{ℕ, suc, _+_, _-_, _≤_}
 use native.Mathlib.Omega.{arith}
 use mathlib.Core.Path.{_≡_, refl, sym, ap, ap₂, subst, _∙_}
 use mathlib.Core.Bool.{Bool, true, false, _&&_, _||_, and-eq-true-iff}
 use mathlib.Core.Logic.{⊎-elim}
 use mathlib.Core.List.{List, [], _∷_, _++_, List·Memᴰ, List·Memᴰ·head, List·Memᴰ·tail, List·Memᴰ·not-nil, List·Memᴰ·cases-cons}
 use lib.Dec.{eqb}
-use lib.ListN.{length, getD}
+use lib.ListN.{length}
 use lib.Seq.{slice}
 use borrow.Author.Tests.{eqb-true, eq-eqb}
 use Rattle.der.specs.meaning.Bounds.{longest}
@@ -75,7 +75,7 @@ agree-itself [] = refl
 agree-itself (r ∷ rs) = and-eq-true-iff (agrees true r r) (agree true rs rs) .1 (row-itself r, agree-itself rs)
 
 -- the octets that a leaf shows, and those of a container, which shows none
-leaf-octets : (t : List ℕ) (p : Row) → container (p .kind) ≡ false → pieceOf t p .octets ≡ slice (p .first) (p .first + p .whole) t
+pub leaf-octets : (t : List ℕ) (p : Row) → container (p .kind) ≡ false → pieceOf t p .octets ≡ slice (p .first) (p .first + p .whole) t
 leaf-octets t p leaf = ap (λ (b : Bool). elim b [ true ↦ [] | false ↦ slice (p .first) (p .first + p .whole) t ]) leaf
 
 no-octets : (t : List ℕ) (p : Row) → container (p .kind) ≡ true → pieceOf t p .octets ≡ []

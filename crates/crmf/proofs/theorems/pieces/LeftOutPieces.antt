@@ -3,18 +3,20 @@
 use Prim.Native.Nat.{ℕ, _+_, _-_, _≤_}
 use native.Mathlib.Omega.{arith}
 use mathlib.Core.Path.{_≡_, refl, sym, ap, subst, _∙_}
-use mathlib.Core.Bool.{Bool, true, false}
+use mathlib.Core.Bool.{false}
 use mathlib.Core.List.{List, [], _∷_, List·Memᴰ, List·Memᴰ·head, List·Memᴰ·tail, List·Memᴰ·not-nil}
 use lib.Dec.{T}
-use lib.ListN.{length, take as first-octets, drop}
-use lib.Seq.{slice, drop-drop}
+use lib.ListN.{length, drop}
+use lib.Seq.{slice}
 use Rattle.der.specs.meaning.Bounds.{longest}
+use Rattle.der.proofs.Laws.{drop-slice}
 use Rattle.crmf.specs.meaning.Kinds as kinds
 use Rattle.crmf.specs.meaning.Notation.{among}
 use Rattle.crmf.specs.meaning.Rows.{Row, container, RightContent}
 use Rattle.crmf.specs.meaning.Pieces.{Piece, pieceOf, piecesOf}
 use Rattle.crmf.specs.meaning.LeftOut.{omitted, rowContent, LeftOut, one-of-four, other-version}
 use Rattle.crmf.proofs.theorems.rows.RowContents.{content-same}
+use Rattle.crmf.proofs.theorems.pieces.Agreeing.{leaf-octets}
 
 -- the row at the same place of two lists that show the same pieces shows the same piece
 piece-among : (s u : List ℕ) (rs qs : List Row) → piecesOf s rs ≡ piecesOf u qs → (r : Row) → List·Memᴰ r rs
@@ -35,15 +37,9 @@ version-leaf : (r : Row) → r .kind ≡ kinds.version → container (r .kind) �
 unfolding container among
 version-leaf r is = rw is refl
 
--- a leaf's piece has its octets
-leaf-piece : (s : List ℕ) (r : Row) → container (r .kind) ≡ false → pieceOf s r .octets ≡ slice (r .first) (r .first + r .whole) s
-leaf-piece s r leaf = ap (λ (b : Bool). elim b as (λ x. List ℕ) [ true ↦ [] | false ↦ slice (r .first) (r .first + r .whole) s ]) leaf
-
 -- the content of a row that is right is its octets after their header
 content-after : (s : List ℕ) (r : Row) → RightContent s r → rowContent s r ≡ drop (r .content - r .first) (slice (r .first) (r .first + r .whole) s)
-content-after s r right =
-    let start : r .content ≡ r .first + (r .content - r .first) = omega (arith, right .starts) in
-    ap (λ (n : ℕ). drop n (first-octets (r .first + r .whole) s)) start ∙ sym (drop-drop (r .content - r .first) (r .first) (first-octets (r .first + r .whole) s))
+content-after s r right = sym (drop-slice (r .first) (r .first + r .whole) (r .content) s (omega (arith, right .starts)))
 
 -- Rows over some octets and rows over others that show the same pieces: where the leaves of both are right and none of the others is too long, a
 -- field that the first show as left out is shown by the others too.
@@ -59,7 +55,7 @@ module _ (s u : List ℕ) (rs qs : List Row) (same : piecesOf s rs ≡ piecesOf 
       let (q, there, alike) = piece-among s u rs qs same r at in
       let q-kind : q .kind ≡ kinds.version = sym (ap (λ (p : Piece). p .kind) alike) ∙ kind in
       let octets-too : slice (r .first) (r .first + r .whole) s ≡ slice (q .first) (q .first + q .whole) u =
-      sym (leaf-piece s r (version-leaf r kind)) ∙ ap (λ (p : Piece). p .octets) alike ∙ leaf-piece u q (version-leaf q q-kind) in
+      sym (leaf-octets s r (version-leaf r kind)) ∙ ap (λ (p : Piece). p .octets) alike ∙ leaf-octets u q (version-leaf q q-kind) in
       let one = right r at (version-leaf r kind) in
       let two = right-too q there in
       let far = content-same s u r q octets-too (short q there) one two in

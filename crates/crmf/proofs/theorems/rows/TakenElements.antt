@@ -1,15 +1,16 @@
 -- The elements that a derivation takes in a form, in order. The form of each passes every test that all forms of the grammar pass; its mark is what
 -- occurs; its own row shows it, and its content stands where the row says. Assumes nothing.
-use Prim.Native.Nat.{ℕ, _+_}
+use Prim.Native.Nat.{ℕ, _+_, _-_}
 use native.Mathlib.Omega.{arith}
 use mathlib.Core.Path.{_≡_, refl, sym, ap, subst, _∙_}
 use mathlib.Core.Logic.{_⊎_, inl, inr, ⊎-elim}
 use mathlib.Core.Bool.{Bool, true, false, _&&_, and-eq-true-iff}
 use mathlib.Core.List.{List, [], _∷_, _++_, List·Memᴰ, List·Memᴰ·head, List·Memᴰ·tail, List·Memᴰ·not-nil, List·Memᴰ·cases-cons, List·Memᴰ·append-cases, List·Memᴰ·eq-of-singleton, Memᴰ·append-left, Memᴰ·append-right}
 use lib.Dec.{eqb}
-use lib.ListN.{length, length-append, take as take-octets, drop}
-use lib.Seq.{slice, drop-drop, drop-at}
+use lib.ListN.{length, length-append, drop}
+use lib.Seq.{slice, drop-at}
 use Rattle.der.specs.meaning.Tree.{Tree, header, encode, WellFormed}
+use Rattle.der.proofs.Laws.{drop-slice}
 use Rattle.crmf.specs.meaning.Notation.{markOf, Name, names, Inside, Form, part, Parts, done, _then_, select}
 use Rattle.crmf.specs.meaning.Grammar.{content}
 use Rattle.crmf.specs.meaning.Language.{Matches, end, pass, take, choose, Within, unseen, parts, Occurrence, occurs, occurrences, occurrencesIn}
@@ -29,6 +30,7 @@ pub record TakenElement : Type 0 where
   pub whole : ℕ
   pub octets : List ℕ
 
+-- The elements that a derivation takes, and those inside an element.
 unfoldable mutual
   pub takes : {R : ℕ → Bool} {ps : Parts} {t : Tree} → Matches R ps t → List TakenElement
   takes end = []
@@ -53,7 +55,7 @@ module _ (test : Form → Bool) (everywhere : all (λ n. formsPass test (content
     unfolding takes formsPass
 
     -- It passes at the form of each element that is taken.
-    pub taken-passes : {R : ℕ → Bool} {ps : Parts} {t : Tree} (m : Matches R ps t) → formsPass test ps ≡ true → (x : TakenElement) → List·Memᴰ x (takes m)
+    taken-passes : {R : ℕ → Bool} {ps : Parts} {t : Tree} (m : Matches R ps t) → formsPass test ps ≡ true → (x : TakenElement) → List·Memᴰ x (takes m)
         → test (x .form) ≡ true
     taken-passes end good x at = absurd (List·Memᴰ·not-nil at)
     taken-passes (pass {fs = fs} {ps = ps} ok m) good x at =
@@ -220,8 +222,9 @@ mutual
 content-stands : (s : List ℕ) (id first whole : ℕ) (c : List ℕ) → whole ≡ length (header id c ++ c) → slice first (first + whole) s ≡ header id c ++ c
     → slice (first + headerLength whole c) (first + whole) s ≡ c
 content-stands s id first whole c sized own =
-    let h : headerLength whole c ≡ length (header id c) = omega (arith, sized, length-append (header id c) c) in
-    sym (drop-drop (headerLength whole c) first (take-octets (first + whole) s)) ∙ ap (drop (headerLength whole c)) own ∙ drop-at (header id c) c (headerLength whole c) (sym h)
+    let h = first + headerLength whole c - first in
+    let same : h ≡ length (header id c) = omega (arith, sized, length-append (header id c) c) in
+    sym (drop-slice first (first + whole) (first + headerLength whole c) s (omega arith)) ∙ ap (drop h) own ∙ drop-at (header id c) c h (sym same)
 
 module _ (s : List ℕ) where
   mutual

@@ -4,9 +4,8 @@ use Prim.Native.Nat.{ℕ}
 use mathlib.Core.Path.{sym, _∙_, subst}
 use mathlib.Core.List.{List}
 use Rattle.crmf.specs.meaning.Pieces.{pieceOf}
-use Rattle.crmf.proofs.Laws.{own-container, own-leaf, whole-container}
+use Rattle.crmf.proofs.Laws.{leaf-octets, own-container, own-leaf, whole-container}
 use Rattle.writer.specs.steps.Inner.{rowOf, Appended}
-use Rattle.writer.proofs.theorems.WholeLengths.{leaf-octets}
 use native.Mathlib.Omega.{arith}
 use Rattle.writer.proofs.octets.put.Statement.{statement}
 use Rattle.writer.proofs.octets.put.Tie as tie

@@ -3,7 +3,6 @@
 use Prim.Native.Nat.{ℕ, suc, _+_, _-_, _*_, _≤_, _<_}
 use mathlib.Core.Path.{_≡_, refl, sym, ap, subst, _∙_}
 use mathlib.Core.Bool.{true}
-use mathlib.Core.List.{List, []}
 use native.Mathlib.Omega.{arith}
 use borrow.Fn.Kinds.{In}
 use borrow.Fn.PlainCycle.{Measures, is, falls, and}
@@ -13,14 +12,11 @@ use Rattle.der.specs.declared.element.reading.Element.{Element}
 use Rattle.der.specs.steps.Reading.{readAt}
 use Rattle.crmf.specs.declared.grammar.element.Fit.{Fit}
 use Rattle.crmf.specs.declared.grammar.element.Fitting.the-variants.{Misfit}
-use Rattle.crmf.specs.declared.rows.Around.{Around}
-use Rattle.crmf.specs.declared.rows.Spot.{Spot}
 use Rattle.crmf.specs.declared.rows.agree.Step.{Step}
 use Rattle.crmf.specs.declared.rows.agree.Step.the-variants.{On, Differs}
 use Rattle.crmf.specs.steps.grammar.Fitting.{Fitted, FitsAt}
 use Rattle.crmf.specs.steps.grammar.Packed.{insideField}
 use Rattle.crmf.specs.steps.explain.Walk.{line}
-use Rattle.crmf.specs.meaning.Rows.{Row}
 use Rattle.crmf.specs.steps.rows.Agree.{draftRows, passed, passedAt, Lent, Stepped}
 use Rattle.crmf.specs.steps.rows.Fill.{fitExtent, rowless, ownRows, aroundInside}
 use Rattle.crmf.proofs.theorems.lines.WordFields.{inside-at as inside-field}

@@ -4,8 +4,6 @@ use Prim.Native.Nat.{ℕ}
 use lib.Dec.{eqb}
 use mathlib.Core.Path.{sym, ap₂, _∙_}
 use mathlib.Core.Bool.{_&&_}
-use Rattle.crmf.specs.declared.rows.Entry.{Entry}
-use Rattle.crmf.specs.meaning.Rows.{Row}
 use Rattle.crmf.specs.steps.rows.Agree.{rowFrom, entryRow}
 use Rattle.crmf.proofs.theorems.rows.Comparing.{other-kind, other-parent, same-places, same-container, same-leaf}
 use Rattle.crmf.proofs.rows.agree.agrees.Statement.{statement}
