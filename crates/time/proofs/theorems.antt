@@ -7,3 +7,4 @@ pub mod Validities
 pub mod Telling
 pub mod Ranges
 pub mod MomentVectors
+pub mod TimeVectors

@@ -1,4 +1,3 @@
 -- The value rules.
-pub mod Moments
 pub mod ValueRules
 pub mod ValueVectors

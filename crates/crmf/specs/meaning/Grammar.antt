@@ -1,7 +1,7 @@
 -- The grammar, a line for each line of document 01: what each container holds (SPECIFICATION 3.2 to 3.5 and 3.7). Above each container are
 -- its ASN.1 type with the RFCs' sections, and document 01's words. Identifiers are in hex, kinds by name. Assumes nothing.
 use mathlib.Core.List.{[], _∷_}
-use Rattle.crmf.specs.meaning.Value.{integer, boolean, bitString, empty, zeroOrOne, true-only, utcTime, generalizedTime, some, never}
+use Rattle.crmf.specs.meaning.Value.{integer, boolean, bitString, empty, zeroOrOne, true-only, utcTime, generalizedTimeFrom2050, someForwards, never}
 use Rattle.crmf.specs.meaning.Value.{action, method, controlType, infoType}
 use Rattle.crmf.specs.meaning.Kinds as kinds
 use Rattle.crmf.specs.meaning.Details.{fitsNoPart, valueBroken, listOrLocation}
@@ -33,10 +33,11 @@ content Template =
     -- rule. They join the list as D4, edition 1 only"
     maybe (onlyUnlessTwo 1 4 valueBroken (row kinds.version (ruled integer (plain 0x80))))
     then maybe (only 1 4 fitsNoPart (row kinds.serialNumber (ruled integer (plain 0x81))))
-    -- "signingAlg A2 AlgId content" (D4), "issuer A3 (Name), validity A4" with "at least one", "subject A5 (Name)"
+    -- "signingAlg A2 AlgId content" (D4), "issuer A3 (Name), validity A4" with "at least one" and document 02's A12: "notAfter isn't earlier than
+    -- notBefore", "subject A5 (Name)"
     then maybe (only 1 4 fitsNoPart (row kinds.signingAlg (holding 0xA2 AlgId)))
     then maybe (row kinds.issuer (holding 0xA3 OneName))
-    then maybe (row kinds.validity (ruled some (holding 0xA4 Validity)))
+    then maybe (row kinds.validity (ruled someForwards (holding 0xA4 Validity)))
     then maybe (row kinds.subject (holding 0xA5 OneName))
     -- "publicKey A6 Spki content, issuerUID 87 and subjectUID 88 BIT STRING" (D4), "extensions A9"
     then maybe (row kinds.publicKey (holding 0xA6 Spki))
@@ -46,8 +47,9 @@ content Template =
     then done
 -- OptionalValidity (RFC 2511 5, RFC 4211 5). "Validity: notBefore A0 (Time)?, notAfter A1 (Time)?"
 content Validity = maybe (row kinds.notBefore (holding 0xA0 Time)) then maybe (row kinds.notAfter (holding 0xA1 Time)) then done
--- Time (RFC 2511 5, RFC 4211 5). "Time: 17, YYMMDDHHMMSSZ, or 18, YYYYMMDDHHMMSSZ"
-content Time = oneOf (ruled utcTime (plain 0x17) ∷ ruled generalizedTime (plain 0x18) ∷ []) then done
+-- Time (RFC 2511 5, RFC 4211 5). "Time: 17, YYMMDDHHMMSSZ, or 18, YYYYMMDDHHMMSSZ"; document 02, A12: "days through 2049 stand as UTCTime and
+-- later ones as GeneralizedTime"
+content Time = oneOf (ruled utcTime (plain 0x17) ∷ ruled generalizedTimeFrom2050 (plain 0x18) ∷ []) then done
 -- AlgorithmIdentifier (RFC 5912 3). "AlgId 30: 06, any?"
 content AlgId = one (plain 0x06) then maybe aValue then done
 -- SubjectPublicKeyInfo (RFC 5912 14). "Spki 30: AlgId, 03"

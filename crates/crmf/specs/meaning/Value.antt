@@ -1,11 +1,13 @@
 -- The value rules, each on an element's content octets: document 01's section "The grammar", SPECIFICATION 3.5 and 3.6. Assumes nothing.
-use Prim.Native.Nat.{ℕ, zero, suc, _+_, _-_, _*_, _%_}
-use mathlib.Core.Bool.{Bool, true, false, not, _&&_, _||_}
+use Prim.Native.Nat.{ℕ}
+use mathlib.Core.Bool.{Bool, true, false, not, _&&_}
 use mathlib.Core.List.{List, [], _∷_}
-use mathlib.Core.Option.{Option, some as present, none as absent, Option·getD, bind}
+use mathlib.Core.Option.{Option, some as present, none as absent, Option·getD}
 use lib.Dec.{leb, eqb}
-use lib.ListN.{length, getD, getElem?}
+use lib.ListN.{length, getD}
 use Rattle.der.specs.meaning.Content as der
+use Rattle.time.specs.meaning.Time.{utcMoment, generalizedMoment}
+use Rattle.time.specs.meaning.Validity.{forwards}
 use Rattle.crmf.specs.meaning.Lists.{same}
 use Rattle.crmf.specs.meaning.Details.{partMissing, valueBroken, listOrLocation}
 
@@ -29,81 +31,10 @@ isTrue c = same c (0xFF ∷ [])
 unfoldable pub isTwo : List ℕ → Bool
 isTwo c = same c (0x02 ∷ [])
 
--- whether an octet is a decimal digit
-abbrev pub digit : ℕ → Bool
-digit b = leb 0x30 b && leb b 0x39
-
--- the number that the two decimal digits at i make, if both are digits
-unfoldable pub pairAt : List ℕ → ℕ → Option ℕ
-pairAt c i =
-    elim (digit (getD c i 0) && digit (getD c (i + 1) 0)) [
-      | true ↦ present ((getD c i 0 - 0x30) * 10 + (getD c (i + 1) 0 - 0x30))
-      | false ↦ absent
-    ]
-
--- the Gregorian leap rule, taken back to the year 0
-unfoldable pub leap : ℕ → Bool
-leap year = eqb (year % 4) 0 && (not (eqb (year % 100) 0) || eqb (year % 400) 0)
-
--- the days of each month of a year, from January on
-unfoldable pub monthDays : ℕ → List ℕ
-monthDays year = 31 ∷ (elim (leap year) [ true ↦ 29 | false ↦ 28 ]) ∷ 31 ∷ 30 ∷ 31 ∷ 30 ∷ 31 ∷ 31 ∷ 30 ∷ 31 ∷ 30 ∷ 31 ∷ []
-
--- the days of a month of a year, January being 1, if there is such a month
-unfoldable pub daysIn : ℕ → ℕ → Option ℕ
-daysIn year zero = absent
-daysIn year (suc month) = getElem? (monthDays year) month
-
--- A moment, with the year in full.
-pub record Moment : Type 0 where
-  pub year : ℕ
-  pub month : ℕ
-  pub day : ℕ
-  pub hour : ℕ
-  pub minute : ℕ
-  pub second : ℕ
-
--- whether the month has the day
-unfoldable pub isDay : Moment → Bool
-isDay m = elim (daysIn (m .year) (m .month)) [ present days ↦ leb 1 (m .day) && leb (m .day) days | absent ↦ false ]
-
--- "a real Gregorian day, hour to 23, minute and second to 59"
-unfoldable pub isReal : Moment → Bool
-isReal m = isDay m && leb (m .hour) 23 && leb (m .minute) 59 && leb (m .second) 59
-
--- "MMDDHHMMSSZ": the moment of a year whose other parts are written from i on, with two digits each, if Z comes after them
-unfoldable pub momentAt : ℕ → List ℕ → ℕ → Option Moment
-momentAt year c i =
-    bind (pairAt c i) (λ month.
-    bind (pairAt c (i + 2)) (λ day.
-    bind (pairAt c (i + 4)) (λ hour.
-    bind (pairAt c (i + 6)) (λ minute.
-    bind (pairAt c (i + 8)) (λ second.
-    elim (eqb (getD c (i + 10) 0) 0x5A) [
-      | true ↦ present (record { year = year; month = month; day = day; hour = hour; minute = minute; second = second })
-      | false ↦ absent
-    ])))))
-
--- "two-digit years 50 to 99 are 19xx, others 20xx"
-unfoldable pub century : ℕ → ℕ
-century yy = elim (leb 50 yy) [ true ↦ 1900 + yy | false ↦ 2000 + yy ]
-
--- "17, YYMMDDHHMMSSZ"
-unfoldable pub utcMoment : List ℕ → Option Moment
-utcMoment c = elim (eqb (length c) 13) [ true ↦ bind (pairAt c 0) (λ yy. momentAt (century yy) c 2) | false ↦ absent ]
-
--- "18, YYYYMMDDHHMMSSZ"
-unfoldable pub generalizedMoment : List ℕ → Option Moment
-generalizedMoment c =
-    elim (eqb (length c) 15) [
-      | true ↦ bind (pairAt c 0) (λ hundreds. bind (pairAt c 2) (λ rest. momentAt (hundreds * 100 + rest) c 4))
-      | false ↦ absent
-    ]
-
--- whether a moment is written, and it is real
-unfoldable pub isTime : Option Moment → Bool
-isTime absent = false
-isTime (present m) = isReal m
+-- whether a moment is shown
+unfoldable pub isShown : Option ℕ → Bool
+isShown absent = false
+isShown (present n) = true
 
 -- A rule that an element's value keeps, judged after the element's inside (SPECIFICATION 3.6).
 pub data Rule : Type 0 where
@@ -116,9 +47,12 @@ pub data Rule : Type 0 where
   zeroOrOne : Rule
   -- FF
   true-only : Rule
-  utcTime generalizedTime : Rule
-  -- "at least one" part inside
-  some : Rule
+  -- "17, YYMMDDHHMMSSZ"; it shows days from 1950 through 2049
+  utcTime : Rule
+  -- "18, YYYYMMDDHHMMSSZ"; document 02, A12: "days through 2049 stand as UTCTime and later ones as GeneralizedTime (RFC 5280; none before 1950)"
+  generalizedTimeFrom2050 : Rule
+  -- "at least one" part inside; document 02, A12: "notAfter isn't earlier than notBefore"
+  someForwards : Rule
   -- "the list only with 1": beside any other action it is never allowed
   never : Rule
 
@@ -131,9 +65,9 @@ keeps bitString c = der.bitString c
 keeps empty c = isEmpty c
 keeps zeroOrOne c = isUpTo 1 c
 keeps true-only c = isTrue c
-keeps utcTime c = isTime (utcMoment c)
-keeps generalizedTime c = isTime (generalizedMoment c)
-keeps some c = not (isEmpty c)
+keeps utcTime c = isShown (utcMoment c)
+keeps generalizedTimeFrom2050 c = isShown (generalizedMoment c)
+keeps someForwards c = not (isEmpty c) && forwards c
 keeps never c = false
 
 -- A value that selects how its container goes on (SPECIFICATION 3.5).
@@ -157,7 +91,8 @@ selected method c = number 3 c
 selected controlType c = present (Option·getD (typeNumber 1 6 c) 0)
 selected infoType c = present (Option·getD (typeNumber 2 2 c) 0)
 
--- request A9's detail of content octets that break a rule: an empty validity lacks a part, and a list beside action 0 is "control 3's list"
+-- request A9's detail of content octets that break a rule: an empty validity lacks a part, one that runs backwards is a value that breaks its
+-- rule, and a list beside action 0 is "control 3's list"
 abbrev pub ruleDetail : Rule → List ℕ → ℕ
 ruleDetail always c = valueBroken
 ruleDetail integer c = valueBroken
@@ -167,6 +102,6 @@ ruleDetail empty c = valueBroken
 ruleDetail zeroOrOne c = valueBroken
 ruleDetail true-only c = valueBroken
 ruleDetail utcTime c = valueBroken
-ruleDetail generalizedTime c = valueBroken
-ruleDetail some c = partMissing
+ruleDetail generalizedTimeFrom2050 c = valueBroken
+ruleDetail someForwards c = elim (isEmpty c) [ true ↦ partMissing | false ↦ valueBroken ]
 ruleDetail never c = listOrLocation

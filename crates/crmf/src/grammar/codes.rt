@@ -75,9 +75,9 @@ pub const TRUE_ONLY: usize = 6;
 
 pub const UTC_TIME: usize = 7;
 
-pub const GENERALIZED_TIME: usize = 8;
+pub const GENERALIZED_TIME_FROM_2050: usize = 8;
 
-pub const SOME: usize = 9;
+pub const SOME_FORWARDS: usize = 9;
 
 pub const NEVER: usize = 10;
 

@@ -234,9 +234,9 @@ pub(crate) const TABLE: [usize; LINES] = [
         + NEXT * (TEMPLATE + 3),
     // issuer A3 (Name)?
     MAYBE + ID * 0xA3 + INTO_NAME + KIND * kinds::ISSUER + ROW + NEXT * (TEMPLATE + 4),
-    // validity A4?, at least one
+    // validity A4?, at least one, notAfter not earlier than notBefore
     (MAYBE + ID * 0xA4)
-        + (INSIDE * VALIDITY + JUDGE * SOME + BY_LINE)
+        + (INSIDE * VALIDITY + JUDGE * SOME_FORWARDS + BY_LINE)
         + (KIND * kinds::VALIDITY + ROW)
         + NEXT * (TEMPLATE + 5),
     // subject A5 (Name)?
@@ -266,8 +266,8 @@ pub(crate) const TABLE: [usize; LINES] = [
     END,
     // Time: 17, YYMMDDHHMMSSZ
     ONE_OF + ID * 0x17 + JUDGE * UTC_TIME + BY_LINE,
-    // or 18, YYYYMMDDHHMMSSZ
-    ONE + ID * 0x18 + JUDGE * GENERALIZED_TIME + BY_LINE,
+    // or 18, YYYYMMDDHHMMSSZ from 2050 on
+    ONE + ID * 0x18 + JUDGE * GENERALIZED_TIME_FROM_2050 + BY_LINE,
     END,
     // AlgId (AlgorithmIdentifier): 06
     ONE + ID * 0x06 + AN_OBJECT_IDENTIFIER + NEXT * (ALG_ID + 1),

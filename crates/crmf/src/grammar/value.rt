@@ -1,10 +1,14 @@
 // The value rules, each on the content octets of one element.
 use crate::grammar::codes;
 use der::content;
-ghost use Prim.Native.Nat.{_+_, _≤_, _<_};
+use time::moment::Moment;
+use time::time::generalized_time;
+use time::time::utc_time;
+use time::validity::forwards;
+ghost use Prim.Native.Nat.{ℕ, _+_, _≤_};
 ghost use mathlib.Core.Path.{_≡_};
-ghost use mathlib.Core.Option.{Option·getD};
-ghost use lib.ListN.{length};
+ghost use mathlib.Core.Option.{Option, Option·getD};
+ghost use Rattle.time.specs.steps.Told.{told};
 ghost use Rattle.crmf.specs.meaning.Value as value;
 ghost use Rattle.crmf.specs.meaning.Value.{Rule, Selector};
 ghost use Rattle.crmf.specs.steps.grammar.Lines.{keep, choose};
@@ -48,100 +52,14 @@ pub(crate) fn is_two(content: &[u8]) -> bool
     content[0] == 0x02
 }
 
-// Whether an octet is a decimal digit.
-fn is_digit(octet: u8) -> bool
-    ensures { λ r. ⌜ r ≡ value.digit octet ⌝ }
+// Whether a moment is shown.
+fn is_shown(moment: Moment) -> bool
+    ensures { λ r. ⌜ ((o : Option ℕ) → moment ≡ told o → r ≡ value.isShown o) ⌝ }
 {
-    (0x30 <= octet) & (octet <= 0x39)
-}
-
-// The number that the two decimal digits at i make; 100 if they are not both digits.
-fn pair_at(content: &[u8], i: usize) -> usize
-    requires { ⌜ i + 1 < length (now content) ⌝ }
-    ensures { λ r. ⌜ r ≡ Option·getD (value.pairAt (now (content .entry)) i) 100 ⌝ }
-{
-    let tens = content[i];
-    let ones = content[i + 1];
-    if is_digit(tens) & is_digit(ones) {
-        return ((tens - 0x30) as usize) * 10 + ((ones - 0x30) as usize);
+    match moment {
+        Moment::At(seconds) => true,
+        Moment::Missing => false,
     }
-    100
-}
-
-// Whether a year is a leap year.
-fn leap(year: usize) -> bool
-    ensures { λ r. ⌜ r ≡ value.leap year ⌝ }
-{
-    (year % 4 == 0) & ((year % 100 != 0) | (year % 400 == 0))
-}
-
-// The days of each month of a common year, January at 1.
-const MONTH_DAYS: [usize; 13] = [0, 31, 28, 31, 30, 31, 30, 31, 31, 30, 31, 30, 31];
-
-// The days of a month of a year; 0 if the number is no month's.
-fn days_in(year: usize, month: usize) -> usize
-    ensures { λ r. ⌜ r ≡ Option·getD (value.daysIn year month) 0 ⌝ }
-{
-    if 12 < month {
-        return 0;
-    }
-    let days = MONTH_DAYS[month];
-    if leap(year) & (month == 2) {
-        return days + 1;
-    }
-    days
-}
-
-// Whether month, day, hour, minute and second from i on are a moment of the year, with Z after them.
-fn is_moment(year: usize, content: &[u8], i: usize) -> bool
-    requires { ⌜ i + 10 < length (now content) ⌝ }
-    ensures { λ r. ⌜ r ≡ value.isTime (value.momentAt year (now (content .entry)) i) ⌝ }
-{
-    let day = pair_at(content, i + 2);
-    let days = days_in(year, pair_at(content, i));
-    let hour = pair_at(content, i + 4);
-    let minute = pair_at(content, i + 6);
-    let second = pair_at(content, i + 8);
-    (1 <= day)
-        & (day <= days)
-        & (hour <= 23)
-        & (minute <= 59)
-        & (second <= 59)
-        & (content[i + 10] == 0x5A)
-}
-
-// The full year that a two-digit year means: 50 to 99 are 19xx, others 20xx.
-fn century(year: usize) -> usize
-    requires { ⌜ year ≤ 100 ⌝ }
-    ensures { λ r. ⌜ r ≡ value.century year ⌝ }
-{
-    if 50 <= year {
-        return 1900 + year;
-    }
-    2000 + year
-}
-
-// Whether the octets are the content of a UTCTime.
-fn is_utc_time(content: &[u8]) -> bool
-    ensures { λ r. ⌜ r ≡ value.isTime (value.utcMoment (now (content .entry))) ⌝ }
-{
-    if content.len() != 13 {
-        return false;
-    }
-    let year = pair_at(content, 0);
-    (year <= 99) & is_moment(century(year), content, 2)
-}
-
-// Whether the octets are the content of a GeneralizedTime.
-fn is_generalized_time(content: &[u8]) -> bool
-    ensures { λ r. ⌜ r ≡ value.isTime (value.generalizedMoment (now (content .entry))) ⌝ }
-{
-    if content.len() != 15 {
-        return false;
-    }
-    let hundreds = pair_at(content, 0);
-    let rest = pair_at(content, 2);
-    (hundreds <= 99) & (rest <= 99) & is_moment(hundreds * 100 + rest, content, 4)
 }
 
 // The value of a single octet, if it is at most `most`; `most` + 1 for any other content.
@@ -188,9 +106,9 @@ pub(crate) fn keeps(code: usize, content: &[u8]) -> bool
         codes::EMPTY => is_empty(content),
         codes::ZERO_OR_ONE => is_up_to(1, content),
         codes::TRUE_ONLY => is_true(content),
-        codes::UTC_TIME => is_utc_time(content),
-        codes::GENERALIZED_TIME => is_generalized_time(content),
-        codes::SOME => !is_empty(content),
+        codes::UTC_TIME => is_shown(utc_time(content)),
+        codes::GENERALIZED_TIME_FROM_2050 => is_shown(generalized_time(content)),
+        codes::SOME_FORWARDS => !is_empty(content) & forwards(content),
         _ => false,
     }
 }
@@ -226,9 +144,11 @@ pub(crate) fn ways(code: usize) -> usize
 pub(crate) fn rule_detail(code: usize, content: &[u8]) -> usize
     ensures { λ r. ⌜ ((x : Rule) → judgeCode (keep x) ≡ code → r ≡ walk.ruleDetail x (now (content .entry))) ⌝ }
 {
-    match code {
-        codes::SOME => 2,
-        codes::NEVER => 4,
-        _ => 3,
+    if code == codes::NEVER {
+        return 4;
     }
+    if (code == codes::SOME_FORWARDS) & is_empty(content) {
+        return 2;
+    }
+    3
 }

@@ -3,7 +3,7 @@ use Prim.Native.Nat.{ℕ}
 use mathlib.Core.Option.{bind}
 use mathlib.Core.Path.{_≡_, refl}
 use mathlib.Core.Bool.{Bool, true}
-use mathlib.Core.List.{List, [], _∷_, map}
+use mathlib.Core.List.{List, [], _∷_}
 use lib.Dec.{eqb}
 use Rattle.der.specs.examples.Each.{Each, _&_}
 use Rattle.der.specs.meaning.Identifier.{tagNumber, constructed, allowed}
@@ -14,7 +14,10 @@ use Rattle.der.specs.steps.Reading.{nothingAt, given, read, treeOf, tree}
 use Rattle.crmf.specs.declared.explain.tally.Tally.{Tally}
 use Rattle.crmf.specs.declared.explain.Walked.{Walked}
 use Rattle.crmf.specs.declared.explain.Walked.the-variants.{Passed, Broken}
-use Rattle.crmf.specs.meaning.Value.{isEmpty, isUpTo, number, isTrue, isTwo, pairAt, leap, monthDays, daysIn, isDay, isReal, momentAt, century, utcMoment, generalizedMoment, isTime, keeps}
+use Rattle.time.specs.meaning.Calendar.{leap, monthDays, daysIn, total, daysBeforeYear, daysBeforeMonth, isDay, isReal, daysBefore, seconds, moment}
+use Rattle.time.specs.meaning.Time.{digit, pairAt, dateAt, century, utcDate, generalizedDate, utcMoment, generalizedMoment, timeMoment}
+use Rattle.time.specs.meaning.Validity.{isShort, elementMoment, shownMoment, firstElement, furtherElements, inOrder, forwards}
+use Rattle.crmf.specs.meaning.Value.{isEmpty, isUpTo, number, isTrue, isTwo, isShown, keeps}
 use Rattle.crmf.specs.meaning.Lists.{same}
 use Rattle.crmf.specs.meaning.Value.{typeNumber, selected}
 use Rattle.crmf.specs.meaning.Notation.{Top, among, named, order}
@@ -122,18 +125,32 @@ examples =
     ∷ each 0x30223020300502010030003017301506092B060105050705020230080201003003870100 (Passed (seen 11 4 33 0 0)) (Passed (seen 11 4 33 0 0)) (Broken 33 1 (rows 10))
     -- validity without a time
     ∷ alike 0x300B300930070201003002A400 (Broken 11 2 (rows 6))
-    -- 29 February of 1900, 2000, 2100 and 0000
-    ∷ alike 0x301E301C301A0201003015A413A011180F31393030303232393030303030305A (Broken 15 3 (rows 7))
-    ∷ alike 0x301E301C301A0201003015A413A011180F32303030303232393030303030305A (Passed (rows 7))
+    -- document 02, A12: 29 February of 2052, 2100 and 2400
+    ∷ alike 0x301E301C301A0201003015A413A011180F32303532303232393030303030305A (Passed (rows 7))
     ∷ alike 0x301E301C301A0201003015A413A011180F32313030303232393030303030305A (Broken 15 3 (rows 7))
-    ∷ alike 0x301E301C301A0201003015A413A011180F30303030303232393030303030305A (Passed (rows 7))
+    ∷ alike 0x301E301C301A0201003015A413A011180F32343030303232393030303030305A (Passed (rows 7))
+    -- GeneralizedTime from 2050 on: the last second before it, a year before 1950, the year 0, and the first of 2050
+    ∷ alike 0x301E301C301A0201003015A413A011180F32303439313233313233353935395A (Broken 15 3 (rows 7))
+    ∷ alike 0x301E301C301A0201003015A413A011180F31393439313233313233353935395A (Broken 15 3 (rows 7))
+    ∷ alike 0x301E301C301A0201003015A413A011180F30303030303130313030303030305A (Broken 15 3 (rows 7))
+    ∷ alike 0x301E301C301A0201003015A413A011180F32303530303130313030303030305A (Passed (rows 7))
+    -- notAfter not earlier than notBefore: 1950 before 2049, the other way round, and equal moments
+    ∷ alike 0x302D302B30290201003024A422A00F170D3530303130313030303030305AA10F170D3439313233313233353935395A (Passed (rows 8))
+    ∷ alike 0x302D302B30290201003024A422A00F170D3439313233313233353935395AA10F170D3530303130313030303030305A (Broken 11 3 (rows 8))
+    ∷ alike 0x302D302B30290201003024A422A00F170D3439313233313233353935395AA10F170D3439313233313233353935395A (Passed (rows 8))
+    -- a UTCTime before a GeneralizedTime, and after it; backwards, and then an element that fits no part
+    ∷ alike 0x302F302D302B0201003026A424A00F170D3439313233313233353935395AA111180F32303530303130313030303030305A (Passed (rows 8))
+    ∷ alike 0x302F302D302B0201003026A424A011180F32303530303130313030303030305AA10F170D3439313233313233353935395A (Broken 11 3 (rows 8))
+    ∷ alike 0x302F302D302B0201003026A424A00F170D3439313233313233353935395AA10F170D3530303130313030303030305A0500 (Broken 47 1 (rows 8))
     ∷ []
 
 -- every example is walked as it says
 worked : Each Walks examples
 unfolding tagNumber constructed allowed valueFrom shortest longForm lengthOf base256 sizedBy headOf
     boolean integer lastOf bitString nothingAt given read treeOf tree
-    same isEmpty isUpTo number isTrue isTwo pairAt leap monthDays daysIn isDay isReal momentAt century utcMoment generalizedMoment isTime bind keeps typeNumber selected among named order content
+    same isEmpty isUpTo number isTrue isTwo leap monthDays daysIn total daysBeforeYear daysBeforeMonth isDay isReal daysBefore seconds moment
+    digit pairAt dateAt century utcDate generalizedDate utcMoment generalizedMoment timeMoment isShort elementMoment shownMoment firstElement furtherElements inOrder forwards
+    isShown bind keeps typeNumber selected among named order content
     partSize size startsFrom start insideLine passOf formLines nextLine wayLine partLines containerLines linesFrom lines
     line findLineIn findLine closedIn closed judged withForm withLongId withElement walk
 worked =
@@ -144,10 +161,7 @@ worked =
     & (refl, refl, refl) & (refl, refl, refl) & (refl, refl, refl) & (refl, refl, refl) & (refl, refl, refl) & (refl, refl, refl)
     & (refl, refl, refl) & (refl, refl, refl) & (refl, refl, refl) & (refl, refl, refl) & (refl, refl, refl) & (refl, refl, refl)
     & (refl, refl, refl) & (refl, refl, refl) & (refl, refl, refl) & (refl, refl, refl) & (refl, refl, refl) & (refl, refl, refl)
-    & (refl, refl, refl) & (refl, refl, refl) & (refl, refl, refl) & (refl, refl, refl)
+    & (refl, refl, refl) & (refl, refl, refl) & (refl, refl, refl) & (refl, refl, refl) & (refl, refl, refl) & (refl, refl, refl)
+    & (refl, refl, refl) & (refl, refl, refl) & (refl, refl, refl) & (refl, refl, refl) & (refl, refl, refl) & (refl, refl, refl)
+    & (refl, refl, refl)
     & tt
-
--- the two-digit years on both sides of the centuries' border
-centuries : map century (0 ∷ 49 ∷ 50 ∷ 99 ∷ []) ≡ 2000 ∷ 2049 ∷ 1950 ∷ 1999 ∷ []
-unfolding century
-centuries = refl

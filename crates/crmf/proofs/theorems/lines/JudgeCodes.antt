@@ -1,12 +1,13 @@
 -- A judge's code tells which judge it is: the rules are listed in the order of their codes, and the selectors in that of theirs. Assumes nothing.
 use Prim.Native.Nat.{ℕ, _-_, _≤_, _<_}
+use mathlib.Core.Bool.{false}
 use mathlib.Core.List.{List, [], _∷_}
 use mathlib.Core.Path.{_≡_, refl, sym, ap, _∙_}
 use lib.Dec.{lit≤}
 use lib.ListN.{getD, List·getD-eq-default}
 use Rattle.crmf.specs.steps.grammar.Codes as codes
-use Rattle.crmf.specs.meaning.Value.{Rule, always, integer, boolean, bitString, empty, zeroOrOne, true-only, utcTime, generalizedTime, some, never}
-use Rattle.crmf.specs.meaning.Value.{Selector, action, method, controlType, infoType}
+use Rattle.crmf.specs.meaning.Value.{Rule, always, integer, boolean, bitString, empty, zeroOrOne, true-only, utcTime, generalizedTimeFrom2050, someForwards, never}
+use Rattle.crmf.specs.meaning.Value.{isEmpty, Selector, action, method, controlType, infoType}
 use Rattle.crmf.specs.steps.grammar.Lines.{keep, choose}
 use Rattle.crmf.specs.steps.grammar.Packed.{judgeCode}
 use Rattle.crmf.specs.steps.explain.Walk.{ruleDetail}
@@ -14,7 +15,7 @@ use Rattle.crmf.specs.steps.explain.Walk.{ruleDetail}
 -- the rules in the order of their codes, but the last
 rules : List Rule
 rules =
-    always ∷ integer ∷ boolean ∷ bitString ∷ empty ∷ zeroOrOne ∷ true-only ∷ utcTime ∷ generalizedTime ∷ some ∷ []
+    always ∷ integer ∷ boolean ∷ bitString ∷ empty ∷ zeroOrOne ∷ true-only ∷ utcTime ∷ generalizedTimeFrom2050 ∷ someForwards ∷ []
 
 listed : (x : Rule) → getD rules (judgeCode (keep x)) never ≡ x
 unfolding rules judgeCode
@@ -26,8 +27,8 @@ listed empty = refl
 listed zeroOrOne = refl
 listed true-only = refl
 listed utcTime = refl
-listed generalizedTime = refl
-listed some = refl
+listed generalizedTimeFrom2050 = refl
+listed someForwards = refl
 listed never = refl
 
 pub same-rule : (x y : Rule) → judgeCode (keep x) ≡ judgeCode (keep y) → x ≡ y
@@ -62,8 +63,8 @@ rule-range empty = lit≤ tt
 rule-range zeroOrOne = lit≤ tt
 rule-range true-only = lit≤ tt
 rule-range utcTime = lit≤ tt
-rule-range generalizedTime = lit≤ tt
-rule-range some = lit≤ tt
+rule-range generalizedTimeFrom2050 = lit≤ tt
+rule-range someForwards = lit≤ tt
 rule-range never = lit≤ tt
 
 pub selector-range : (s : Selector) → (codes.selectors ≤ judgeCode (choose s)) × (judgeCode (choose s) ≤ judgeCode (choose infoType))
@@ -73,8 +74,9 @@ selector-range method = (lit≤ tt, lit≤ tt)
 selector-range controlType = (lit≤ tt, lit≤ tt)
 selector-range infoType = (lit≤ tt, lit≤ tt)
 
--- the detail of every rule but the two with details of their own
-pub other-detail : (x : Rule) (c : List ℕ) → (judgeCode (keep x) ≡ judgeCode (keep some) → ⊥) → (judgeCode (keep x) ≡ judgeCode (keep never) → ⊥) → 3 ≡ ruleDetail x c
+-- the detail of what breaks a rule, but for an empty validity and a list beside action 0
+pub other-detail : (x : Rule) (c : List ℕ) → (judgeCode (keep x) ≡ judgeCode (keep someForwards) → isEmpty c ≡ false) → (judgeCode (keep x) ≡ judgeCode (keep never) → ⊥)
+    → 3 ≡ ruleDetail x c
 unfolding judgeCode
 other-detail always c a b = refl
 other-detail integer c a b = refl
@@ -84,6 +86,6 @@ other-detail empty c a b = refl
 other-detail zeroOrOne c a b = refl
 other-detail true-only c a b = refl
 other-detail utcTime c a b = refl
-other-detail generalizedTime c a b = refl
-other-detail some c a b = absurd (a refl)
+other-detail generalizedTimeFrom2050 c a b = refl
+other-detail someForwards c a b = rw (ruleDetail, a refl)
 other-detail never c a b = absurd (b refl)

@@ -1,7 +1,7 @@
 -- What the value rules say of octets at places: bounds of the numbers that they read, the ways that they select, and a comparison of lists
 -- octet by octet.
 -- Assumes nothing.
-use Prim.Native.Nat.{ℕ, zero, suc, _+_, _-_, _*_, _≤_, _<_}
+use Prim.Native.Nat.{ℕ, zero, suc, _≤_, _<_}
 use mathlib.Core.Bool.{Bool, true, false, _&&_, and-eq-true-iff, and-false, and-true, and-assoc}
 use mathlib.Core.List.{List, [], _∷_}
 use mathlib.Core.Logic.{_↔_}
@@ -12,7 +12,7 @@ use native.Mathlib.Omega.{arith}
 use lib.Dec.{leb, eqb, lit<}
 use lib.ListN.{length, getD, getElem?, take, drop, drop-of-length-le}
 use lib.Seq.{drop-cons}
-use Rattle.crmf.specs.meaning.Value.{digit, isUpTo, number, pairAt, typeNumber, Selector, action, method, controlType, infoType, selected}
+use Rattle.crmf.specs.meaning.Value.{isUpTo, number, typeNumber, Selector, action, method, controlType, infoType, selected}
 use Rattle.crmf.specs.meaning.Lists.{same}
 use Rattle.crmf.specs.meaning.Notation.{Name}
 use Rattle.crmf.specs.meaning.Language.{wayOf}
@@ -22,43 +22,10 @@ use Rattle.crmf.specs.steps.explain.Walk.{ways}
 pub both : (a b : Bool) → a && b ≡ true → (a ≡ true) × (b ≡ true)
 both a b e = and-eq-true-iff a b .0 e
 
-digit-range : (b : ℕ) → digit b ≡ true → (0x30 ≤ b) × (b ≤ 0x39)
-digit-range b e = let p = both (leb 0x30 b) (leb b 0x39) e in (leb-true 0x30 b (p .0), leb-true b 0x39 (p .1))
-
-pub digits-range : (a b : ℕ) → digit a && digit b ≡ true → ((0x30 ≤ a) × (a ≤ 0x39)) × ((0x30 ≤ b) × (b ≤ 0x39))
-digits-range a b e = let p = both (digit a) (digit b) e in (digit-range a (p .0), digit-range b (p .1))
-
--- the number of two digits, coded with 100 for none
-pub pair-coded : (c : List ℕ) (i : ℕ) → digit (getD c i 0) && digit (getD c (i + 1) 0) ≡ true → (getD c i 0 - 0x30) * 10 + (getD c (i + 1) 0 - 0x30) ≡ Option·getD (pairAt c i) 100
-unfolding pairAt
-pair-coded c i e = rw (pairAt, e)
-
-pub pair-missing : (c : List ℕ) (i : ℕ) → digit (getD c i 0) && digit (getD c (i + 1) 0) ≡ false → 100 ≡ Option·getD (pairAt c i) 100
-unfolding pairAt
-pair-missing c i e = rw (pairAt, e)
-
--- two digits make a number of at most 99
-pub pair-most : (c : List ℕ) (i n : ℕ) → pairAt c i ≡ some n → n ≤ 99
-unfolding pairAt
-pair-most c i n = go _ refl
-  where
-    a : ℕ
-    a = getD c i 0
-
-    b : ℕ
-    b = getD c (i + 1) 0
-
-    go : (t : Bool) → digit a && digit b ≡ t → (elim t as (λ x. Option ℕ) [ true ↦ some ((a - 0x30) * 10 + (b - 0x30)) | false ↦ none ]) ≡ some n → n ≤ 99
-    go true e is = omega (arith, digits-range a b e, Option·some-injective _ _ is)
-    go false e is = absurd (Option·none-ne-some n is)
-
 -- a number of at most d, coded with d for none, is at most d
 coded-most : (o : Option ℕ) (d : ℕ) → ((n : ℕ) → o ≡ some n → n ≤ d) → Option·getD o d ≤ d
 coded-most none d most = omega arith
 coded-most (some n) d most = most n refl
-
-pub pair-bound : (c : List ℕ) (i : ℕ) → Option·getD (pairAt c i) 100 ≤ 100
-pair-bound c i = coded-most (pairAt c i) 100 (λ n is. omega (arith, pair-most c i n is))
 
 number-most : (n : ℕ) (c : List ℕ) (w : ℕ) → number n c ≡ some w → w ≤ n
 unfolding number isUpTo

@@ -3,7 +3,7 @@ use Prim.Native.Nat.{ℕ, _+_, _*_, _/_, _%_}
 use mathlib.Core.Bool.{Bool, true, false, not, _&&_}
 use mathlib.Core.List.{List, [], _∷_, map}
 use lib.Dec.{eqb}
-use Rattle.crmf.specs.meaning.Value.{always, integer, boolean, bitString, empty, zeroOrOne, true-only, utcTime, generalizedTime, some, never}
+use Rattle.crmf.specs.meaning.Value.{always, integer, boolean, bitString, empty, zeroOrOne, true-only, utcTime, generalizedTimeFrom2050, someForwards, never}
 use Rattle.crmf.specs.meaning.Value.{action, method, controlType, infoType}
 use Rattle.crmf.specs.meaning.Notation.{Identifiers, octet, generalName, anything, nothing, Mark, both, alone, Marking, whatever, unlessTwo, AlgId, Spki, OneName, Rdn, Attribute}
 use Rattle.crmf.specs.steps.grammar.Lines.{Judge, keep, choose, Pass, ends, needed, another, over, Line, lines, start}
@@ -33,8 +33,8 @@ judgeCode (keep empty) = 4
 judgeCode (keep zeroOrOne) = 5
 judgeCode (keep true-only) = 6
 judgeCode (keep utcTime) = 7
-judgeCode (keep generalizedTime) = 8
-judgeCode (keep some) = 9
+judgeCode (keep generalizedTimeFrom2050) = 8
+judgeCode (keep someForwards) = 9
 judgeCode (keep never) = 10
 judgeCode (choose action) = 16
 judgeCode (choose method) = 17

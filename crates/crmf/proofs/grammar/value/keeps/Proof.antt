@@ -1,10 +1,10 @@
 -- `crmf::grammar::value::keeps` meets its contract: each arm's code is one rule's, and any other code is the last rule's. Assumes nothing.
 use Prim.Native.Nat.{ℕ, _≤_, zero-le, _<_}
-use mathlib.Core.Bool.{not}
-use mathlib.Core.Path.{_≡_, sym, ap, _∙_}
+use mathlib.Core.Bool.{not, _&&_}
+use mathlib.Core.Path.{_≡_, sym, ap, ap₂, _∙_}
 use borrow.Author.Needs.{needs}
 use lib.Arith.{lt-of-le-ne}
-use Rattle.crmf.specs.meaning.Value.{always, integer, boolean, bitString, empty, zeroOrOne, true-only, utcTime, generalizedTime, some, never, keeps}
+use Rattle.crmf.specs.meaning.Value.{always, integer, boolean, bitString, empty, zeroOrOne, true-only, utcTime, generalizedTimeFrom2050, someForwards, never, keeps}
 use Rattle.crmf.specs.steps.grammar.Lines.{keep}
 use Rattle.crmf.specs.steps.grammar.Packed.{judgeCode}
 use Rattle.crmf.proofs.theorems.lines.JudgeCodes.{same-rule, last-rule}
@@ -29,14 +29,23 @@ is-up-to-requires c κs = search needs
 is-true-requires : tie.Need-is-true-requires
 is-true-requires c κs = search needs
 
-is-utc-time-requires : tie.Need-is-utc-time-requires
-is-utc-time-requires c κs = search needs
+utc-time-requires : tie.Need-utc-time-requires
+utc-time-requires c κs = search needs
 
-is-generalized-time-requires : tie.Need-is-generalized-time-requires
-is-generalized-time-requires c κs = search needs
+is-shown-requires : tie.Need-is-shown-requires
+is-shown-requires c κs = search needs
+
+generalized-time-requires : tie.Need-generalized-time-requires
+generalized-time-requires c κs = search needs
+
+is-shown-requires-2 : tie.Need-is-shown-requires-2
+is-shown-requires-2 c κs = search needs
 
 is-empty-requires-2 : tie.Need-is-empty-requires-2
 is-empty-requires-2 c κs = search needs
+
+forwards-requires : tie.Need-forwards-requires
+forwards-requires c κs = search needs
 
 returns : tie.Need-returns
 unfolding keeps judgeCode
@@ -68,15 +77,16 @@ returns-7 c x e = rw (same-rule x true-only (e ∙ c .before .match .keys7)) (c 
 
 returns-8 : tie.Need-returns-8
 unfolding keeps judgeCode
-returns-8 c x e = rw (same-rule x utcTime (e ∙ c .before .match .keys8)) (c .is-utc-time .ensures)
+returns-8 c x e = rw (same-rule x utcTime (e ∙ c .before .before .match .keys8)) (c .is-shown .ensures _ (c .before .utc-time .ensures))
 
 returns-9 : tie.Need-returns-9
 unfolding keeps judgeCode
-returns-9 c x e = rw (same-rule x generalizedTime (e ∙ c .before .match .keys9)) (c .is-generalized-time .ensures)
+returns-9 c x e = rw (same-rule x generalizedTimeFrom2050 (e ∙ c .before .before .match .keys9)) (c .is-shown2 .ensures _ (c .before .generalized-time .ensures))
 
 returns-10 : tie.Need-returns-10
 unfolding keeps judgeCode
-returns-10 c x e = rw (same-rule x some (e ∙ c .before .match .keys10)) (ap not (c .is-empty2 .ensures))
+returns-10 c x e =
+    rw (same-rule x someForwards (e ∙ c .before .before .match .keys10)) (ap₂ _&&_ (ap not (c .before .is-empty2 .ensures)) (c .forwards .ensures))
 
 -- what is at least n and not n is above n
 up : {n k : ℕ} → n ≤ k → (k ≡ n → ⊥) → n < k
@@ -105,9 +115,12 @@ keeps-spec =
     is-empty-requires
     is-up-to-requires
     is-true-requires
-    is-utc-time-requires
-    is-generalized-time-requires
+    utc-time-requires
+    is-shown-requires
+    generalized-time-requires
+    is-shown-requires-2
     is-empty-requires-2
+    forwards-requires
     returns
     returns-2
     returns-3
