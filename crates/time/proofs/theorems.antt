@@ -6,5 +6,6 @@ pub mod Times
 pub mod Validities
 pub mod Telling
 pub mod Ranges
+pub mod FieldOctets
 pub mod MomentVectors
 pub mod TimeVectors

@@ -3,12 +3,12 @@ use Prim.Native.Nat.{ℕ, _+_, _*_}
 use mathlib.Core.Bool.{true, false}
 use mathlib.Core.List.{List}
 use mathlib.Core.Option.{Option, some, none, bind}
-use mathlib.Core.Path.{_≡_}
+use mathlib.Core.Path.{_≡_, refl}
 use borrow.Author.Tests.{eq-eqb, ne-eqb}
 use lib.Dec.{leb, eqb}
 use lib.ListN.{length, getD}
 use Rattle.time.specs.meaning.Calendar.{moment}
-use Rattle.time.specs.meaning.Time.{pairAt, dateAt, century, utcDate, generalizedDate, firstGeneralizedYear, utcMoment, generalizedMoment}
+use Rattle.time.specs.meaning.Time.{pairAt, dateAt, century, utcDate, generalizedDate, firstGeneralizedYear, utcMoment, generalizedMoment, timeMoment}
 use Rattle.time.proofs.theorems.Dates.{year-tested}
 
 module _ (c : List ℕ) where
@@ -47,3 +47,12 @@ module _ (c : List ℕ) where
     pub generalized-no-rest : (hundreds : ℕ) → pairAt c 0 ≡ some hundreds → pairAt c 2 ≡ none → generalizedMoment c ≡ none
     unfolding generalizedMoment generalizedDate bind
     generalized-no-rest hundreds high is = rw (generalizedMoment, generalizedDate, eq-eqb _ _ size, high, is)
+
+-- what an element with the identifier of a Time shows
+pub time-utc : (c : List ℕ) → timeMoment 0x17 c ≡ utcMoment c
+unfolding timeMoment
+time-utc c = refl
+
+pub time-generalized : (c : List ℕ) → timeMoment 0x18 c ≡ generalizedMoment c
+unfolding timeMoment
+time-generalized c = refl
