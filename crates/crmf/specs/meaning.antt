@@ -13,6 +13,7 @@ pub mod Stops
 pub mod Kinds
 pub mod Rows
 pub mod LeftOut
+pub mod Validity
 pub mod Pieces
 pub mod Fields
 pub mod Messages

@@ -1,3 +1,4 @@
 -- The value rules.
 pub mod ValueRules
 pub mod ValueVectors
+pub mod ValidityOrder
