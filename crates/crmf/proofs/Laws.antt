@@ -22,6 +22,9 @@
 --     other-walk          so the other edition's walk answers the same if none occurs, and otherwise stops at the first (`StopsAt`)
 --     listed              every difference that occurs is on the list (`differences`), so its number is one of 1 to 4 (`numbered`), and a fourth is
 --                         edition 1's (`fourth-first`); each on the list is the mark that some form's marking gives (`listed-marks`)
+--     forwards-exactly    A12: a validity's octets run forwards exactly if its elements do (`Forwards`)
+--     times-shown         each row of notBefore or notAfter of a batch shows a moment
+--     validities-forwards each row of a validity runs forwards
 --     fourth-exactly      a fourth difference (`fourth`) occurs exactly where a row shows a field that edition 2 has left out (`LeftOut`); rows that
 --                         show the same pieces show the same such fields (`left-out-too`)
 --     inside-starts       every inside of the table is free or starts a container
@@ -153,6 +156,8 @@ pub use Rattle.crmf.proofs.theorems.explain.EveryForm.{all, isPassed, w
 pub use Rattle.crmf.proofs.theorems.grammar.Choices.{Choice, taking, choosing, identifiersOf, choices, _followedBy_, deterministic, ways-parts}
 pub use Rattle.crmf.proofs.theorems.editions.FirstSeen.{Edition, first-edition, second-edition, firstSeen, after, seenOf, walk-seen}
 pub use Rattle.crmf.proofs.theorems.editions.ListedDifferences.{listed, numbered, fourth-first, listed-marks}
+pub use Rattle.crmf.proofs.theorems.values.ValidityOrder.{forwards-exactly}
+pub use Rattle.crmf.proofs.theorems.rows.TimeRows.{times-shown, validities-forwards}
 pub use Rattle.crmf.proofs.theorems.editions.LeftOutFields.{fourth, fourth-exactly}
 pub use Rattle.crmf.proofs.theorems.pieces.LeftOutPieces.{left-out-too}
 pub use Rattle.crmf.proofs.theorems.editions.Marks.{trail-occurrences, marks-met}

@@ -3,6 +3,7 @@
 --     told-at, told-missing    what the answer of a time's check says of the moment
 --     utc-through-2049    A12: what a UTCTime shows is from 1950-01-01 on and before 2050-01-01
 --     generalized-from-2050    what a GeneralizedTime shows is from 2050-01-01 on
+--     shown-kind          the kind of the Time in notBefore or notAfter by the moment that it shows
 --     shown-range         what notBefore or notAfter shows is from 1950-01-01 on, up to the last second of 9999
 --     time-few            a Time has at most 15 content octets
 --     shown-parts         the element of notBefore or notAfter around a Time shows the Time's moment
@@ -11,6 +12,6 @@
 --     moments-counted, februaries-counted    moments that are known from elsewhere
 pub use Rattle.time.proofs.theorems.Telling.{told-at, told-missing}
 pub use Rattle.time.proofs.theorems.Times.{time-utc, time-generalized}
-pub use Rattle.time.proofs.theorems.Ranges.{within-year, utc-through-2049, generalized-from-2050, shown-range}
+pub use Rattle.time.proofs.theorems.Ranges.{within-year, utc-through-2049, generalized-from-2050, shown-kind, shown-range}
 pub use Rattle.time.proofs.theorems.FieldOctets.{time-few, shown-parts, forwards-none, forwards-alone, forwards-two}
 pub use Rattle.time.proofs.theorems.MomentVectors.{moments-counted, februaries-counted}

@@ -18,5 +18,6 @@ pub mod RowsRenumbered
 pub mod ShortRows
 pub mod Showing
 pub mod TakenElements
+pub mod TimeRows
 pub mod SiblingKinds
 pub mod Writing

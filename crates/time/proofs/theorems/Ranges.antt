@@ -5,10 +5,10 @@ use mathlib.Core.Bool.{Bool, true, false, _&&_, _||_, true≢false}
 use mathlib.Core.List.{List, [], _∷_}
 use mathlib.Core.Option.{Option, some, none, Option·some-injective, Option·none-ne-some, bind, bind-eq-some-iff}
 use mathlib.Core.Path.{_≡_, refl, sym, ap}
-use mathlib.Core.Logic.{⊎-elim}
+use mathlib.Core.Logic.{_⊎_, inl, inr, ⊎-elim}
 use native.Mathlib.Nat.{le-of-suc-le-suc, eq-or-lt-of-le}
 use native.Mathlib.Omega.{arith}
-use borrow.Author.Tests.{leb-true, leb-false}
+use borrow.Author.Tests.{leb-true, leb-false, eqb-true}
 use lib.Dec.{leb, eqb}
 use lib.ListN.{length, getD, getElem?, take, drop}
 use Rattle.der.proofs.theorems.lists.Range.{each}
@@ -173,20 +173,31 @@ pub kept : (b : Bool) (o : Option ℕ) (n : ℕ) → (elim b as (λ x. Option �
 kept true o n is = (refl, is)
 kept false o n is = absurd (Option·none-ne-some n is)
 
--- so what a Time shows, and what notBefore or notAfter shows, is from 1950-01-01 on, up to the last second of 9999
-time-range : (id : ℕ) (c : List ℕ) (n : ℕ) → timeMoment id c ≡ some n → (61_536_067_200 ≤ n) × (n ≤ 315_569_519_999)
+-- so what a Time shows tells which kind it is: a UTCTime through 2049, and a GeneralizedTime from then on
+time-kind : (id : ℕ) (c : List ℕ) (n : ℕ) → timeMoment id c ≡ some n
+    → ((id ≡ 0x17) × (61_536_067_200 ≤ n) × (n < 64_691_827_200)) ⊎ ((id ≡ 0x18) × (64_691_827_200 ≤ n) × (n ≤ 315_569_519_999))
 unfolding timeMoment
-time-range id c n is = go (eqb id 0x17) is
+time-kind id c n is = go (eqb id 0x17) refl is
   where
-    go : (b : Bool)
+    go : (b : Bool) → eqb id 0x17 ≡ b
         → (elim b as (λ x. Option ℕ) [ true ↦ utcMoment c | false ↦ elim (eqb id 0x18) as (λ x. Option ℕ) [ true ↦ generalizedMoment c | false ↦ none ] ]) ≡ some n
-        → (61_536_067_200 ≤ n) × (n ≤ 315_569_519_999)
-    go true h = let p = utc-through-2049 c n h in (p .0, omega (arith, p .1))
-    go false h = let p = generalized-from-2050 c n (kept (eqb id 0x18) (generalizedMoment c) n h .1) in (omega (arith, p .0), p .1)
+        → ((id ≡ 0x17) × (61_536_067_200 ≤ n) × (n < 64_691_827_200)) ⊎ ((id ≡ 0x18) × (64_691_827_200 ≤ n) × (n ≤ 315_569_519_999))
+    go true e h = let p = utc-through-2049 c n h in inl (eqb-true id 0x17 e, p .0, p .1)
+    go false e h =
+        let k = kept (eqb id 0x18) (generalizedMoment c) n h in
+        let p = generalized-from-2050 c n (k .1) in
+        inr (eqb-true id 0x18 (k .0), p .0, p .1)
 
-pub shown-range : (e : List ℕ) (n : ℕ) → shownMoment e ≡ some n → (61_536_067_200 ≤ n) × (n ≤ 315_569_519_999)
+-- "days through 2049 stand as UTCTime and later ones as GeneralizedTime (none before 1950)": in the octets of notBefore or notAfter the Time's
+-- identifier is the third
+pub shown-kind : (e : List ℕ) (n : ℕ) → shownMoment e ≡ some n
+    → ((getD (drop 2 e) 0 0 ≡ 0x17) × (61_536_067_200 ≤ n) × (n < 64_691_827_200)) ⊎ ((getD (drop 2 e) 0 0 ≡ 0x18) × (64_691_827_200 ≤ n) × (n ≤ 315_569_519_999))
 unfolding shownMoment elementMoment
-shown-range e n is =
+shown-kind e n is =
     let t = drop 2 e in
     let inner = kept (isShort e && (eqb (getD e 0 0) 0xA0 || eqb (getD e 0 0) 0xA1)) (elementMoment t) n is .1 in
-    time-range (getD t 0 0) (drop 2 t) n (kept (isShort t) (timeMoment (getD t 0 0) (drop 2 t)) n inner .1)
+    time-kind (getD t 0 0) (drop 2 t) n (kept (isShort t) (timeMoment (getD t 0 0) (drop 2 t)) n inner .1)
+
+-- so what notBefore or notAfter shows is from 1950-01-01 on, up to the last second of 9999
+pub shown-range : (e : List ℕ) (n : ℕ) → shownMoment e ≡ some n → (61_536_067_200 ≤ n) × (n ≤ 315_569_519_999)
+shown-range e n is = ⊎-elim (λ utc. (utc .1, omega (arith, utc .2))) (λ later. (omega (arith, later .1), later .2)) (shown-kind e n is)

@@ -127,10 +127,10 @@ module _ (id n other p w : ℕ) (c : List ℕ) (inside rest : Tree) (x : TimeSho
   shows-ways (later {rest = more} shows) e = let same : more ≡ rest = cc in inr (rw (sym same) shows)
 
 -- the identifiers of notBefore and notAfter are constructed
-made : (id : ℕ) → (id ≡ 0xA0) ⊎ (id ≡ 0xA1) → constructed id ≡ true
+pub made : (id : ℕ) → (id ≡ 0xA0) ⊎ (id ≡ 0xA1) → constructed id ≡ true
 made id = ⊎-elim (λ is. constructed-bit id (rw is refl)) (λ is. constructed-bit id (rw is refl))
 
-either-one : (id : ℕ) → (id ≡ 0xA0) ⊎ (id ≡ 0xA1) → (eqb id 0xA0 || eqb id 0xA1) ≡ true
+pub either-one : (id : ℕ) → (id ≡ 0xA0) ⊎ (id ≡ 0xA1) → (eqb id 0xA0 || eqb id 0xA1) ≡ true
 either-one id = ⊎-elim (λ is. rw is refl) (λ is. rw is refl)
 
 -- One of them alone runs forwards, by its octets and by its elements.
@@ -183,9 +183,14 @@ module _ (left q p w v u : ℕ) (c d : List ℕ) (inside within : Tree) where
 
     -- and by their elements
     both-ordered : (leb (x .moment) (y .moment) ≡ true) ↔ Forwards (two i j)
-    both-ordered =
-        (λ le before after shows also. omega (arith, leb-true (x .moment) (y .moment) le, first-shown before shows, second-shown after also),
-        λ all. le-leb _ _ (all (x .moment) (y .moment) (shows-held 0xA0 0 i p w c inside rest x first) (later (shows-held 0xA1 0 j v u d within none y second))))
+    both-ordered = (
+      λ le before after shows also. omega (arith, leb-true (x .moment) (y .moment) le, first-shown before shows, second-shown after also),
+      λ all. le-leb _ _ (all (x .moment) (y .moment) (shows-held 0xA0 0 i p w c inside rest x first) (later (shows-held 0xA1 0 j v u d within none y second))),
+    )
+
+-- what holds a Time shows a moment
+pub time-held : {R : ℕ → Bool} {t : Tree} → Within R (holds Time) t → TimeShown t
+time-held (parts m) = time-shown m
 
 -- an element in the form of notBefore or notAfter has its identifier and holds a Time
 held-time : {R : ℕ → Bool} (kind a : ℕ) (f : Field) → FitsOne R (row kind (holding a Time) ∷ []) f → (f .identifier ≡ a) × TimeShown (f .inside)
