@@ -23,6 +23,8 @@
 --     difference-listed   every difference that occurs is on the list, and its number is one of 1 to 4
 --     fourth-at-fields    A4: a fourth occurs exactly where a row shows a field that edition 2 has left out (`LeftOut`); bytes of edition 2's grammar
 --                         show none (`none-left-out`), and what edition 1 accepts with one, edition 2 answers with 9 (`left-out-nine`)
+--     times-shown         A12: in bytes of a grammar notBefore and notAfter show moments, in the kind of time that stands for them (`times-stand`)
+--     validities-forwards no validity in them runs backwards
 --     accepted-in         of the computed answer: what is accepted is in the grammar, and every certReqId fits
 --     in-accepted         conversely, what is in the grammar is accepted with the count of its rows, if every certReqId fits
 --     computed-read       the computed answer with a table: accepted exactly so, given room; then the table holds the rows (`computed-rows`)
@@ -35,14 +37,15 @@
 --     shown-table         after an accepted reading the table is the old one with the rows written over its first numbers
 --     paper               document 01's batches marked [P] are read as it says (`ReadsEntry`)
 --     refusals-explained  worked refusals are answered by number, place and detail; `refusals-told` others by number and place, and `templates-answered`
---                         batches that edition 1 accepts, in both editions
+--                         and `validities-answered` batches that edition 1 accepts, in both editions
 pub use Rattle.editions.proofs.theorems.AnswersExactly.{answer-related, related-answer, equal-related, answers-exactly, answers-once, Shows, acceptance-shows, related-number, accepted-related, reasonOf, reason-related}
 pub use Rattle.editions.proofs.theorems.AcceptedBatches.{taken, not-refused, refused-count, grammar-tree, grammar-content, content-messages, grammar-octets, accepted-edition, accepted-rows, accepted-short, grammar-accepted}
 pub use Rattle.editions.proofs.theorems.ReadsExactly.{reading-related, related-reading, equal-reading, reads-exactly, reads-once}
 pub use Rattle.editions.proofs.theorems.Demands.{table-stays, accepted-exactly, read-exactly, rows-shown, contents-right, same-rows, differing, nine-exactly, nine-least}
 pub use Rattle.editions.proofs.theorems.FourthDifference.{difference-listed, fourth-at-fields, none-left-out, left-out-nine}
+pub use Rattle.editions.proofs.theorems.ShownTimes.{times-shown, times-stand, validities-forwards}
 pub use Rattle.editions.proofs.theorems.Accepting.{accepted-in, in-accepted, computed-read, computed-rows, one-nest, nest-read, nest-rows}
 pub use Rattle.editions.proofs.theorems.Tables.{answer-counts, Shown, shown, with-room, shown-table}
 pub use Rattle.editions.proofs.theorems.RefusalNumbers.{answer-number}
 pub use Rattle.editions.proofs.theorems.PaperVectors.{ReadsEntry, paper}
-pub use Rattle.editions.proofs.theorems.RefusalVectors.{refusals-explained, refusals-told, templates-answered}
+pub use Rattle.editions.proofs.theorems.RefusalVectors.{refusals-explained, refusals-told, templates-answered, validities-answered}

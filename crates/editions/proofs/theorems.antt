@@ -15,4 +15,5 @@ pub mod ReadsExactly
 pub mod RecognisedAnswer
 pub mod RefusalNumbers
 pub mod RefusalVectors
+pub mod ShownTimes
 pub mod Tables

@@ -3,6 +3,7 @@ use Prim.Native.Nat.{ℕ}
 use mathlib.Core.Path.{_≡_, refl, ap}
 use mathlib.Core.Bool.{true}
 use mathlib.Core.List.{List}
+use mathlib.Core.Option.{bind}
 use lib.Dec.{ltb, leb}
 use lib.ListN.{length}
 use borrow.Author.Tests.{ltb-true, leb-true}
@@ -17,7 +18,10 @@ use Rattle.der.specs.steps.Span.{spanBy, spanOf}
 use Rattle.der.specs.steps.Order.{descends, ascendsFrom, ascends, closes}
 use Rattle.der.specs.steps.Explain.{listOf, byRule, afterInside, elementOf, walkAt}
 use Rattle.der.specs.steps.Reading.{given, read, treeOf, tree, nothingAt}
-use Rattle.crmf.specs.meaning.Value.{isEmpty, isUpTo, number, isTwo, keeps, typeNumber, selected}
+use Rattle.time.specs.meaning.Calendar.{leap, monthDays, daysIn, total, daysBeforeYear, daysBeforeMonth, isDay, isReal, daysBefore, seconds, moment}
+use Rattle.time.specs.meaning.Time.{digit, pairAt, dateAt, century, utcDate, generalizedDate, utcMoment, generalizedMoment, timeMoment}
+use Rattle.time.specs.meaning.Validity.{isShort, elementMoment, shownMoment, firstElement, furtherElements, inOrder, forwards}
+use Rattle.crmf.specs.meaning.Value.{isEmpty, isUpTo, number, isTwo, isShown, keeps, typeNumber, selected}
 use Rattle.crmf.specs.meaning.Lists.{same}
 use Rattle.crmf.specs.meaning.Notation.{among, named, order}
 use Rattle.crmf.specs.meaning.Grammar.{content}
@@ -28,7 +32,7 @@ use Rattle.crmf.specs.steps.rows.Fill.{goes, rowsFrom, rowsOfInput}
 use Rattle.editions.specs.declared.reader.Answer.{Answer}
 use Rattle.editions.specs.meaning.Answers.{Answers, Reason}
 use Rattle.editions.specs.steps.Reading.{batchAnswer, answer}
-use Rattle.editions.specs.examples.Refusals.{Refusal, Refused, Answered, explained, templates, told}
+use Rattle.editions.specs.examples.Refusals.{Refusal, Refused, Answered, explained, templates, validities, told}
 use Rattle.editions.proofs.theorems.AnswersExactly.{answers-exactly, reasonOf, reason-related}
 use Rattle.editions.proofs.theorems.OctetVectors.{areOctets, test-octets, each-of}
 
@@ -76,11 +80,34 @@ computed-told = ((refl, refl), (refl, refl)) & ((refl, refl), (refl, refl)) & ((
 computed-explained : Each (Both (λ e s r. Computed e s r × Reasoned e s r)) explained
 unfolding tagNumber constructed allowed valueFrom shortest longForm lengthOf sizedBy headOf
     classOf leads tails lowest highest utf8From utf8 boolean null integer bitString lastOf unpadded objectIdentifier holds listOf byRule spanBy spanOf descends ascendsFrom ascends closes afterInside elementOf walkAt
-    nothingAt given read treeOf tree same isEmpty isUpTo number isTwo keeps typeNumber selected among named order content
+    nothingAt given read treeOf tree same isEmpty isUpTo number isTwo keeps leap monthDays daysIn total daysBeforeYear daysBeforeMonth isDay isReal daysBefore seconds moment
+    digit pairAt dateAt century utcDate generalizedDate utcMoment generalizedMoment timeMoment isShort elementMoment shownMoment firstElement furtherElements inOrder forwards isShown bind typeNumber selected among named order content
     partSize size startsFrom start insideLine passOf formLines nextLine wayLine partLines containerLines linesFrom lines
     line findLineIn findLine closedIn closed judged withForm withLongId withElement walk emptyTally firstLong goes rowsFrom rowsOfInput
     batchAnswer answer areOctets base256 reasonOf
-computed-explained = (((refl, refl), (refl, refl, refl)), ((refl, refl), (refl, refl, refl))) & (((refl, refl), (refl, refl, refl)), ((refl, refl), (refl, refl, refl))) & (((refl, refl), (refl, refl, refl)), ((refl, refl), (refl, refl, refl))) & (((refl, refl), (refl, refl, refl)), ((refl, refl), (refl, refl, refl))) & (((refl, refl), (refl, refl, refl)), ((refl, refl), (refl, refl, refl))) & (((refl, refl), (refl, refl, refl)), ((refl, refl), (refl, refl, refl))) & (((refl, refl), (refl, refl, refl)), ((refl, refl), (refl, refl, refl))) & (((refl, refl), (refl, refl, refl)), ((refl, refl), (refl, refl, refl))) & (((refl, refl), (refl, refl, refl)), ((refl, refl), (refl, refl, refl))) & (((refl, refl), (refl, refl, refl)), ((refl, refl), (refl, refl, refl))) & (((refl, refl), (refl, refl, refl)), ((refl, refl), (refl, refl, refl))) & (((refl, refl), (refl, refl, refl)), ((refl, refl), (refl, refl, refl))) & (((refl, refl), (refl, refl, refl)), ((refl, refl), (refl, refl, refl))) & (((refl, refl), (refl, refl, refl)), ((refl, refl), (refl, refl, refl))) & (((refl, refl), (refl, refl, refl)), ((refl, refl), (refl, refl, refl))) & (((refl, refl), (refl, refl, refl)), ((refl, refl), (refl, refl, refl))) & (((refl, refl), (refl, refl, refl)), ((refl, refl), (refl, refl, refl))) & (((refl, refl), (refl, refl, refl)), ((refl, refl), (refl, refl, refl))) & (((refl, refl), (refl, refl, refl)), ((refl, refl), (refl, refl, refl))) & (((refl, refl), (refl, refl, refl)), ((refl, refl), (refl, refl, refl))) & (((refl, refl), (refl, refl, refl)), ((refl, refl), (refl, refl, refl))) & (((refl, refl), (refl, refl, refl)), ((refl, refl), (refl, refl, refl))) & (((refl, refl), (refl, refl, refl)), ((refl, refl), (refl, refl, refl))) & (((refl, refl), (refl, refl, refl)), ((refl, refl), (refl, refl, refl))) & (((refl, refl), (refl, refl, refl)), ((refl, refl), (refl, refl, refl))) & (((refl, refl), (refl, refl, refl)), ((refl, refl), (refl, refl, refl))) & (((refl, refl), (refl, refl, refl)), ((refl, refl), (refl, refl, refl))) & (((refl, refl), (refl, refl, refl)), ((refl, refl), (refl, refl, refl))) & (((refl, refl), (refl, refl, refl)), ((refl, refl), (refl, refl, refl))) & (((refl, refl), (refl, refl, refl)), ((refl, refl), (refl, refl, refl))) & (((refl, refl), (refl, refl, refl)), ((refl, refl), (refl, refl, refl))) & (((refl, refl), (refl, refl, refl)), ((refl, refl), (refl, refl, refl))) & (((refl, refl), (refl, refl, refl)), ((refl, refl), (refl, refl, refl))) & (((refl, refl), (refl, refl, refl)), ((refl, refl), (refl, refl, refl))) & (((refl, refl), (refl, refl, refl)), ((refl, refl), (refl, refl, refl))) & (((refl, refl), (refl, refl, refl)), ((refl, refl), (refl, refl, refl))) & (((refl, refl), (refl, refl, refl)), ((refl, refl), (refl, refl, refl))) & tt
+computed-explained =
+    (((refl, refl), (refl, refl, refl)), ((refl, refl), (refl, refl, refl))) & (((refl, refl), (refl, refl, refl)), ((refl, refl), (refl, refl, refl)))
+    & (((refl, refl), (refl, refl, refl)), ((refl, refl), (refl, refl, refl))) & (((refl, refl), (refl, refl, refl)), ((refl, refl), (refl, refl, refl)))
+    & (((refl, refl), (refl, refl, refl)), ((refl, refl), (refl, refl, refl))) & (((refl, refl), (refl, refl, refl)), ((refl, refl), (refl, refl, refl)))
+    & (((refl, refl), (refl, refl, refl)), ((refl, refl), (refl, refl, refl))) & (((refl, refl), (refl, refl, refl)), ((refl, refl), (refl, refl, refl)))
+    & (((refl, refl), (refl, refl, refl)), ((refl, refl), (refl, refl, refl))) & (((refl, refl), (refl, refl, refl)), ((refl, refl), (refl, refl, refl)))
+    & (((refl, refl), (refl, refl, refl)), ((refl, refl), (refl, refl, refl))) & (((refl, refl), (refl, refl, refl)), ((refl, refl), (refl, refl, refl)))
+    & (((refl, refl), (refl, refl, refl)), ((refl, refl), (refl, refl, refl))) & (((refl, refl), (refl, refl, refl)), ((refl, refl), (refl, refl, refl)))
+    & (((refl, refl), (refl, refl, refl)), ((refl, refl), (refl, refl, refl))) & (((refl, refl), (refl, refl, refl)), ((refl, refl), (refl, refl, refl)))
+    & (((refl, refl), (refl, refl, refl)), ((refl, refl), (refl, refl, refl))) & (((refl, refl), (refl, refl, refl)), ((refl, refl), (refl, refl, refl)))
+    & (((refl, refl), (refl, refl, refl)), ((refl, refl), (refl, refl, refl))) & (((refl, refl), (refl, refl, refl)), ((refl, refl), (refl, refl, refl)))
+    & (((refl, refl), (refl, refl, refl)), ((refl, refl), (refl, refl, refl))) & (((refl, refl), (refl, refl, refl)), ((refl, refl), (refl, refl, refl)))
+    & (((refl, refl), (refl, refl, refl)), ((refl, refl), (refl, refl, refl))) & (((refl, refl), (refl, refl, refl)), ((refl, refl), (refl, refl, refl)))
+    & (((refl, refl), (refl, refl, refl)), ((refl, refl), (refl, refl, refl))) & (((refl, refl), (refl, refl, refl)), ((refl, refl), (refl, refl, refl)))
+    & (((refl, refl), (refl, refl, refl)), ((refl, refl), (refl, refl, refl))) & (((refl, refl), (refl, refl, refl)), ((refl, refl), (refl, refl, refl)))
+    & (((refl, refl), (refl, refl, refl)), ((refl, refl), (refl, refl, refl))) & (((refl, refl), (refl, refl, refl)), ((refl, refl), (refl, refl, refl)))
+    & (((refl, refl), (refl, refl, refl)), ((refl, refl), (refl, refl, refl))) & (((refl, refl), (refl, refl, refl)), ((refl, refl), (refl, refl, refl)))
+    & (((refl, refl), (refl, refl, refl)), ((refl, refl), (refl, refl, refl))) & (((refl, refl), (refl, refl, refl)), ((refl, refl), (refl, refl, refl)))
+    & (((refl, refl), (refl, refl, refl)), ((refl, refl), (refl, refl, refl))) & (((refl, refl), (refl, refl, refl)), ((refl, refl), (refl, refl, refl)))
+    & (((refl, refl), (refl, refl, refl)), ((refl, refl), (refl, refl, refl))) & (((refl, refl), (refl, refl, refl)), ((refl, refl), (refl, refl, refl)))
+    & (((refl, refl), (refl, refl, refl)), ((refl, refl), (refl, refl, refl))) & (((refl, refl), (refl, refl, refl)), ((refl, refl), (refl, refl, refl)))
+    & (((refl, refl), (refl, refl, refl)), ((refl, refl), (refl, refl, refl))) & (((refl, refl), (refl, refl, refl)), ((refl, refl), (refl, refl, refl)))
+    & tt
 
 -- Every refusal of the list is answered by its number and place, for the reason that its detail names.
 pub refusals-explained : Each (Both Explained) explained
@@ -117,11 +144,24 @@ computed-templates =
     & (refl, refl, refl)
     & tt
 
--- Each batch of the list that edition 1 accepts is answered so in both editions.
-pub templates-answered : Each AnsweredSo templates
-templates-answered =
-    each-of AnsweredComputed AnsweredSo
-    (λ x (octets, one, two).
+computed-validities : Each AnsweredComputed validities
+unfolding tagNumber constructed allowed valueFrom shortest longForm lengthOf sizedBy headOf
+    boolean null integer bitString lastOf unpadded objectIdentifier holds listOf byRule closes afterInside elementOf walkAt
+    nothingAt given read treeOf tree same isEmpty isUpTo number isTwo keeps leap monthDays daysIn total daysBeforeYear daysBeforeMonth isDay isReal daysBefore seconds moment
+    digit pairAt dateAt century utcDate generalizedDate utcMoment generalizedMoment timeMoment isShort elementMoment shownMoment firstElement furtherElements inOrder forwards isShown bind typeNumber selected among named order content
+    partSize size startsFrom start insideLine passOf formLines nextLine wayLine partLines containerLines linesFrom lines
+    line findLineIn findLine closedIn closed judged withForm withLongId withElement walk emptyTally firstLong goes rowsFrom rowsOfInput
+    batchAnswer answer areOctets base256
+computed-validities = (refl, refl, refl) & (refl, refl, refl) & (refl, refl, refl) & (refl, refl, refl) & tt
+
+answered-computed : (x : Answered) → AnsweredComputed x → AnsweredSo x
+answered-computed x (octets, one, two) =
     let s = base256 130 (x .octets) in
-    (answers-exactly 1 s (test-octets s octets) 0 0 (x .rows) .1 one, answers-exactly 2 s (test-octets s octets) (x .number) (x .place) (x .count) .1 two))
-    templates computed-templates
+    (answers-exactly 1 s (test-octets s octets) 0 0 (x .rows) .1 one, answers-exactly 2 s (test-octets s octets) (x .number) (x .place) (x .count) .1 two)
+
+-- Each batch of the lists that edition 1 accepts is answered so in both editions.
+pub templates-answered : Each AnsweredSo templates
+templates-answered = each-of AnsweredComputed AnsweredSo answered-computed templates computed-templates
+
+pub validities-answered : Each AnsweredSo validities
+validities-answered = each-of AnsweredComputed AnsweredSo answered-computed validities computed-validities

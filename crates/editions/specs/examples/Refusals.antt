@@ -86,6 +86,13 @@ explained =
     ∷ each 0x300D300B30090201003004A2020500 (at 8 13 1) (at 8 11 1)
     ∷ each 0x300F300D300B0201003006810101800102 (at 8 14 1) (at 8 11 1)
     ∷ each 0x3010300E30080201003003800100A202A400 (at 8 16 1) (at 8 11 3)
+    -- document 02, A12: a GeneralizedTime of the last second of 2049 and of 1949; times that run backwards, in one kind of time and across both;
+    -- backwards, and then an element in the validity that fits no part
+    ∷ alike 0x301E301C301A0201003015A413A011180F32303439313233313233353935395A (at 8 15 3)
+    ∷ alike 0x301E301C301A0201003015A413A011180F31393439313233313233353935395A (at 8 15 3)
+    ∷ alike 0x302D302B30290201003024A422A00F170D3439313233313233353935395AA10F170D3530303130313030303030305A (at 8 11 3)
+    ∷ alike 0x302F302D302B0201003026A424A011180F32303530303130313030303030305AA10F170D3439313233313233353935395A (at 8 11 3)
+    ∷ alike 0x302F302D302B0201003026A424A00F170D3439313233313233353935395AA10F170D3530303130313030303030305A0500 (at 8 47 1)
     ∷ []
 
 -- A batch that edition 1 accepts with a count of rows, and edition 2 with a count, or refuses with 9 at a place.
@@ -114,6 +121,21 @@ templates =
     ∷ first-alone 0x30223020300502010030003017301506092B060105050705020230080201003003870100 11 33
     -- the first of two: a serialNumber after a version of 2, and an issuerUID
     ∷ first-alone 0x30123010300E0201003009800102810101870100 8 14
+    ∷ []
+
+-- accepted in both editions with one count of rows
+abbrev in-both : ℕ → ℕ → Answered
+in-both bs n = record { octets = bs; rows = n; number = 0; place = 0; count = n }
+
+-- Document 02, A12: validities that both editions accept.
+abbrev pub validities : List Answered
+validities =
+    -- the first moment of 1950 and the last of 2049; equal moments; the last of 2049 and the first of 2050
+    in-both 0x302D302B30290201003024A422A00F170D3530303130313030303030305AA10F170D3439313233313233353935395A 8
+    ∷ in-both 0x302D302B30290201003024A422A00F170D3439313233313233353935395AA10F170D3439313233313233353935395A 8
+    ∷ in-both 0x302F302D302B0201003026A424A00F170D3439313233313233353935395AA111180F32303530303130313030303030305A 8
+    -- the last second of 9999 alone
+    ∷ in-both 0x301E301C301A0201003015A413A111180F39393939313233313233353935395A 7
     ∷ []
 
 -- Other refusals, by number and place; the detail is 0.
