@@ -18,7 +18,8 @@ use Rattle.crmf.specs.steps.rows.Fill.{rowsOfInput}
 use Rattle.compare.specs.declared.merge.Cursor.{Cursor}
 use Rattle.compare.specs.meaning.Counterparts.{rowAt, Child, byPosition}
 use Rattle.compare.specs.meaning.Changes.{rowOctets, leaves-differ, entry}
-use Rattle.compare.specs.steps.Lists.{Tells}
+use Rattle.compare.specs.meaning.Times.{secondsLater}
+use Rattle.compare.specs.steps.Lists.{Tells, laterBetween}
 use Rattle.compare.specs.steps.Tables.{childAt}
 use Rattle.compare.specs.steps.Walking.{Standing, Went}
 use Rattle.compare.proofs.theorems.TableRows.{table-no-child, table-next}
@@ -230,11 +231,11 @@ module _ (t : ℕ) where
   both-same-length-2 c = search needs
 
   both-returns-3 : both-lts.Need-returns-3 both-calls both-at both.Post
-  unfolding entry
+  unfolding entry secondsLater
   both-returns-3 c =
       let start = c .before .before .before .before .before .before .before .before .before .before .before .before .before .before .before .before .before in
       step-differing (standing-of start) (start .pre .1 .1) (sym (kind-of-next (c .before .before .before .before .before .before .before .before .before)) ∙ c .before .before .before .before .before .before .before .before .if1 .left)
-      (told-apart (c .before .before .before .before .before) (c .before .before .before .before .if2 .left)) refl refl (omega arith) (c .before .before .put .ensures (leaves-differ (start .args .at .first) (start .args .at .second)) refl)
+      (told-apart (c .before .before .before .before .before) (c .before .before .before .before .if2 .left)) refl refl (omega arith) (c .before .before .put .ensures (laterBetween (start .args .first .now) (start .args .second .now)) (leaves-differ (start .args .at .first) (start .args .at .second)) refl)
 
   children-loop-holds : children-lts.Need-loop-holds children-calls children-at children.Post children-Inv-loop children-μ-loop
   children-loop-holds c =
