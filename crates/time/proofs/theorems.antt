@@ -5,3 +5,5 @@ pub mod Dates
 pub mod Times
 pub mod Validities
 pub mod Telling
+pub mod Ranges
+pub mod MomentVectors

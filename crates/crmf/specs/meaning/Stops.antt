@@ -66,7 +66,7 @@ mutual
     -- action 0"
     broken : {ps qs : Parts} {around id first whole : ℕ} {c : List ℕ} {inside rest : Tree} {f : Form} → Has ps id (taking f qs)
         → T (readable R (markOf (f .marking) c)) → Within R (f .inside) inside → (T (keeps (f .rule) c) → ⊥)
-        → Stops R ps around (element id first whole c inside rest) first (ruleDetail (f .rule))
+        → Stops R ps around (element id first whole c inside rest) first (ruleDetail (f .rule) c)
     -- the same of a value that selects: it selects none of the names
     astray : {ps : Parts} {around id first whole a : ℕ} {c : List ℕ} {inside rest : Tree} {s : Selector} {ns : List Name}
         → Has ps id (choosing a s ns) → wayOf s c ns ≡ absent → Stops R ps around (element id first whole c inside rest) first valueBroken

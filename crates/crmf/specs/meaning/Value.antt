@@ -157,16 +157,16 @@ selected method c = number 3 c
 selected controlType c = present (Option·getD (typeNumber 1 6 c) 0)
 selected infoType c = present (Option·getD (typeNumber 2 2 c) 0)
 
--- request A9's detail of a broken rule: an empty validity lacks a part, and a list beside action 0 is "control 3's list"
-abbrev pub ruleDetail : Rule → ℕ
-ruleDetail always = valueBroken
-ruleDetail integer = valueBroken
-ruleDetail boolean = valueBroken
-ruleDetail bitString = valueBroken
-ruleDetail empty = valueBroken
-ruleDetail zeroOrOne = valueBroken
-ruleDetail true-only = valueBroken
-ruleDetail utcTime = valueBroken
-ruleDetail generalizedTime = valueBroken
-ruleDetail some = partMissing
-ruleDetail never = listOrLocation
+-- request A9's detail of content octets that break a rule: an empty validity lacks a part, and a list beside action 0 is "control 3's list"
+abbrev pub ruleDetail : Rule → List ℕ → ℕ
+ruleDetail always c = valueBroken
+ruleDetail integer c = valueBroken
+ruleDetail boolean c = valueBroken
+ruleDetail bitString c = valueBroken
+ruleDetail empty c = valueBroken
+ruleDetail zeroOrOne c = valueBroken
+ruleDetail true-only c = valueBroken
+ruleDetail utcTime c = valueBroken
+ruleDetail generalizedTime c = valueBroken
+ruleDetail some c = partMissing
+ruleDetail never c = listOrLocation

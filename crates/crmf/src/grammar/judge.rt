@@ -26,7 +26,7 @@ pub(crate) fn judge_value(table: &[usize; LINES], word: usize, content: &[u8]) -
         if value::keeps(code, content) {
             return Onward::To(next);
         }
-        return Onward::Breaks(value::rule_detail(code));
+        return Onward::Breaks(value::rule_detail(code, content));
     }
     let way = value::selected(code, content);
     if way < value::ways(code) {

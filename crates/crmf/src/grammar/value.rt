@@ -223,8 +223,8 @@ pub(crate) fn ways(code: usize) -> usize
 }
 
 // Request A9's detail for a content that breaks the rule that has the code.
-pub(crate) fn rule_detail(code: usize) -> usize
-    ensures { λ r. ⌜ ((x : Rule) → judgeCode (keep x) ≡ code → r ≡ walk.ruleDetail x) ⌝ }
+pub(crate) fn rule_detail(code: usize, content: &[u8]) -> usize
+    ensures { λ r. ⌜ ((x : Rule) → judgeCode (keep x) ≡ code → r ≡ walk.ruleDetail x (now (content .entry))) ⌝ }
 {
     match code {
         codes::SOME => 2,

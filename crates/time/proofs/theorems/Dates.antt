@@ -1,15 +1,15 @@
 -- Months, days and dates: what the code tests on numbers that stand for parts that may be missing, 100 for two octets that are no digits and
 -- 0 days for no month, is what the definitions say of the parts. Assumes nothing.
-use Prim.Native.Nat.{ℕ, zero, suc, _+_, _-_, _*_, _≤_, _<_}
+use Prim.Native.Nat.{ℕ, zero, suc, _≤_, _<_}
 use mathlib.Core.Bool.{Bool, true, false, _&&_, and-false, and-true, true≢false}
 use mathlib.Core.List.{List, [], _∷_}
 use mathlib.Core.Option.{Option, some, none, Option·getD, Option·some-injective, Option·none-ne-some, bind}
 use mathlib.Core.Path.{_≡_, refl, sym, _∙_}
-use borrow.Author.Tests.{leb-true, le-leb, lt-leb}
+use borrow.Author.Tests.{leb-true, lt-leb}
 use native.Mathlib.Omega.{arith}
 use lib.Dec.{leb}
-use lib.ListN.{length, getD, getElem?, take}
-use Rattle.time.specs.meaning.Calendar.{leap, monthDays, daysIn, total, daysBeforeMonth, Date, isDay, isReal, seconds, moment}
+use lib.ListN.{length, getD, getElem?}
+use Rattle.time.specs.meaning.Calendar.{leap, monthDays, daysIn, Date, isDay, isReal, seconds, moment}
 use Rattle.time.proofs.theorems.Digits.{both}
 
 -- the entry of a list, with a default in either way
@@ -48,7 +48,7 @@ entry-few (b ∷ l) are zero a is = (omega arith, omega (arith, leb-true b 31 (b
 entry-few (b ∷ l) are (suc i) a is = let p = entry-few l (both (leb b 31) (few l) are .1) i a is in (omega (arith, p .0), p .1)
 
 -- there are 12 months, and none has more than 31 days
-month-days : (year month days : ℕ) → daysIn year month ≡ some days → (month ≤ 12) × (days ≤ 31)
+pub month-days : (year month days : ℕ) → daysIn year month ≡ some days → (month ≤ 12) × (days ≤ 31)
 unfolding daysIn monthDays
 month-days year zero days is = absurd (Option·none-ne-some days is)
 month-days year (suc month) days is =

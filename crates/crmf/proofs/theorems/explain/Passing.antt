@@ -30,7 +30,7 @@ unfolding judged
 judged-kept r next c ok = rw (ok, judged)
 
 -- a value that breaks its rule does not go on
-pub judged-lost : (r : Rule) (next : ℕ) (c : List ℕ) → keeps r c ≡ false → judged (keep r) next c ≡ Breaks (ruleDetail r)
+pub judged-lost : (r : Rule) (next : ℕ) (c : List ℕ) → keeps r c ≡ false → judged (keep r) next c ≡ Breaks (ruleDetail r c)
 unfolding judged
 judged-lost r next c lost = rw (lost, judged)
 

@@ -166,8 +166,8 @@ module _ (R : ℕ → Bool) where
         by-value : T (readable R (markOf (f .marking) c)) → readable R (markOf (line n .marking) c) ≡ true → (u : Tally) → innerWalk R m (line n .inside) first inside ≡ Passed u
             → (o : Onward) → judged (line n .judge) (line n .next) c ≡ o → (b : Bool) → keeps (f .rule) c ≡ b → Stops R ps around t p d
         by-value may read u passed (Breaks e) to false lost =
-            let says : Breaks (ruleDetail (f .rule)) ≡ Breaks e = sym (judged-lost (f .rule) (line n .next) c lost) ∙ rw (shows .judging) at to in
-            let detail : ruleDetail (f .rule) ≡ e = cc in
+            let says : Breaks (ruleDetail (f .rule) c) ≡ Breaks e = sym (judged-lost (f .rule) (line n .next) c lost) ∙ rw (shows .judging) at to in
+            let detail : ruleDetail (f .rule) c ≡ e = cc in
             let stop = broken {qs = qs} has may (within-it u passed) (false-fails lost) in
             stop-at (subst (Stops R ps around t first) detail stop)
             (sym (walk-breaks R s k around id first whole c inside rest n e u found read passed to) ∙ breaks)
@@ -324,7 +324,7 @@ module _ (R : ℕ → Bool) where
         let (n, found, shows, read) = taking-breaks f qs has may in
         let (u, passed) = taken-within f qs n shows within in (
           u,
-          walk-breaks R s k around id first whole c inside rest n (ruleDetail (f .rule)) u found read passed
+          walk-breaks R s k around id first whole c inside rest n (ruleDetail (f .rule) c) u found read passed
               (rw (shows .judging) (judged-lost (f .rule) (line n .next) c (fails-false (keeps (f .rule) c) fails))),
         )
     element-breaks (astray {a = a} {s = v} {ns = ns} has unselected) =

@@ -74,16 +74,16 @@ selector-range controlType = (lit≤ tt, lit≤ tt)
 selector-range infoType = (lit≤ tt, lit≤ tt)
 
 -- the detail of every rule but the two with details of their own
-pub other-detail : (x : Rule) → (judgeCode (keep x) ≡ judgeCode (keep some) → ⊥) → (judgeCode (keep x) ≡ judgeCode (keep never) → ⊥) → 3 ≡ ruleDetail x
+pub other-detail : (x : Rule) (c : List ℕ) → (judgeCode (keep x) ≡ judgeCode (keep some) → ⊥) → (judgeCode (keep x) ≡ judgeCode (keep never) → ⊥) → 3 ≡ ruleDetail x c
 unfolding judgeCode
-other-detail always a b = refl
-other-detail integer a b = refl
-other-detail boolean a b = refl
-other-detail bitString a b = refl
-other-detail empty a b = refl
-other-detail zeroOrOne a b = refl
-other-detail true-only a b = refl
-other-detail utcTime a b = refl
-other-detail generalizedTime a b = refl
-other-detail some a b = absurd (a refl)
-other-detail never a b = absurd (b refl)
+other-detail always c a b = refl
+other-detail integer c a b = refl
+other-detail boolean c a b = refl
+other-detail bitString c a b = refl
+other-detail empty c a b = refl
+other-detail zeroOrOne c a b = refl
+other-detail true-only c a b = refl
+other-detail utcTime c a b = refl
+other-detail generalizedTime c a b = refl
+other-detail some c a b = absurd (a refl)
+other-detail never c a b = absurd (b refl)

@@ -25,7 +25,7 @@ module _ (next code : ℕ) (c : List ℕ) (rule : code < codes.selectors) where
   kept (choose s) e r f t = absurd (omega (arith, selector-range s))
 
   pub lost : (j : Judge) → judgeCode j ≡ code → (r : Bool) → ((x : Rule) → judgeCode (keep x) ≡ code → r ≡ keeps x c) → r ≡ false
-      → (d : ℕ) → ((x : Rule) → judgeCode (keep x) ≡ code → d ≡ ruleDetail x) → Breaks d ≡ judged j next c
+      → (d : ℕ) → ((x : Rule) → judgeCode (keep x) ≡ code → d ≡ ruleDetail x c) → Breaks d ≡ judged j next c
   unfolding judged
   lost (keep x) e r f t d g = let k : keeps x c ≡ false = sym (f x e) ∙ t in rw (judged, k, g x e)
   lost (choose s) e r f t d g = absurd (omega (arith, selector-range s))

@@ -150,7 +150,7 @@ onward-lives k c n = go (line k .judge) (line k .next) (going k) (next-small k)
     there m h t e = (rw e at h, rw e at (lives-right m t))
 
     go : (j : Judge) (next : ℕ) → goes-well j next ≡ true → next < lineCount → judged j next c ≡ To n → (n < lineCount) × Lives n
-    go (keep r) next t h e = there next h t (to (keeps r c) (ruleDetail r) next n e .1)
+    go (keep r) next t h e = there next h t (to (keeps r c) (ruleDetail r c) next n e .1)
     go (choose s) next t h e = by-way (selected s c) refl e
       where
         by-way : (o : Option ℕ) → selected s c ≡ o → (elim o as (λ x. Onward) [ some w ↦ To (line (next + w) .next) | none ↦ Breaks 3 ]) ≡ To n

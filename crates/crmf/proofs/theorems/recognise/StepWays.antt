@@ -130,7 +130,7 @@ module _ (e k whole left id : ℕ) (c : List ℕ) where
 
     module _ (to : next ≡ line k .next) where
       -- what the line's rule says
-      said : (r : Rule) → line k .judge ≡ keep r → (b : Bool) → keeps r c ≡ b → says ≡ elim b [ true ↦ To next | false ↦ Breaks (ruleDetail r) ]
+      said : (r : Rule) → line k .judge ≡ keep r → (b : Bool) → keeps r c ≡ b → says ≡ elim b [ true ↦ To next | false ↦ Breaks (ruleDetail r c) ]
       unfolding judged
       said r is true kept = rw (is, judged, kept, to)
       said r is false kept = rw (is, judged, kept)
@@ -145,8 +145,8 @@ module _ (e k whole left id : ℕ) (c : List ℕ) where
           → VisitJustified e k whole left id c (elim (w && b) [ true ↦ Skip next | false ↦ Refuse ])
       skip-kept r is free true true sound kept = skip-whole (said r is true kept) free true sound
       skip-kept r is free false true fault kept = skip-whole (said r is true kept) free false fault
-      skip-kept r is free true false sound broken = refuse-breaks (ruleDetail r) (said r is false broken)
-      skip-kept r is free false false fault broken = refuse-breaks (ruleDetail r) (said r is false broken)
+      skip-kept r is free true false sound broken = refuse-breaks (ruleDetail r c) (said r is false broken)
+      skip-kept r is free false false fault broken = refuse-breaks (ruleDetail r c) (said r is false broken)
 
       -- any element
       pub skip-any : line k .judge ≡ keep always → eqb (line k .inside) 0 ≡ true → (t : Bool) → isElement id left c ≡ t

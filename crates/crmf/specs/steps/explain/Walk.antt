@@ -61,7 +61,7 @@ ways infoType = 3
 
 -- what is judged after an element's inside: the line to go on with, or the detail of the rule that its value breaks
 unfoldable pub judged : Judge → ℕ → List ℕ → Onward
-judged (keep r) next c = elim (keeps r c) [ true ↦ To next | false ↦ Breaks (ruleDetail r) ]
+judged (keep r) next c = elim (keeps r c) [ true ↦ To next | false ↦ Breaks (ruleDetail r c) ]
 judged (choose s) next c = elim (selected s c) [ present w ↦ To (line (next + w) .next) | absent ↦ Breaks 3 ]
 
 -- how many rows a kind gives: 0 for none, 1 for any other

@@ -1,18 +1,14 @@
 -- `time::time::moment_at` meets its contract: the numbers that it reads are the definition's, and so are its tests. Assumes nothing.
 use Prim.Native.Nat.{_+_, _≤_}
-use mathlib.Core.Bool.{Bool, true, false, _&&_}
-use mathlib.Core.Option.{bind}
+use mathlib.Core.Bool.{true, false, _&&_}
 use mathlib.Core.Path.{_≡_, sym, ap, _∙_}
-use native.Mathlib.Omega.{arith}
 use borrow.Author.Needs.{needs}
-use borrow.Author.Tests.{leb-true}
 use lib.Dec.{leb, eqb}
 use lib.ListN.{getD}
-use Rattle.time.specs.meaning.Calendar.{daysIn, daysBefore, seconds, moment}
+use Rattle.time.specs.meaning.Calendar.{daysBefore, seconds}
 use Rattle.time.specs.meaning.Time.{pairAt, dateAt}
 use Rattle.time.specs.steps.Told.{told}
-use Rattle.time.proofs.theorems.Digits.{both}
-use Rattle.time.proofs.theorems.Dates.{tests, codedDate, date-bounds, moment-tested}
+use Rattle.time.proofs.theorems.Dates.{tests, date-bounds, moment-tested}
 use Rattle.time.proofs.time.moment_at.Statement.{statement}
 use Rattle.time.proofs.time.moment_at.Tie as tie
 

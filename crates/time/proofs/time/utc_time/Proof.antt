@@ -1,11 +1,9 @@
 -- `time::time::utc_time` meets its contract: 13 octets that begin with two digits are judged as the definition does, and all others are refused.
 -- Assumes nothing.
-use mathlib.Core.Option.{bind}
-use mathlib.Core.Path.{_≡_, sym, ap, _∙_}
+use mathlib.Core.Path.{sym, ap, _∙_}
 use native.Mathlib.Omega.{arith}
 use borrow.Author.Needs.{needs}
-use Rattle.time.specs.meaning.Calendar.{moment}
-use Rattle.time.specs.meaning.Time.{pairAt, dateAt}
+use Rattle.time.specs.meaning.Time.{pairAt}
 use Rattle.time.specs.steps.Told.{told}
 use Rattle.time.proofs.theorems.Digits.{pair-most, pair-there, pair-gone}
 use Rattle.time.proofs.theorems.Times.{utc-length, utc-year, utc-no-year}

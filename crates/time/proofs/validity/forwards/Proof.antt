@@ -1,13 +1,12 @@
 -- `time::validity::forwards` meets its contract: notBefore's element ends where its length octet says, and notAfter's comes after it. Assumes nothing.
-use Prim.Native.Nat.{_+_, _-_}
-use mathlib.Core.Path.{_≡_, sym, ap, _∙_}
+use Prim.Native.Nat.{_+_}
+use mathlib.Core.Path.{sym, ap, _∙_}
 use native.Mathlib.Omega.{arith}
 use borrow.Author.Needs.{needs}
-use lib.ListN.{getD, take, drop}
+use lib.ListN.{getD}
 use lib.Seq.{length-take-le}
 use Rattle.der.proofs.Laws.{take-from}
 use Rattle.time.specs.meaning.Validity.{shownMoment}
-use Rattle.time.specs.steps.Told.{told}
 use Rattle.time.proofs.theorems.Telling.{told-at, told-missing}
 use Rattle.time.proofs.theorems.Validities.{forwards-one, forwards-first, forwards-second, forwards-both}
 use Rattle.time.proofs.validity.forwards.Statement.{statement}

@@ -1,5 +1,4 @@
 -- `time::validity::is_short` meets its contract: its tests are the definition's. Assumes nothing.
-use mathlib.Core.Path.{sym}
 use native.Mathlib.Omega.{arith}
 use borrow.Author.Needs.{needs}
 use borrow.Author.Tests.{le-leb, lt-leb}

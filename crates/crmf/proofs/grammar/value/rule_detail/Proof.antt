@@ -17,7 +17,7 @@ returns-2 c x e = rw (same-rule x never (e ∙ c .match .keys2))
 
 returns-3 : tie.Need-returns-3
 unfolding judgeCode
-returns-3 c x e = other-detail x (λ q. c .match .rest .0 .1 (sym e ∙ q)) (λ q. c .match .rest .1 (sym e ∙ q))
+returns-3 c x e = other-detail x _ (λ q. c .match .rest .0 .1 (sym e ∙ q)) (λ q. c .match .rest .1 (sym e ∙ q))
 
 pub rule-detail-spec : {M : Type 1} → statement M
 rule-detail-spec = tie.close (tie.spec returns returns-2 returns-3)
