@@ -13,6 +13,7 @@ pub mod Existing
 pub mod EmptyLists
 pub mod Batches
 pub mod Windows
+pub mod LeafSeconds
 pub mod TableRows
 pub mod WalkSteps
 pub mod Gathering

@@ -9,6 +9,7 @@ use crate::rows::by_position;
 use crate::rows::element;
 use crate::rows::is_child;
 use crate::rows::kind_at;
+use crate::times::seconds_later;
 use crmf::kinds;
 ghost use Prim.Native.Nat.{suc, _+_, _≤_, _<_};
 ghost use mathlib.Core.Path.{_≡_};
@@ -111,7 +112,8 @@ fn both(
         second: at.second + 1,
         count: at.count,
     };
-    if kinds::container(kind_at(one, at.first)) {
+    let kind = kind_at(one, at.first);
+    if kinds::container(kind) {
         let below = Pair {
             first: at.first,
             second: at.second,
@@ -123,7 +125,16 @@ fn both(
     if equal(here, there) {
         return next;
     }
-    put(LEAVES_DIFFER, at.first, at.second, 0, at.count, from, list);
+    let seconds = seconds_later(kind, here, there);
+    put(
+        LEAVES_DIFFER,
+        at.first,
+        at.second,
+        seconds,
+        at.count,
+        from,
+        list,
+    );
     Cursor {
         first: next.first,
         second: next.second,
