@@ -22,3 +22,5 @@ pub mod Comparing
 pub mod Bounded
 pub mod TheList
 pub mod OneAnswer
+pub mod SecondsLater
+pub mod SecondsVectors

@@ -49,7 +49,7 @@ module _ {e : ℕ} {first second : List ℕ} (one one′ : Accepted e first) (tw
       (subst (λ (B : List Row). Changes first second (rowsOf one′) B ds) (same-rows two′ two) y))
 
   -- and the same seconds between their times
-  same-later : laterIn one two ≡ laterIn one′ two′
+  pub same-later : laterIn one two ≡ laterIn one′ two′
   same-later = ap₂ (secondsLater first second) (same-rows one one′) (same-rows two two′)
 
 module _ {e : ℕ} {first second : List ℕ} (octets : Octets first) (more : Octets second) where

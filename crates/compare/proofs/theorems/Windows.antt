@@ -12,7 +12,7 @@ use Rattle.compare.specs.meaning.Changes.{Change, only-first, only-secon
 use Rattle.compare.specs.steps.Lists.{kept, window, Added}
 
 -- an entry has four numbers
-entry-length : (later : Later) (c : Change) → length (entry later c) ≡ entryNumbers
+pub entry-length : (later : Later) (c : Change) → length (entry later c) ≡ entryNumbers
 unfolding entry
 entry-length later (only-first i) = refl
 entry-length later (only-second j) = refl
