@@ -23,6 +23,8 @@ use Rattle.verdict.proofs.verdict.signed_part.Statement as part
 use Rattle.verdict.proofs.verdict.signed_part.Met as part-met
 use Rattle.verdict.proofs.duplicates.search.Statement as search
 use Rattle.verdict.proofs.duplicates.search.Met as search-met
+use Rattle.time.proofs.validity.shown_moment.Statement as shown-moment
+use Rattle.time.proofs.validity.shown_moment.Met as shown-moment-met
 use Rattle.capi.proofs.phagundro_accept.Statement as c-accept
 use Rattle.capi.proofs.phagundro_accept.Met as c-accept-met
 use Rattle.capi.proofs.phagundro_read.Statement as c-read
@@ -43,6 +45,8 @@ use Rattle.capi.proofs.phagundro_verdict_number.Statement as c-number
 use Rattle.capi.proofs.phagundro_verdict_number.Met as c-number-met
 use Rattle.capi.proofs.phagundro_duplicates.Statement as c-duplicates
 use Rattle.capi.proofs.phagundro_duplicates.Met as c-duplicates-met
+use Rattle.capi.proofs.phagundro_moment.Statement as c-moment
+use Rattle.capi.proofs.phagundro_moment.Met as c-moment-met
 
 -- Judging a batch: `editions/src/reader.rt`, by `Answers`.
 pub accepting : {M : Type 1} → accept.statement M
@@ -88,6 +92,10 @@ signed-part = part-met.met
 pub searching : {M : Type 1} → search.statement M
 searching = search-met.met
 
+-- Showing a moment: `time/src/validity.rt`, by `shownMoment`.
+pub showing-moment : {M : Type 1} → shown-moment.statement M
+showing-moment = shown-moment-met.met
+
 -- The same from C: `capi/src/lib.rt`.
 pub c-accepting : {M : Type 1} → c-accept.statement M
 c-accepting = c-accept-met.met
@@ -118,3 +126,6 @@ c-judging-number = c-number-met.met
 
 pub c-searching : {M : Type 1} → c-duplicates.statement M
 c-searching = c-duplicates-met.met
+
+pub c-showing-moment : {M : Type 1} → c-moment.statement M
+c-showing-moment = c-moment-met.met

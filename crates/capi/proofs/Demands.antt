@@ -4,10 +4,11 @@
 -- Demand 1. "Any bytes, table, draft or number may come in, and each call ends with its answer or a numbered refusal and a place. The refusal
 -- is the one that document 01 fixes for that input. A refused call leaves every lent table and output unchanged." One theorem for each call:
 -- those of the crates, and the same calls from C.
-pub use Rattle.capi.proofs.Demand1.{accepting, reading, writing, joining, cutting, comparing, finding-part, handing-part, judging, signed-part, searching}
-pub use Rattle.capi.proofs.Demand1.{c-accepting, c-reading, c-writing, c-joining, c-cutting, c-comparing, c-finding-part, c-judging, c-judging-number, c-searching}
--- The one number of `c-judging-number` is never both: a verdict is at most 7, and a refusal is 256 and more.
-pub use Rattle.capi.proofs.NumberTells.{number-tells}
+pub use Rattle.capi.proofs.Demand1.{accepting, reading, writing, joining, cutting, comparing, finding-part, handing-part, judging, signed-part, searching, showing-moment}
+pub use Rattle.capi.proofs.Demand1.{c-accepting, c-reading, c-writing, c-joining, c-cutting, c-comparing, c-finding-part, c-judging, c-judging-number, c-searching, c-showing-moment}
+-- The one number of `c-judging-number` is never both: a verdict is at most 7, and a refusal is 256 and more. That of `c-showing-moment` is a
+-- moment, or -1.
+pub use Rattle.capi.proofs.NumberTells.{number-tells, moment-tells}
 -- For each input there is exactly one answer, and one table or output afterwards, that the relation of a call allows: the computed ones.
 pub use Rattle.editions.proofs.Laws.{answers-exactly, answers-once, reads-exactly, reads-once}
 pub use Rattle.writer.proofs.Laws.{writes-exactly, writes-once, joins-once, cuts-once}

@@ -1,9 +1,11 @@
--- What the C calls that return one number answer: SPECIFICATION 1 and 7. Assumes nothing.
+-- What the C calls that return one number answer: SPECIFICATION 1, 3.6 and 7. Assumes nothing.
 use Prim.Native.Nat.{ℕ, _+_}
 use mathlib.Core.Path.{_≡_}
 use mathlib.Core.Bool.{true, false}
 use mathlib.Core.List.{List}
+use mathlib.Core.Option.{Option, some, none}
 use lib.Dec.{eqb}
+use lib.IntN.{ℤ, pos, negsuc}
 use Rattle.der.specs.meaning.Refusal.{accepted}
 use Rattle.editions.specs.meaning.Answers.{Answers}
 use Rattle.verdict.specs.meaning.Judges.{Judges}
@@ -31,3 +33,8 @@ pub record JudgesBy (e : ℕ) (s : List ℕ) (position told : ℕ) : Type 0 wher
   pub size : ℕ
   pub answer : Judges e s position number place verdict from size
   pub same : told ≡ oneNumber number verdict
+
+-- "it shall give the moment as whole seconds": the moment that is shown, or -1 if none is
+unfoldable pub momentNumber : Option ℕ → ℤ
+momentNumber (some n) = pos n
+momentNumber none = negsuc 0

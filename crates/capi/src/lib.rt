@@ -4,8 +4,11 @@ use crmf::messages::Position;
 use der::refusal::ACCEPTED;
 use editions::pair::PairAnswer;
 use editions::reader::Answer;
+use time::moment::Moment;
 use verdict::duplicates::Duplicates;
 use verdict::verdict::Verdict;
+ghost use mathlib.Core.Path.{_≡_};
+ghost use Rattle.time.specs.meaning.Validity.{shownMoment};
 ghost use Rattle.editions.specs.meaning.Reads.{Reads};
 ghost use Rattle.writer.specs.meaning.Writes.{Writes};
 ghost use Rattle.writer.specs.meaning.Joins.{Joins};
@@ -14,7 +17,7 @@ ghost use Rattle.verdict.specs.meaning.Judges.{Judges};
 ghost use Rattle.verdict.specs.meaning.Searches.{Searches};
 ghost use Rattle.compare.specs.meaning.Compares.{Compares};
 ghost use Rattle.compare.specs.meaning.Parts.{Finds};
-ghost use Rattle.capi.specs.OneNumber.{AcceptsBy, JudgesBy};
+ghost use Rattle.capi.specs.OneNumber.{AcceptsBy, JudgesBy, momentNumber};
 
 // What is added to a refusal's number if a verdict may come back in the same number. Verdicts are at most 7 (`number-tells`).
 const REFUSED: usize = 256;
@@ -133,4 +136,15 @@ pub extern "C" fn phagundro_compare_part(
     ensures { λ r. ⌜ Finds edition (now (first .entry)) (now (second .entry)) entry (r .number) (r .place) (r .file) (r .from) (r .length) ⌝ }
 {
     compare::part::find_part(edition, first, second, entry)
+}
+
+// Answers the moment that the element of a notBefore or notAfter shows, in whole seconds from 0000-01-01 00:00:00 on; or -1 if it shows none.
+#[no_mangle]
+pub extern "C" fn phagundro_moment(bytes: &[u8]) -> i64
+    ensures { λ r. ⌜ r ≡ momentNumber (shownMoment (now (bytes .entry))) ⌝ }
+{
+    match time::validity::shown_moment(bytes) {
+        Moment::At(seconds) => seconds as i64,
+        Moment::Missing => -1,
+    }
 }

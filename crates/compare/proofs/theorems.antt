@@ -13,6 +13,7 @@ pub mod Existing
 pub mod EmptyLists
 pub mod Batches
 pub mod Windows
+pub mod LeafSeconds
 pub mod TableRows
 pub mod WalkSteps
 pub mod Gathering
@@ -21,3 +22,5 @@ pub mod Comparing
 pub mod Bounded
 pub mod TheList
 pub mod OneAnswer
+pub mod SecondsLater
+pub mod SecondsVectors

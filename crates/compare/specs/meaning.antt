@@ -2,5 +2,6 @@
 -- the two calls.
 pub mod Counterparts
 pub mod Changes
+pub mod Times
 pub mod Compares
 pub mod Parts

@@ -7,3 +7,4 @@ mod octets;
 pub mod part;
 mod rows;
 mod tables;
+mod times;

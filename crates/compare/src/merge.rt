@@ -9,13 +9,14 @@ use crate::rows::by_position;
 use crate::rows::element;
 use crate::rows::is_child;
 use crate::rows::kind_at;
+use crate::times::seconds_later;
 use crmf::kinds;
 ghost use Prim.Native.Nat.{suc, _+_, _≤_, _<_};
 ghost use mathlib.Core.Path.{_≡_};
 ghost use mathlib.Core.Bool.{true, _||_};
 ghost use mathlib.Core.List.{[], _∷_};
 ghost use lib.ListN.{length};
-ghost use Rattle.compare.specs.meaning.Changes.{only-first, only-second};
+ghost use Rattle.compare.specs.meaning.Changes.{Later, only-first, only-second};
 ghost use Rattle.compare.specs.steps.Lists.{Added};
 ghost use Rattle.compare.specs.steps.Tables.{childAt, Ended};
 ghost use Rattle.compare.specs.steps.Walking.{Standing, Facing, Stepped, Gone};
@@ -111,7 +112,8 @@ fn both(
         second: at.second + 1,
         count: at.count,
     };
-    if kinds::container(kind_at(one, at.first)) {
+    let kind = kind_at(one, at.first);
+    if kinds::container(kind) {
         let below = Pair {
             first: at.first,
             second: at.second,
@@ -123,7 +125,16 @@ fn both(
     if equal(here, there) {
         return next;
     }
-    put(LEAVES_DIFFER, at.first, at.second, at.count, from, list);
+    let seconds = seconds_later(kind, here, there);
+    put(
+        LEAVES_DIFFER,
+        at.first,
+        at.second,
+        seconds,
+        at.count,
+        from,
+        list,
+    );
     Cursor {
         first: next.first,
         second: next.second,
@@ -135,9 +146,9 @@ fn both(
 fn pass_first(one: &[usize], at: Cursor, from: usize, list: &mut [i64]) -> Cursor
     requires { ⌜ (at .first < length (now one)) × (length (now one) ≤ 32767) × (at .second ≤ 32767) × (at .count ≤ at .first + at .second) ⌝ }
     ensures { λ r. ⌜ Ended (now (one .entry)) (at .first) (r .first) × (r .second ≡ at .second) × (r .count ≡ suc (at .count))
-        × Added from (at .count) (only-first (at .first) ∷ []) (now (list .entry)) (now (list .exit)) ⌝ }
+        × ((later : Later) → Added later from (at .count) (only-first (at .first) ∷ []) (now (list .entry)) (now (list .exit))) ⌝ }
 {
-    put(ONLY_FIRST, at.first, 0, at.count, from, list);
+    put(ONLY_FIRST, at.first, 0, 0, at.count, from, list);
     Cursor {
         first: after(one, at.first),
         second: at.second,
@@ -149,9 +160,9 @@ fn pass_first(one: &[usize], at: Cursor, from: usize, list: &mut [i64]) -> Curso
 fn pass_second(two: &[usize], at: Cursor, from: usize, list: &mut [i64]) -> Cursor
     requires { ⌜ (at .second < length (now two)) × (length (now two) ≤ 32767) × (at .first ≤ 32767) × (at .count ≤ at .first + at .second) ⌝ }
     ensures { λ r. ⌜ (r .first ≡ at .first) × Ended (now (two .entry)) (at .second) (r .second) × (r .count ≡ suc (at .count))
-        × Added from (at .count) (only-second (at .second) ∷ []) (now (list .entry)) (now (list .exit)) ⌝ }
+        × ((later : Later) → Added later from (at .count) (only-second (at .second) ∷ []) (now (list .entry)) (now (list .exit))) ⌝ }
 {
-    put(ONLY_SECOND, 0, at.second, at.count, from, list);
+    put(ONLY_SECOND, 0, at.second, 0, at.count, from, list);
     Cursor {
         first: at.first,
         second: after(two, at.second),

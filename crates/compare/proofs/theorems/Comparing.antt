@@ -14,12 +14,13 @@ use Rattle.crmf.specs.steps.rows.Fill.{rowsOfInput}
 use Rattle.editions.specs.meaning.TwoBatches.{firstFile, secondFile, neitherFile, Accepted}
 use Rattle.editions.proofs.Laws.{nest-rows}
 use Rattle.compare.specs.declared.found.Found.{Found}
-use Rattle.compare.specs.meaning.Changes.{Change, only-first, only-second, leaves-differ, Changed, in-first, in-second, in-both, Changes, entryNumbers, entries}
-use Rattle.compare.specs.meaning.Compares.{rowsOf, Between, Compares, no-room, listed}
+use Rattle.compare.specs.meaning.Changes.{Change, only-first, only-second, leaves-differ, Changed, in-first, in-second, in-both, Changes, Later, entryNumbers, entries}
+use Rattle.compare.specs.meaning.Compares.{rowsOf, Between, laterIn, Compares, no-room, listed}
+use Rattle.compare.specs.meaning.Times.{secondsLater}
 use Rattle.compare.specs.meaning.Parts.{partFile, partRow, Finds, first-refused, second-refused, past, found}
 use Rattle.compare.specs.steps.Arranged.{Arranged}
 use Rattle.compare.specs.steps.Finding.{Listed, Gathered, gathered}
-use Rattle.compare.specs.steps.Lists.{kept}
+use Rattle.compare.specs.steps.Lists.{kept, laterBetween}
 use Rattle.compare.proofs.theorems.Batches.{in-place}
 use Rattle.compare.proofs.theorems.Gathering.{changeAt, member-at, entry-at, the-entry}
 use Rattle.compare.proofs.theorems.OneCounterpart.{counterpart-there}
@@ -30,6 +31,10 @@ module _ {e : ℕ} {first second : List ℕ} (one : Accepted e first) (two : Acc
   between cs x =
       subst (λ (A : List Row). Changes first second A (rowsOf two) cs) (nest-rows first (one .batch))
       (subst (λ (B : List Row). Changes first second (rowsOfInput first) B cs) (nest-rows second (two .batch)) x)
+
+  -- and so are the seconds between their times
+  same-later : laterBetween first second ≡ laterIn one two
+  same-later = ap₂ (secondsLater first second) (nest-rows first (one .batch)) (nest-rows second (two .batch))
 
   module _ {old new : List ℤ} {r : Found} (g : Gathered first second 0 true old r new) where
     -- without room for all,
@@ -46,11 +51,12 @@ module _ {e : ℕ} {first second : List ℕ} (one : Accepted e first) (two : Acc
     compares-listed room =
         let cs = g .listed in
         let all : kept 0 cs old ≡ cs = take-all (length old / entryNumbers) cs (omega (arith, g .counted)) in
-        let whole : new ≡ entries cs ++ drop (entryNumbers * length cs) old =
+        let whole : new ≡ entries (laterIn one two) cs ++ drop (entryNumbers * length cs) old =
         g .written ∙ rw (gathered, le-leb (entryNumbers * length cs) (length old) (omega (arith, g .counted)))
-        (ap (λ (ds : List Change). entries ds ++ drop (entryNumbers * length ds) old) all) in
+        (ap (λ (ds : List Change). entries (laterBetween first second) ds ++ drop (entryNumbers * length ds) old) all)
+        ∙ ap (λ (later : Later). entries later cs ++ drop (entryNumbers * length cs) old) same-later in
         subst (Compares e first second old accepted 0 neitherFile (r .count)) (sym whole)
-        (subst (λ (n : ℕ). Compares e first second old accepted 0 neitherFile n (entries cs ++ drop (entryNumbers * length cs) old)) (sym (g .counted))
+        (subst (λ (n : ℕ). Compares e first second old accepted 0 neitherFile n (entries (laterIn one two) cs ++ drop (entryNumbers * length cs) old)) (sym (g .counted))
         (listed one two cs (between cs (g .changes)) (omega (arith, g .counted))))
 
   module _ {n : ℕ} {old new : List ℤ} {r : Found} (g : Gathered first second n false old r new) where

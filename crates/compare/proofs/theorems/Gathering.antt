@@ -13,10 +13,10 @@ use Rattle.crmf.specs.steps.rows.Fill.{rowsOfInput}
 use Rattle.crmf.specs.steps.rows.Packing.{firstOf, wholeOf}
 use Rattle.compare.specs.declared.found.Found.{Found}
 use Rattle.compare.specs.declared.merge.Cursor.{Cursor}
-use Rattle.compare.specs.meaning.Changes.{Change, only-first, only-second, leaves-differ, entryNumbers, entry, entries, Changed, in-first, in-second, in-both}
+use Rattle.compare.specs.meaning.Changes.{Change, only-first, only-second, leaves-differ, Later, entryNumbers, entry, entries, Changed, in-first, in-second, in-both}
 use Rattle.compare.specs.meaning.Parts.{partFile}
 use Rattle.compare.specs.steps.Finding.{Counted, Gathered, gathered, PartFound, InTables, Begins, rowOf}
-use Rattle.compare.specs.steps.Lists.{kept, window}
+use Rattle.compare.specs.steps.Lists.{kept, window, laterBetween}
 use Rattle.compare.specs.steps.Tables.{Tabled}
 use Rattle.compare.specs.steps.Walking.{Gone}
 use Rattle.compare.proofs.theorems.Existing.{merged-changes}
@@ -24,11 +24,11 @@ use Rattle.compare.proofs.theorems.OneCounterpart.{counterpart-there}
 use Rattle.compare.proofs.theorems.OneList.{changes-once}
 
 -- a list stays if there are no entries from its first on
-pub window-beyond : (from : ℕ) (cs : List Change) (old : List ℤ) → length cs ≤ from → window from cs old ≡ old
+pub window-beyond : (later : Later) (from : ℕ) (cs : List Change) (old : List ℤ) → length cs ≤ from → window later from cs old ≡ old
 unfolding entries
-window-beyond from cs old few =
-    ap (λ (ds : List Change). entries (take (length old / entryNumbers) ds) ++ drop (entryNumbers * length (take (length old / entryNumbers) ds)) old) (drop-of-length-le cs {i = from} few)
-    ∙ ap (λ (ds : List Change). entries ds ++ drop (entryNumbers * length ds) old) (take-nil (length old / entryNumbers))
+window-beyond later from cs old few =
+    ap (λ (ds : List Change). entries later (take (length old / entryNumbers) ds) ++ drop (entryNumbers * length (take (length old / entryNumbers) ds)) old) (drop-of-length-le cs {i = from} few)
+    ∙ ap (λ (ds : List Change). entries later ds ++ drop (entryNumbers * length ds) old) (take-nil (length old / entryNumbers))
 
 -- what an answer of a count alone is
 abbrev countOnly : ℕ → Found
@@ -43,7 +43,7 @@ module _ {s t one two : List ℕ} (x : Tabled s one) (y : Tabled t two) where
         listed = gone .listed;
         changes = merged-changes (x .arranged) (y .arranged) (gone .merge);
         counted = omega (arith, gone .counted);
-        written = gone .added [] old refl (sym (window-beyond from [] old (omega arith)));
+        written = gone .added [] old refl (sym (window-beyond (laterBetween s t) from [] old (omega arith)));
         few = omega (arith, gone .few, gone .in-first, gone .in-second);
       }
 
@@ -110,15 +110,16 @@ the-entry (d ∷ cs) zero c is = (omega arith, Option·some-injective d c is)
 the-entry (d ∷ cs) (suc n) c is = let more = the-entry cs n c is in (omega (arith, more .0), more .1)
 
 -- and a list with room for it alone has it alone
-alone-listed : (from : ℕ) (cs : List Change) (old : List ℤ) → from < length cs → length old ≡ entryNumbers → window from cs old ≡ entry (changeAt cs from)
+alone-listed : (later : Later) (from : ℕ) (cs : List Change) (old : List ℤ) → from < length cs → length old ≡ entryNumbers
+    → window later from cs old ≡ entry later (changeAt cs from)
 unfolding entries
-alone-listed from cs old there room =
+alone-listed later from cs old there room =
     let one : length old / entryNumbers ≡ 1 = omega arith in
     let c = changeAt cs from in
     let first : kept from cs old ≡ c ∷ [] =
     ap₂ (λ (n : ℕ) (ds : List Change). take n ds) one (drop-cons cs from no-change there) ∙ ap (λ (ds : List Change). c ∷ ds) refl in
-    ap (λ (ds : List Change). entries ds ++ drop (entryNumbers * length ds) old) first
-    ∙ ap₂ (λ (l r : List ℤ). l ++ r) (append-nil (entry c)) (drop-of-length-le old {i = 3} (omega arith)) ∙ append-nil (entry c)
+    ap (λ (ds : List Change). entries later ds ++ drop (entryNumbers * length ds) old) first
+    ∙ ap₂ (λ (l r : List ℤ). l ++ r) (append-nil (entry later c)) (drop-of-length-le old {i = entryNumbers} (omega arith)) ∙ append-nil (entry later c)
 
 module _ {s t : List ℕ} {old new : List ℤ} {count : ℕ} where
   -- all are listed if there is room for them,
@@ -142,7 +143,7 @@ module _ {s t : List ℕ} {old new : List ℤ} {count : ℕ} where
         listed = c .listed;
         changes = c .changes;
         counted = ap (λ (f : Found). f .count) is ∙ c .counted;
-        written = c .written ∙ window-beyond beyond (c .listed) old (omega (arith, c .counted))
+        written = c .written ∙ window-beyond (laterBetween s t) beyond (c .listed) old (omega (arith, c .counted))
             ∙ sym (rw (gathered, lt-leb (entryNumbers * length (c .listed)) (length old) (omega (arith, c .counted))));
         part = λ e. absurd (false≢true (sym e));
       }
@@ -151,7 +152,7 @@ module _ {s t : List ℕ} {old new : List ℤ} {count : ℕ} where
   pub listed-again : {mid : List ℤ} {n : ℕ} (beyond : ℕ) → Counted s t beyond old n mid → n ≤ beyond → entryNumbers * n ≤ length old
       → Counted s t 0 mid count new → {r : Found} → r ≡ countOnly count → Gathered s t 0 true old r new
   listed-again {mid} beyond first few room again is =
-      let stays : mid ≡ old = first .written ∙ window-beyond beyond (first .listed) old (omega (arith, first .counted)) in
+      let stays : mid ≡ old = first .written ∙ window-beyond (laterBetween s t) beyond (first .listed) old (omega (arith, first .counted)) in
       let as-many = ap length (changes-once (again .changes) (first .changes)) in
       all-listed (subst (λ (l : List ℤ). Counted s t 0 l count new) stays again) (omega (arith, first .counted, again .counted, as-many)) is
 
@@ -176,19 +177,19 @@ module _ {s t one two : List ℕ} (x : Tabled s one) (y : Tabled t two) {old new
   rows-there : InTables one two (changeAt (c .listed) from)
   rows-there = in-tables x y (changeAt (c .listed) from) (c .changes .only (changeAt (c .listed) from) (member-at (c .listed) from entry-there))
 
-  its-numbers : new ≡ entry (changeAt (c .listed) from)
-  its-numbers = c .written ∙ alone-listed from (c .listed) old entry-there room
+  its-numbers : new ≡ entry (laterBetween s t) (changeAt (c .listed) from)
+  its-numbers = c .written ∙ alone-listed (laterBetween s t) from (c .listed) old entry-there room
 
   pub begins : Begins one two new
-  begins = record { change = changeAt (c .listed) from; numbers = its-numbers; within = rows-there; few = (x .few, y .few) }
+  begins = record { change = changeAt (c .listed) from; later = laterBetween s t; numbers = its-numbers; within = rows-there; few = (x .few, y .few) }
 
   -- and its part is found.
   pub one-found : {r : Found}
-      → ((d : Change) → new ≡ entry d → r ≡ record { count = count; file = partFile d; from = firstOf (rowOf one two d); length = wholeOf (rowOf one two d) })
+      → ((later : Later) (d : Change) → new ≡ entry later d → r ≡ record { count = count; file = partFile d; from = firstOf (rowOf one two d); length = wholeOf (rowOf one two d) })
       → Gathered s t from false old r new
   unfolding gathered
   one-found {r} spoken =
-      let is = spoken (changeAt (c .listed) from) its-numbers in
+      let is = spoken (laterBetween s t) (changeAt (c .listed) from) its-numbers in
       record {
         listed = c .listed;
         changes = c .changes;

@@ -12,8 +12,9 @@ use Rattle.der.specs.meaning.Refusal.{accepted}
 use Rattle.crmf.specs.meaning.Rows.{Row}
 use Rattle.editions.specs.meaning.TwoBatches.{Accepted}
 use Rattle.editions.proofs.Laws.{answers-once, not-refused, nest-rows}
-use Rattle.compare.specs.meaning.Changes.{Change, Changes, entryNumbers, entries}
-use Rattle.compare.specs.meaning.Compares.{rowsOf, Between, Compares, first-refused, second-refused, no-room, listed}
+use Rattle.compare.specs.meaning.Changes.{Change, Changes, Later, entryNumbers, entries}
+use Rattle.compare.specs.meaning.Compares.{rowsOf, Between, laterIn, Compares, first-refused, second-refused, no-room, listed}
+use Rattle.compare.specs.meaning.Times.{secondsLater}
 use Rattle.compare.specs.meaning.Parts.{partFile, partRow, Finds, past, found}
 use Rattle.compare.specs.meaning.Parts as parts
 use Rattle.compare.proofs.theorems.Gathering.{the-entry}
@@ -47,6 +48,10 @@ module _ {e : ℕ} {first second : List ℕ} (one one′ : Accepted e first) (tw
       (subst (λ (A : List Row). Changes first second A (rowsOf two) ds) (same-rows one′ one)
       (subst (λ (B : List Row). Changes first second (rowsOf one′) B ds) (same-rows two′ two) y))
 
+  -- and the same seconds between their times
+  pub same-later : laterIn one two ≡ laterIn one′ two′
+  same-later = ap₂ (secondsLater first second) (same-rows one one′) (same-rows two two′)
+
 module _ {e : ℕ} {first second : List ℕ} (octets : Octets first) (more : Octets second) where
   -- Comparing has one answer and one list.
   pub compares-once : {old : List ℤ} {n p f c n′ p′ f′ c′ : ℕ} {new new′ : List ℤ} → Compares e first second old n p f c new
@@ -78,7 +83,7 @@ module _ {e : ℕ} {first second : List ℕ} (octets : Octets first) (more : Oct
         place = refl;
         file = refl;
         count = ap length same;
-        output = ap (λ (z : List Change). entries z ++ drop (entryNumbers * length z) old) same;
+        output = ap₂ (λ (later : Later) (z : List Change). entries later z ++ drop (entryNumbers * length z) old) (same-later one one′ two two′) same;
       }
 
   -- Finding a part has one answer.

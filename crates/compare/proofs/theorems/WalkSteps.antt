@@ -12,8 +12,8 @@ use Rattle.crmf.specs.steps.rows.Fill.{rowsOfInput}
 use Rattle.compare.specs.declared.merge.Cursor.{Cursor}
 use Rattle.compare.specs.declared.merge.Pair.{Pair}
 use Rattle.compare.specs.meaning.Counterparts.{rowAt, Child, byPosition, matchKind}
-use Rattle.compare.specs.meaning.Changes.{Change, only-first, only-second, leaves-differ, rowOctets}
-use Rattle.compare.specs.steps.Lists.{Added}
+use Rattle.compare.specs.meaning.Changes.{Change, only-first, only-second, leaves-differ, Later, rowOctets}
+use Rattle.compare.specs.steps.Lists.{Added, laterBetween}
 use Rattle.compare.specs.steps.Merging.{over, first, second, unlike, same, differing, within}
 use Rattle.compare.specs.steps.Tables.{childAt, Ended}
 use Rattle.compare.specs.steps.Walking.{Merging, Standing, Went, Stepped, Gone, Facing}
@@ -88,7 +88,7 @@ module _ {s t one two : List ℕ} {above : Pair} {at : Cursor} (x : Standing s t
     -- a row of the first is passed alone,
     pub step-first : Child A (above .first) (at .first) → (Child B (above .second) (at .second) → matchKind A (at .first) < matchKind B (at .second))
         → Ended one (at .first) (r .first) → r .second ≡ at .second → r .count ≡ suc (at .count)
-        → Added from (at .count) (only-first (at .first) ∷ []) old new → Stepped s t above at from old r new
+        → ((later : Later) → Added later from (at .count) (only-first (at .first) ∷ []) old new) → Stepped s t above at from old r new
     step-first c before ended stays counts added =
         let n = table-next (x .first) ended in
         record {
@@ -96,7 +96,7 @@ module _ {s t one two : List ℕ} {above : Pair} {at : Cursor} (x : Standing s t
             listed = only-first (at .first) ∷ [];
             goes = λ cs k l more. first c before n (subst (λ (j : ℕ). Merging s t (above .first) (above .second) (r .first) j cs k l) stays more);
             counted = omega (arith, counts);
-            added = added;
+            added = added (laterBetween s t);
             on-first = omega (arith, n .past);
             on-second = omega (arith, stays);
             in-first = n .there;
@@ -109,7 +109,7 @@ module _ {s t one two : List ℕ} {above : Pair} {at : Cursor} (x : Standing s t
     -- one of the second,
     pub step-second : Child B (above .second) (at .second) → (Child A (above .first) (at .first) → matchKind B (at .second) < matchKind A (at .first))
         → r .first ≡ at .first → Ended two (at .second) (r .second) → r .count ≡ suc (at .count)
-        → Added from (at .count) (only-second (at .second) ∷ []) old new → Stepped s t above at from old r new
+        → ((later : Later) → Added later from (at .count) (only-second (at .second) ∷ []) old new) → Stepped s t above at from old r new
     step-second c before stays ended counts added =
         let n = table-next (x .second) ended in
         record {
@@ -117,7 +117,7 @@ module _ {s t one two : List ℕ} {above : Pair} {at : Cursor} (x : Standing s t
             listed = only-second (at .second) ∷ [];
             goes = λ cs k l more. second c before n (subst (λ (i : ℕ). Merging s t (above .first) (above .second) i (r .second) cs k l) stays more);
             counted = omega (arith, counts);
-            added = added;
+            added = added (laterBetween s t);
             on-first = omega (arith, stays);
             on-second = omega (arith, n .past);
             in-first = omega (arith, stays, x .in-first, x .first .sized);
@@ -131,21 +131,21 @@ module _ {s t one two : List ℕ} {above : Pair} {at : Cursor} (x : Standing s t
     pub step-unlike : {half : Cursor} {mid : List ℤ} → Child A (above .first) (at .first) → Child B (above .second) (at .second)
         → matchKind A (at .first) ≡ matchKind B (at .second) → (rowAt A (at .first) .kind ≡ rowAt B (at .second) .kind → ⊥)
         → Ended one (at .first) (half .first) → half .second ≡ at .second → half .count ≡ suc (at .count)
-        → Added from (at .count) (only-first (at .first) ∷ []) old mid
+        → ((later : Later) → Added later from (at .count) (only-first (at .first) ∷ []) old mid)
         → r .first ≡ half .first → Ended two (half .second) (r .second) → r .count ≡ suc (half .count)
-        → Added from (half .count) (only-second (half .second) ∷ []) mid new → Stepped s t above at from old r new
+        → ((later : Later) → Added later from (half .count) (only-second (half .second) ∷ []) mid new) → Stepped s t above at from old r new
     step-unlike {half} {mid} c d matched kinds ended stays counts added keeps ends more-counts more-added =
         let u = table-next (x .first) (subst (Ended one (at .first)) (sym keeps) ended) in
         let v = table-next (x .second) (subst (λ (j : ℕ). Ended two j (r .second)) stays ends) in
-        let half-added : Added from (at .count + 1) (only-second (at .second) ∷ []) mid new =
-        subst (λ (n : ℕ). Added from n (only-second (at .second) ∷ []) mid new) (omega (arith, counts))
-        (subst (λ (j : ℕ). Added from (half .count) (only-second j ∷ []) mid new) stays more-added) in
+        let half-added : Added (laterBetween s t) from (at .count + 1) (only-second (at .second) ∷ []) mid new =
+        subst (λ (n : ℕ). Added (laterBetween s t) from n (only-second (at .second) ∷ []) mid new) (omega (arith, counts))
+        (subst (λ (j : ℕ). Added (laterBetween s t) from (half .count) (only-second j ∷ []) mid new) stays (more-added (laterBetween s t))) in
         record {
           went = record {
             listed = only-first (at .first) ∷ only-second (at .second) ∷ [];
             goes = λ cs k l more. unlike c d matched kinds u v more;
             counted = omega (arith, counts, more-counts);
-            added = added-two from (at .count) (only-first (at .first) ∷ []) (only-second (at .second) ∷ []) old mid new added half-added;
+            added = added-two (laterBetween s t) from (at .count) (only-first (at .first) ∷ []) (only-second (at .second) ∷ []) old mid new (added (laterBetween s t)) half-added;
             on-first = omega (arith, u .past);
             on-second = omega (arith, v .past);
             in-first = u .there;
@@ -165,7 +165,7 @@ module _ {s t one two : List ℕ} {above : Pair} {at : Cursor} (x : Standing s t
               listed = [];
               goes = λ cs k l more. same e leaf octets (next-rows i j more);
               counted = omega (arith, counts);
-              added = subst (Added from (at .count) [] old) kept (added-none from (at .count) old);
+              added = subst (Added (laterBetween s t) from (at .count) [] old) kept (added-none (laterBetween s t) from (at .count) old);
               on-first = omega (arith, i);
               on-second = omega (arith, j);
               in-first = omega (arith, i, e .one .there);
@@ -178,7 +178,7 @@ module _ {s t one two : List ℕ} {above : Pair} {at : Cursor} (x : Standing s t
       -- or of others,
       pub step-differing : container (rowAt A (at .first) .kind) ≡ false → (rowOctets s (rowAt A (at .first)) ≡ rowOctets t (rowAt B (at .second)) → ⊥)
           → r .first ≡ at .first + 1 → r .second ≡ at .second + 1 → r .count ≡ suc (at .count)
-          → Added from (at .count) (leaves-differ (at .first) (at .second) ∷ []) old new → Stepped s t above at from old r new
+          → Added (laterBetween s t) from (at .count) (leaves-differ (at .first) (at .second) ∷ []) old new → Stepped s t above at from old r new
       step-differing leaf octets i j counts added =
           record {
             went = record {
@@ -204,7 +204,7 @@ module _ {s t one two : List ℕ} {above : Pair} {at : Cursor} (x : Standing s t
               listed = gone .listed;
               goes = λ cs k l more. within e box (next-rows i j (gone .merge)) more;
               counted = gone .counted ∙ ap (λ (n : ℕ). n + length (gone .listed)) counts;
-              added = subst (λ (n : ℕ). Added from n (gone .listed) old new) counts (gone .added);
+              added = subst (λ (n : ℕ). Added (laterBetween s t) from n (gone .listed) old new) counts (gone .added);
               on-first = omega (arith, i, gone .on-first);
               on-second = omega (arith, j, gone .on-second);
               in-first = gone .in-first;
@@ -217,12 +217,12 @@ module _ {s t one two : List ℕ} {above : Pair} {at : Cursor} (x : Standing s t
 -- a walk that goes nowhere
 pub went-none : {s t one two : List ℕ} {above : Pair} {at : Cursor} → Standing s t one two above at → (from : ℕ) (list : List ℤ)
     → Went s t above at from list at list
-went-none {at = at} x from list =
+went-none {s} {t} {at = at} x from list =
     record {
       listed = [];
       goes = λ cs k l more. more;
       counted = omega arith;
-      added = added-none from (at .count) list;
+      added = added-none (laterBetween s t) from (at .count) list;
       on-first = omega arith;
       on-second = omega arith;
       in-first = omega (arith, x .in-first, x .first .sized);
@@ -255,8 +255,8 @@ module _ {s t : List ℕ} {above : Pair} {start at : Cursor} {from : ℕ} {old m
             subst (λ (ds : List Change). Merging s t (above .first) (above .second) (start .first) (start .second) ds k l)
             (sym (append-assoc (w .listed) (v .listed) cs)) (w .goes (v .listed ++ cs) k l (v .goes cs k l more));
         counted = omega (arith, v .counted, w .counted, length-append (w .listed) (v .listed));
-        added = added-two from (start .count) (w .listed) (v .listed) old mid new (w .added)
-            (subst (λ (n : ℕ). Added from n (v .listed) mid new) (w .counted) (v .added));
+        added = added-two (laterBetween s t) from (start .count) (w .listed) (v .listed) old mid new (w .added)
+            (subst (λ (n : ℕ). Added (laterBetween s t) from n (v .listed) mid new) (w .counted) (v .added));
         on-first = omega (arith, w .on-first, v .on-first);
         on-second = omega (arith, w .on-second, v .on-second);
         in-first = v .in-first;

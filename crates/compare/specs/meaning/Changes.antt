@@ -1,5 +1,5 @@
--- The list of changes between two batches: document 02's request A5, SPECIFICATION 11. What an entry is, in what order entries stand, and that the
--- list has all of them and no others. Assumes nothing.
+-- The list of changes between two batches: document 02's requests A5 and A12, SPECIFICATION 11. What an entry is, in what order entries stand, and
+-- that the list has all of them and no others. Assumes nothing.
 use Prim.Native.Nat.{ℕ, _+_, _<_}
 use mathlib.Core.Path.{_≡_}
 use mathlib.Core.Logic.{_⊎_}
@@ -18,18 +18,23 @@ pub data Change : Type 0 where
 
 -- how many numbers an entry has
 abbrev pub entryNumbers : ℕ
-entryNumbers = 3
+entryNumbers = 4
 
--- "Each is three numbers: 1 only in the first, 2 only in the second .. or 3 leaf bytes differ, then its row in either file, 0 where none."
-unfoldable pub entry : Change → List ℤ
-entry (only-first i) = pos 1 ∷ pos i ∷ pos 0 ∷ []
-entry (only-second j) = pos 2 ∷ pos 0 ∷ pos j ∷ []
-entry (leaves-differ i j) = pos 3 ∷ pos i ∷ pos j ∷ []
+-- how many seconds later the second of two leaves is than the first, by their rows: 0 if they are no times (`secondsLater`)
+abbrev pub Later : Type 0
+Later = ℕ → ℕ → ℤ
+
+-- "Each is three numbers: 1 only in the first, 2 only in the second .. or 3 leaf bytes differ, then its row in either file, 0 where none." Request
+-- A12: "a signed fourth number: for two times that differ, second less first in seconds, else 0".
+unfoldable pub entry : Later → Change → List ℤ
+entry later (only-first i) = pos 1 ∷ pos i ∷ pos 0 ∷ pos 0 ∷ []
+entry later (only-second j) = pos 2 ∷ pos 0 ∷ pos j ∷ pos 0 ∷ []
+entry later (leaves-differ i j) = pos 3 ∷ pos i ∷ pos j ∷ later i j ∷ []
 
 -- the numbers of a list of entries, one after the other
-unfoldable pub entries : List Change → List ℤ
-entries [] = []
-entries (c ∷ cs) = entry c ++ entries cs
+unfoldable pub entries : Later → List Change → List ℤ
+entries later [] = []
+entries later (c ∷ cs) = entry later c ++ entries later cs
 
 -- the octets of a row's element
 abbrev pub rowOctets : List ℕ → Row → List ℕ

@@ -9,7 +9,7 @@ use Rattle.compare.specs.declared.merge.Cursor.{Cursor}
 use Rattle.compare.specs.declared.merge.Pair.{Pair}
 use Rattle.compare.specs.meaning.Counterparts.{rowAt}
 use Rattle.compare.specs.meaning.Changes.{Change}
-use Rattle.compare.specs.steps.Lists.{Added}
+use Rattle.compare.specs.steps.Lists.{Added, laterBetween}
 use Rattle.compare.specs.steps.Merging.{Alike, Merge}
 use Rattle.compare.specs.steps.Tables.{Tabled}
 
@@ -34,7 +34,7 @@ pub record Went (s t : List ℕ) (above : Pair) (at : Cursor) (from : ℕ) (old 
   pub goes : (cs : List Change) (k l : ℕ) → Merging s t (above .first) (above .second) (r .first) (r .second) cs k l
       → Merging s t (above .first) (above .second) (at .first) (at .second) (listed ++ cs) k l
   pub counted : r .count ≡ at .count + length listed
-  pub added : Added from (at .count) listed old new
+  pub added : Added (laterBetween s t) from (at .count) listed old new
   pub on-first : at .first ≤ r .first
   pub on-second : at .second ≤ r .second
   pub in-first : r .first ≤ length (rowsOfInput s)
@@ -51,7 +51,7 @@ pub record Gone (s t : List ℕ) (above : Pair) (at : Cursor) (from : ℕ) (old 
   pub listed : List Change
   pub merge : Merging s t (above .first) (above .second) (at .first) (at .second) listed (r .first) (r .second)
   pub counted : r .count ≡ at .count + length listed
-  pub added : Added from (at .count) listed old new
+  pub added : Added (laterBetween s t) from (at .count) listed old new
   pub on-first : at .first ≤ r .first
   pub on-second : at .second ≤ r .second
   pub in-first : r .first ≤ length (rowsOfInput s)

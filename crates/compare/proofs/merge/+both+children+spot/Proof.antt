@@ -5,20 +5,25 @@ use native.Mathlib.Decide.{decLe}
 use native.Mathlib.Omega.{arith}
 use mathlib.Core.Path.{_≡_, refl, sym, ap, ap₂, subst, _∙_}
 use mathlib.Core.Bool.{Bool, true, false, _||_, false≢true}
-use mathlib.Core.List.{List}
+use mathlib.Core.List.{List, [], _∷_}
+use lib.IntN.{ℤ, pos}
 use lib.ListN.{length}
 use lib.Seq.{slice}
 use denote.Ref.{now}
 use borrow.Author.Needs.{needs}
 use borrow.Author.Tests.{not-true, not-false}
 use borrow.Fn.Kinds.{In}
+use mir.Facts.{toZ-ofZ}
+use mir.Syntax.{w64}
+use mir.Val.{toZ, ofZ}
 use borrow.Fn.PlainCycle.{Measures, is, falls, and}
 use Rattle.crmf.specs.meaning.Rows.{container}
 use Rattle.crmf.specs.steps.rows.Fill.{rowsOfInput}
 use Rattle.compare.specs.declared.merge.Cursor.{Cursor}
 use Rattle.compare.specs.meaning.Counterparts.{rowAt, Child, byPosition}
 use Rattle.compare.specs.meaning.Changes.{rowOctets, leaves-differ, entry}
-use Rattle.compare.specs.steps.Lists.{Tells}
+use Rattle.compare.specs.meaning.Times.{leafSeconds}
+use Rattle.compare.specs.steps.Lists.{Tells, laterBetween}
 use Rattle.compare.specs.steps.Tables.{childAt}
 use Rattle.compare.specs.steps.Walking.{Standing, Went}
 use Rattle.compare.proofs.theorems.TableRows.{table-no-child, table-next}
@@ -40,6 +45,7 @@ use Rattle.compare.proofs.rows.by_position.Reads as by-position-reads
 use Rattle.compare.proofs.rows.element.Reads as element-reads
 use Rattle.compare.proofs.rows.is_child.Reads as is-child-reads
 use Rattle.compare.proofs.rows.kind_at.Reads as kind-at-reads
+use Rattle.compare.proofs.times.seconds_later.Reads as seconds-later-reads
 use Rattle.crmf.proofs.kinds.container.Reads as container-reads
 use Rattle.compare.proofs.merge.+both+children+spot.{statement}
 use Rattle.compare.proofs.merge.+both+children+spot.Tie.{close}
@@ -104,7 +110,7 @@ module _ (t : ℕ) where
 
   -- what `both` knows of the functions that it calls
   abbrev both-calls : both-lts.Claims
-  both-calls = (kind-at-reads.Asked, kind-at-reads.Learnt, container-reads.Asked, container-reads.Learnt, children-below, children.Post, element-reads.Asked, element-reads.Learnt, equal-reads.Asked, equal-reads.Learnt, put-reads.Asked, put-reads.Learnt)
+  both-calls = (kind-at-reads.Asked, kind-at-reads.Learnt, container-reads.Asked, container-reads.Learnt, children-below, children.Post, element-reads.Asked, element-reads.Learnt, equal-reads.Asked, equal-reads.Learnt, seconds-later-reads.Asked, seconds-later-reads.Learnt, put-reads.Asked, put-reads.Learnt)
 
   -- what `spot` knows of the functions that it calls
   abbrev spot-calls : spot-lts.Claims
@@ -124,11 +130,11 @@ module _ (t : ℕ) where
         let e = c .pre .1 .1 in
         (omega (arith, e .one .there, standing-of .first .sized), omega (arith, e .two .there, standing-of .second .sized))
 
-  both-add-container : both-lts.Need-add-container both-calls both-at both.Post
-  both-add-container c = search needs
+  both-add-t15 : both-lts.Need-add-t15 both-calls both-at both.Post
+  both-add-t15 c = search needs
 
-  both-add-t14 : both-lts.Need-add-t14 both-calls both-at both.Post
-  both-add-t14 c = search needs
+  both-add-t16 : both-lts.Need-add-t16 both-calls both-at both.Post
+  both-add-t16 c = search needs
 
   both-kind-at-requires : both-lts.Need-kind-at-requires both-calls both-at both.Post
   both-kind-at-requires c κs = facing-of (c .before .before .before .before .before .before) .0
@@ -147,12 +153,15 @@ module _ (t : ℕ) where
   both-same-length c = search needs
 
   module _ (c : both-lts.After-container both-calls both-at both.Post) where
-    -- the kind that is asked for is the next row's
-    kind-of-next : (let a = c .before .before .before .before .before .before .before .before .args in c .container .result ≡ container (rowAt (rowsOfInput (a .first .now)) (a .at .first) .kind))
-    kind-of-next =
+    -- the kind that is read is the next row's,
+    kind-read : (let a = c .before .before .before .before .before .before .before .before .args in c .before .kind-at .result ≡ rowAt (rowsOfInput (a .first .now)) (a .at .first) .kind)
+    kind-read =
         let start = c .before .before .before .before .before .before .before .before in
-        let a = start .args in
-        c .container .ensures ∙ ap container (c .before .kind-at .ensures ∙ standing-of start .first .kinds (a .at .first) (facing-of start .0))
+        c .before .kind-at .ensures ∙ standing-of start .first .kinds (start .args .at .first) (facing-of start .0)
+
+    -- and is asked for
+    kind-of-next : (let a = c .before .before .before .before .before .before .before .before .args in c .container .result ≡ container (rowAt (rowsOfInput (a .first .now)) (a .at .first) .kind))
+    kind-of-next = c .container .ensures ∙ ap container kind-read
 
   both-returns : both-lts.Need-returns both-calls both-at both.Post
   both-returns c =
@@ -190,17 +199,26 @@ module _ (t : ℕ) where
     abbrev yours : List ℕ
     yours = rowOctets (entered .args .second .now) (rowAt (rowsOfInput (entered .args .second .now)) (entered .args .at .second))
 
-    -- which are compared
-    octets-told : Tells (c .equal .result) mine yours
-    octets-told =
+    -- as they are lent,
+    mine-lent : c .before .before .element .result .now ≡ mine
+    mine-lent =
         let start = entered in
         let i = entered .args .at .first in
+        let x = standing-of start .first in
+        let there = facing-of start .0 in
+        c .before .before .element .ensures ∙ ap₂ (λ (f w : ℕ). slice f (f + w) (entered .args .first .now)) (x .firsts i there) (x .wholes i there)
+
+    yours-lent : c .before .element2 .result .now ≡ yours
+    yours-lent =
+        let start = entered in
         let j = entered .args .at .second in
-        let x = standing-of start in
-        let there = facing-of start in
-        let here = c .before .before .element .ensures ∙ ap₂ (λ (f w : ℕ). slice f (f + w) (entered .args .first .now)) (x .first .firsts i (there .0)) (x .first .wholes i (there .0)) in
-        let other = c .before .element2 .ensures ∙ ap₂ (λ (f w : ℕ). slice f (f + w) (entered .args .second .now)) (x .second .firsts j (there .1)) (x .second .wholes j (there .1)) in
-        subst (λ (l : List ℕ). Tells (c .equal .result) l yours) here (subst (Tells (c .equal .result) _) other (c .equal .ensures))
+        let x = standing-of start .second in
+        let there = facing-of start .1 in
+        c .before .element2 .ensures ∙ ap₂ (λ (f w : ℕ). slice f (f + w) (entered .args .second .now)) (x .firsts j there) (x .wholes j there)
+
+    -- which are compared
+    octets-told : Tells (c .equal .result) mine yours
+    octets-told = subst (λ (l : List ℕ). Tells (c .equal .result) l yours) mine-lent (subst (Tells (c .equal .result) _) yours-lent (c .equal .ensures))
 
     told-same : c .equal .result ≡ true → mine ≡ yours
     told-same e = subst (λ (b : Bool). Tells b mine yours) e octets-told
@@ -214,16 +232,29 @@ module _ (t : ℕ) where
       step-same (standing-of start) (start .pre .1 .1) (sym (kind-of-next (c .before .before .before .before .before)) ∙ c .before .before .before .before .if1 .left)
       (told-same (c .before) (c .if2 .taken)) refl refl refl refl
 
+  both-seconds-later-requires : both-lts.Need-seconds-later-requires both-calls both-at both.Post
+  both-seconds-later-requires c κs = search needs
+
+  -- the seconds that are told are the next rows'
+  seconds-told : (c : both-lts.After-seconds-later both-calls both-at both.Post) → (let a = entered (c .before .before) .args in laterBetween (a .first .now) (a .second .now) (a .at .first) (a .at .second) ≡ toZ w64 (ofZ w64 (c .seconds-later .result)))
+  seconds-told c =
+      let compared = c .before .before in
+      sym
+      (toZ-ofZ {w = w64} (record { sfits = c .seconds-later .ok })
+      ∙ c .seconds-later .ensures
+      ∙ ap₂ (leafSeconds _) (mine-lent compared) (yours-lent compared)
+      ∙ ap (λ (kind : ℕ). leafSeconds kind (mine compared) (yours compared)) (kind-read (compared .before .before .before .before)))
+
   both-put-requires : both-lts.Need-put-requires both-calls both-at both.Post
   both-put-requires c κs =
-      let start = c .before .before .before .before .before .before .before .before .before .before .before .before .before .before in
+      let start = entered (c .before .before .before) in
       let e = start .pre .1 .1 in
       let x = start .pre .1 .0 in
       (omega arith, omega (arith, e .one .there, x .first .sized, x .first .few), omega (arith, e .two .there, x .second .sized, x .second .few), omega (arith, x .few, e .one .there, e .two .there, x .first .sized, x .first .few, x .second .sized, x .second .few))
 
-  both-add-t14-2 : both-lts.Need-add-t14-2 both-calls both-at both.Post
-  both-add-t14-2 c =
-      let x = standing-of (c .before .before .before .before .before .before .before .before .before .before .before .before .before .before .before .before .before) in
+  both-add-t15-2 : both-lts.Need-add-t15-2 both-calls both-at both.Post
+  both-add-t15-2 c =
+      let x = standing-of (entered (c .before .before .before .before .before .before)) in
       omega (arith, x .few, x .in-first, x .in-second, x .first .few, x .second .few)
 
   both-same-length-2 : both-lts.Need-same-length-2 both-calls both-at both.Post
@@ -232,9 +263,11 @@ module _ (t : ℕ) where
   both-returns-3 : both-lts.Need-returns-3 both-calls both-at both.Post
   unfolding entry
   both-returns-3 c =
-      let start = c .before .before .before .before .before .before .before .before .before .before .before .before .before .before .before .before .before in
-      step-differing (standing-of start) (start .pre .1 .1) (sym (kind-of-next (c .before .before .before .before .before .before .before .before .before)) ∙ c .before .before .before .before .before .before .before .before .if1 .left)
-      (told-apart (c .before .before .before .before .before) (c .before .before .before .before .if2 .left)) refl refl (omega arith) (c .before .before .put .ensures (leaves-differ (start .args .at .first) (start .args .at .second)) refl)
+      let compared = c .before .before .before .before .before .before in
+      let start = entered compared in
+      let asked = compared .before .before .before .before in
+      step-differing (standing-of start) (start .pre .1 .1) (sym (kind-of-next asked) ∙ compared .before .before .before .if1 .left)
+      (told-apart compared (c .before .before .before .before .before .if2 .left)) refl refl (omega arith) (c .before .before .put .ensures (laterBetween (start .args .first .now) (start .args .second .now)) (leaves-differ (start .args .at .first) (start .args .at .second)) (ap (λ (z : ℤ). pos 3 ∷ pos (start .args .at .first) ∷ pos (start .args .at .second) ∷ z ∷ []) (seconds-told (c .before .before .before .before))))
 
   children-loop-holds : children-lts.Need-loop-holds children-calls children-at children.Post children-Inv-loop children-μ-loop
   children-loop-holds c =
@@ -465,6 +498,6 @@ module _ (t : ℕ) where
 pub +both+children+spot-spec : {M : Type 1} → statement M
 +both+children+spot-spec =
     close μ-both μ-children μ-spot
-    (λ t. both-lts.spec (both-calls t) (both-at t) both.Post (both-add-container t) (both-add-t14 t) (both-kind-at-requires t) (both-container-requires t) (both-children-requires t) (both-same-length t) (both-returns t) (both-element-requires t) (both-element-requires-2 t) (both-equal-requires t) (both-returns-2 t) (both-put-requires t) (both-add-t14-2 t) (both-same-length-2 t) (both-returns-3 t))
+    (λ t. both-lts.spec (both-calls t) (both-at t) both.Post (both-add-t15 t) (both-add-t16 t) (both-kind-at-requires t) (both-container-requires t) (both-children-requires t) (both-same-length t) (both-returns t) (both-element-requires t) (both-element-requires-2 t) (both-equal-requires t) (both-returns-2 t) (both-seconds-later-requires t) (both-put-requires t) (both-add-t15-2 t) (both-same-length-2 t) (both-returns-3 t))
     (λ t. children-lts.spec (children-calls t) (children-at t) children.Post children-Inv-loop children-μ-loop (children-loop-holds t) (children-is-child-requires t) (children-is-child-requires-2 t) (children-spot-requires t) (children-loop-less t) (children-loop-again t) (children-same-length t) (children-returns t))
     (λ t. spot-lts.spec (spot-calls t) (spot-at t) spot.Post (spot-is-child-requires t) (spot-pass-first-requires t) (spot-same-length t) (spot-returns t) (spot-is-child-requires-2 t) (spot-pass-second-requires t) (spot-same-length-2 t) (spot-returns-2 t) (spot-kind-at-requires t) (spot-kind-at-requires-2 t) (spot-both-requires t) (spot-same-length-3 t) (spot-returns-3 t) (spot-kind-at-requires-3 t) (spot-by-position-requires t) (spot-pass-first-requires-2 t) (spot-pass-second-requires-2 t) (spot-same-length-4 t) (spot-returns-4 t) (spot-pass-first-requires-3 t) (spot-same-length-5 t) (spot-returns-5 t) (spot-pass-second-requires-3 t) (spot-same-length-6 t) (spot-returns-6 t))

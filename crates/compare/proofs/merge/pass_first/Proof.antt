@@ -22,7 +22,7 @@ returns : tie.Need-returns
 unfolding entry
 returns c =
     let a = c .before .before .before .before .before .before .args in
-    (c .before .after .ensures, refl, omega arith, c .before .before .before .put .ensures (only-first (a .at .first)) refl)
+    (c .before .after .ensures, refl, omega arith, λ later. c .before .before .before .put .ensures later (only-first (a .at .first)) refl)
 
 pub pass-first-spec : {M : Type 1} → statement M
 pass-first-spec = tie.close (tie.spec put-requires after-requires add-t9 same-length returns)

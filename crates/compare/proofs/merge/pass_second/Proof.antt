@@ -22,7 +22,7 @@ returns : tie.Need-returns
 unfolding entry
 returns c =
     let a = c .before .before .before .before .before .before .args in
-    (refl, c .before .after .ensures, omega arith, c .before .before .before .put .ensures (only-second (a .at .second)) refl)
+    (refl, c .before .after .ensures, omega arith, λ later. c .before .before .before .put .ensures later (only-second (a .at .second)) refl)
 
 pub pass-second-spec : {M : Type 1} → statement M
 pass-second-spec = tie.close (tie.spec put-requires after-requires add-t9 same-length returns)
