@@ -95,10 +95,14 @@ def damaged():
         yield from (whole + more for more in (b"\0", b"Z", b"0", whole))
 
 
+def by_table():
+    """The octets of the table, each with the moment that it shows or NO_MOMENT."""
+    return [(bytes.fromhex(octets) + text.encode(), right) for octets, text, right in ELEMENTS]
+
+
 def elements():
-    """The octets that are tried, each with the moment that it shows or NO_MOMENT: by the table, and of the others by the model."""
-    by_table = [(bytes.fromhex(octets) + text.encode(), right) for octets, text, right in ELEMENTS]
-    return by_table + [(octets, moment_model.shown(octets)) for octets in itertools.chain(month_ends(), damaged())]
+    """The octets that are tried, likewise: those of the table, and others with their moment by the model."""
+    return by_table() + [(octets, moment_model.shown(octets)) for octets in itertools.chain(month_ends(), damaged())]
 
 
 def other_than_table():
@@ -106,10 +110,9 @@ def other_than_table():
     found = [f"{day}: {right} expected" for day, right in DAYS.items() if moment_model.seconds(*day, 0, 0, 0) != right]
     if moment_model.seconds(moment_model.LAST_YEAR, 12, 31, 23, 59, 59) != LAST:
         found.append(f"the last second of 9999: {LAST} expected")
-    for octets, text, right in ELEMENTS:
-        said = moment_model.shown(bytes.fromhex(octets) + text.encode())
-        if said != right:
-            found.append(f"{octets} {text}: the table has {right}, the model {said}")
+    for octets, right in by_table():
+        if moment_model.shown(octets) != right:
+            found.append(f"{octets.hex()}: the table has {right}, the model {moment_model.shown(octets)}")
     return found
 
 
