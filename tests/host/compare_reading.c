@@ -71,7 +71,7 @@ static int difference_of(size_t edition, size_t place)
 /* The element at a place, with one length octet, as a time's moment. */
 static int64_t moment_at(size_t place)
 {
-    return place + 1 < length ? reference_moment(input + place, 2u + input[place + 1]) : -1;
+    return reference_moment(input + place, place + 1 < length ? 2u + input[place + 1] : 0);
 }
 
 /* The times of a validity with one length octet: how many seconds the second is later, if it has both. */
