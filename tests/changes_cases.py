@@ -58,7 +58,7 @@ def listed(written):
         entry, further = Entry(*map(int, numbers.split(","))), int(by or 0)
         for nth in range(int(count or 1)):
             moved = (row and row + further * nth for row in (entry.first, entry.second))
-            found.append(Entry(entry.what, *moved))
+            found.append(Entry(entry.what, *moved, entry.seconds))
     return Answer.ACCEPTED, 0, File.NEITHER, found
 
 
@@ -132,7 +132,7 @@ def unlawful():
         batches = [(octets, changes_model.fields(edition, octets)) for octets in joining_cases.accepted(edition)]
         for (first, one), (second, two) in [*itertools.pairwise(batches), *zip(batches, batches)]:
             entries = changes_model.entries(one, two)
-            turned = {Entry(SWAPPED[entry.what], entry.second, entry.first) for entry in changes_model.entries(two, one)}
+            turned = {Entry(SWAPPED[what], second, first, -seconds) for what, first, second, seconds in changes_model.entries(two, one)}
             rows = [[entry.first for entry in entries if entry.first], [entry.second for entry in entries if entry.second]]
             if (entries == []) != (first == second) or set(entries) != turned or rows != [sorted(set(some)) for some in rows]:
                 found.append(f"{first[:60].hex()} and {second[:60].hex()}, edition {edition}: {entries}")

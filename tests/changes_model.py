@@ -1,12 +1,14 @@
-"""A model of document 02's A5, what changed between two batches, written from that document alone: the rows of each batch become a tree of
-fields, each at its spot below its parent, and one walk goes over both trees."""
+"""A model of document 02's A5, what changed between two batches, with A12's fourth number, written from that document alone: the rows of
+each batch become a tree of fields, each at its spot below its parent, and one walk goes over both trees."""
 
 import grammar_model
 import joining_model
+import moment_model
 from paper import ENTRY_NUMBERS, Answer, Entry, File, Kind, What
 from writer_model import CONTAINERS
 
 BY_POSITION = (Kind.BATCH, Kind.CONTROLS, Kind.REG_INFO)
+TIMES = (Kind.NOT_BEFORE, Kind.NOT_AFTER)
 
 
 class Field:
@@ -41,13 +43,18 @@ def below(first, second):
         yield from at_a_spot(first.below.get(spot), second.below.get(spot))
 
 
+def seconds_between(first, second):
+    """The fourth number for two leaves that differ: "for two times that differ, second less first in seconds, else 0"."""
+    return moment_model.shown(second.octets) - moment_model.shown(first.octets) if first.kind in TIMES else 0
+
+
 def at_a_spot(first, second):
     """The entries at a spot: "at one spot the first file's before the second's"."""
     if first and second and first.kind == second.kind:
         if first.kind in CONTAINERS:
             yield from below(first, second)
         elif first.octets != second.octets:
-            yield Entry(What.LEAVES_DIFFER, first.number, second.number)
+            yield Entry(What.LEAVES_DIFFER, first.number, second.number, seconds_between(first, second))
     else:
         if first:
             yield Entry(What.ONLY_FIRST, first.number, 0)

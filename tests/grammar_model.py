@@ -1,13 +1,11 @@
-"""A model of document 01's sections "The grammar" and "Rows" and of its order for reading, with document 02's A4 and A11, written from
-those documents alone.
+"""A model of document 01's sections "The grammar" and "Rows" and of its order for reading, with document 02's A4, A11 and A12, written
+from those documents alone.
 
 `walk` is the walk of one edition, or of both editions' forms at once, over bytes whose nest is sound. `read` is the reading of a
 whole batch in an edition.
 """
 
-import datetime
-import re
-
+import moment_model
 import nest_model
 from paper import EDITIONS, LONGEST_ID, Answer, Difference, GrammarDetail, Kind, Row, Type
 
@@ -173,9 +171,9 @@ class Walk:
         elif element.identifier == VERSION and element.content != b"\x02":
             self.alone(1, Difference.TEMPLATE_FIELD, element, GrammarDetail.VALUE_BREAKS_RULE)
 
-    # "Validity: notBefore A0 (Time)?, notAfter A1 (Time)?, at least one."
+    # "Validity: notBefore A0 (Time)?, notAfter A1 (Time)?, at least one." "notAfter isn't earlier than notBefore"
     def validity(self, element, own):
-        parts = Parts(element)
+        parts, moments = Parts(element), []
         if not parts.left:
             raise Break(element, GrammarDetail.PART_MISSING)
         for kind, identifier in ((Kind.NOT_BEFORE, 0xA0), (Kind.NOT_AFTER, 0xA1)):
@@ -183,10 +181,12 @@ class Walk:
             if wrapper:
                 self.row(kind, wrapper, own)
                 inner = Parts(wrapper)
-                time = inner.must(0x17, 0x18)
-                hold(time, is_time(time))
+                time = inner.must(moment_model.UTC_TIME, moment_model.GENERALIZED_TIME)
+                moments.append(moment_model.moment(time.identifier, time.content))
+                hold(time, moments[-1] is not None)
                 inner.end()
         parts.end()
+        hold(element, moments == sorted(moments))  # judged after the inside
 
     # a wrapper around one element that is free inside
     def wrapped(self, element, *identifiers):
@@ -360,22 +360,6 @@ class Walk:
         else:
             inner.must(*ANY)
             self.row(Kind.UNKNOWN_REG_INFO, item, parent)
-
-
-def is_time(element):
-    """YYMMDDHHMMSSZ or YYYYMMDDHHMMSSZ, a real moment. The calendar repeats itself every 400 years."""
-    digits = 2 if element.identifier == 0x17 else 4
-    match = re.fullmatch(rb"([0-9]{%d})" % digits + rb"([0-9]{2})" * 5 + rb"Z", element.content)
-    if not match:
-        return False
-    year, *rest = map(int, match.groups())
-    if digits == 2:
-        year += 1900 if year >= 50 else 2000
-    try:
-        datetime.datetime(2000 + year % 400, *rest)
-    except ValueError:
-        return False
-    return True
 
 
 def walk(octets, editions):

@@ -1,7 +1,8 @@
 """The programs of host/, compiled and run: what the tests of the C boundary have in common.
 
-host/reference*.c is document 01 with document 02's A3, A4, A5, A11 and A13 in plain C, written from those papers alone; host/compare*.c
-check the archive against it, on inputs at random. A fault can be planted in the plain C, to show that a comparison finds it.
+host/reference*.c is document 01 with document 02's A3, A4, A5, A11, A12 and A13 in plain C, written from those papers alone;
+host/compare*.c check the archive against it, on inputs at random. A fault can be planted in the plain C, to show that a comparison finds
+it.
 """
 
 import functools

@@ -1,6 +1,6 @@
 """What changed between two batches in plain C, host/reference_changes.c, checked against the cases of changes_cases.txt and the model; the
 archive checked against those cases, and against the plain C by host/compare_changes.c, on batches that host/pairs.c makes; and what
-document 02's A5 says of any list, checked of the archive by host/laws_changes.c."""
+document 02's A5 and A12 say of any list, checked of the archive by host/laws_changes.c."""
 
 import functools
 
@@ -15,7 +15,8 @@ LONGEST_MODELLED = 2_000  # bytes of both batches
 LEAST_MODELLED = 2_000
 SANITIZED = 10_000  # pairs on which the programs run under AddressSanitizer
 LISTED_WRONGLY = ("CONTROLS_BY_KIND", "REG_INFO_BY_KIND", "BELOW_LISTED", "CONTAINERS_DIFFER", "CARRIED_AS_LEAF", "LENGTHS_COMPARED",
-    "FIRST_MESSAGE_LISTED", "COMMON_POSITIONS", "SECOND_PART", "PART_OF_NEITHER", "PART_CUT_SHORT", "PART_OF_CONTENT", "BYTE_OF_ENTRIES")
+    "FIRST_MESSAGE_LISTED", "COMMON_POSITIONS", "SECOND_PART", "PART_OF_NEITHER", "PART_CUT_SHORT", "PART_OF_CONTENT", "BYTE_OF_ENTRIES",
+    "FIRST_LESS_SECOND", "SECONDS_IN_32_BITS")
 FAULTS = LISTED_WRONGLY + ("EXTENSIONS_FROM_LAST", "PROOFS_AT_ONE_SPOT", "CHOICES_AT_ONE_SPOT", "SECOND_BEFORE_FIRST", "EDITION_OF_NEITHER",
     "ROOM_BEFORE_SECOND", "ROOM_OF_ENTRIES", "SHORT_OUTPUT_FILLED", "ENTRY_BEFORE_REFUSALS")
 

@@ -11,7 +11,7 @@ MODELLED = 4_000  # drafts that the model is asked about, which takes its time
 LONGEST_MODELLED = 2_000  # bytes of their slices, and numbers of them
 LEAST_CASES = 200
 FAULTS = ("LEAVES_UNCOMPARED", "CONTAINERS_MEASURED", "SHORT_OUTPUT_FILLED", "CONTENTS_UNCOMPARED", "CONTAINER_CONTENTS", "BATCH_CONTENTS",
-    "DRAFTS_OF_EDITION_1")
+    "DRAFTS_OF_EDITION_1", "GENERALIZED_2049", "EQUAL_MOMENTS_REFUSED", "TEXTS_COMPARED")
 
 
 def answered(lines):

@@ -28,6 +28,11 @@ STOPS = [
     ("30{30{30{02{00} 30{80{00}}} A2{A4{}}}}", (16, UNFIT), (11, BROKEN)),
     ("carried{87{}}", (33, BROKEN), (33, UNFIT)),
     ("carried{80{01} 80{02}}", (36, UNFIT), (33, BROKEN)),
+    ("template{backwards}", (11, BROKEN), (11, BROKEN)),  # A12
+    ("template{81{01} backwards}", (14, BROKEN), (11, UNFIT)),
+    ("template{81{01} A4{latebegin{\"20491231235959Z\"}}}", (18, BROKEN), (11, UNFIT)),
+    ("30{30{request A2{A4{}}} 30{30{02{00} 30{backwards}}}}", (13, UNFIT), (24, BROKEN)),
+    ("carried{A4{begin{\"000101000001Z\"} end{\"000101000000Z\"} 05{}}}", (69, UNFIT), (69, UNFIT)),
 ]
 
 

@@ -1,6 +1,6 @@
 """The papers' numbers, each named once: the answers, the row kinds, the verdicts, the columns of a row and the limits of document 01, and
-of document 02 the difference D4 (A4), the fifth number of a row (A11), the columns of an entry (A5) and the details of request A9; and
-whose refusal or part it is, of two batches. The models and the tests use these names, and a test checks the C header against them."""
+of document 02 the difference D4 (A4), the fifth number of a row (A11), the columns of an entry (A5, A12) and the details of request A9;
+and whose refusal or part it is, of two batches. The models and the tests use these names, and a test checks the C header against them."""
 
 import enum
 import typing
@@ -9,6 +9,7 @@ EDITIONS = (1, 2)
 LONGEST = 65535  # bytes of a batch
 DEEPEST = 20  # the depth of an element
 LONGEST_ID = 8  # content octets of a certReqId
+NO_MOMENT = -1  # instead of the moment of a time, where there is none
 
 
 class Number(enum.IntEnum):
@@ -146,6 +147,7 @@ class Entry(typing.NamedTuple):
     what: int
     first: int  # its row in the first batch, 0 where none
     second: int  # its row in the second batch, 0 where none
+    seconds: int = 0  # of two times that differ the second's moment less the first's, 0 in any other entry
 
 
 ENTRY_NUMBERS = len(Entry._fields)

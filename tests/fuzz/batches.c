@@ -1,6 +1,7 @@
 /* A fuzz target for clang's libFuzzer: any bytes, read, judged, joined, cut and compared by the archive and by documents 01 and 02 in plain
  * C, whose code guides the fuzzer. It checks that both are equal, that the rows are written back, that a batch cut at every position is
- * joined again, that only equal batches have no changes, and how the two editions' answers relate. A difference aborts. */
+ * joined again, that only equal batches have no changes, that times show moments, and how the two editions' answers relate. A difference
+ * aborts. */
 #include "../../include/phagundro.h"
 #include "../host/reference.h"
 
@@ -49,6 +50,23 @@ static phagundro_answer read_alike(size_t edition, const uint8_t *bytes, size_t 
     hold(memcmp(rows[edition], expected, sizeof expected) == 0, edition, "another table");
     hold(phagundro_accept(edition, bytes, length) == answer.number, edition, "another acceptance");
     return answer;
+}
+
+static int64_t moment_alike(const uint8_t *bytes, size_t length)
+{
+    int64_t moment = phagundro_moment(bytes, length);
+    hold(moment == reference_moment(bytes, length), 0, "another moment");
+    return moment;
+}
+
+/* Each notBefore and notAfter of an accepted batch shows a moment. */
+static void show_moments(size_t edition, phagundro_answer answer, const uint8_t *bytes)
+{
+    for (const size_t *row = rows[edition]; row < rows[edition] + PHAGUNDRO_ROW_NUMBERS * answer.count; row += PHAGUNDRO_ROW_NUMBERS) {
+        bool time = row[PHAGUNDRO_ROW_KIND] == PHAGUNDRO_KIND_NOT_BEFORE || row[PHAGUNDRO_ROW_KIND] == PHAGUNDRO_KIND_NOT_AFTER;
+        int64_t moment = moment_alike(bytes + row[PHAGUNDRO_ROW_FIRST], row[PHAGUNDRO_ROW_LENGTH]);
+        hold(time == (moment >= 0), edition, "a time without a moment, or a moment of another row");
+    }
 }
 
 static void write_back(size_t edition, phagundro_answer answer, const uint8_t *bytes, size_t length)
@@ -220,11 +238,13 @@ int LLVMFuzzerTestOneInput(const uint8_t *bytes, size_t length)
         return -1;
     for (size_t edition = PHAGUNDRO_RFC2511; edition <= PHAGUNDRO_RFC4211; edition++) {
         answers[edition] = read_alike(edition, bytes, length);
+        show_moments(edition, answers[edition], bytes);
         write_back(edition, answers[edition], bytes, length);
         judge_alike(edition, bytes, length);
         join_and_cut(edition, answers[edition], bytes, length);
         compare(edition, bytes, length);
     }
+    moment_alike(bytes, length);
     agree(PHAGUNDRO_RFC2511, answers[PHAGUNDRO_RFC2511], answers[PHAGUNDRO_RFC4211]);
     agree(PHAGUNDRO_RFC4211, answers[PHAGUNDRO_RFC4211], answers[PHAGUNDRO_RFC2511]);
     return 0;

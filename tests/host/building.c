@@ -250,52 +250,99 @@ static Node *tagged(uint8_t id, Node *inner)
     return node;
 }
 
-static Node *time_node(void)
+typedef struct {
+    int year, month, day, hour, minute, second;
+} Time;
+
+/* A real day and hour from 1950 to 9999, often at an end of a month or of a year. */
+static Time some_time(void)
 {
-    static const int years[] = {0, 1, 4, 100, 400, 1600, 1900, 1949, 1950, 1996, 1999, 2000, 2004, 2023, 2024, 2049, 2050, 2100, 9999};
-    int year = chance(2) ? years[below(sizeof years / sizeof *years)] : (int)below(10000);
-    int month = 1 + (int)below(12), day = 1 + (int)below(28);
+    static const int years[] = {1950, 1951, 1996, 1999, 2000, 2004, 2023, 2024, 2048, 2049, 2050, 2051, 2052, 2099, 2100, 2400, 9996, 9999};
+    static const int days[] = {31, 28, 31, 30, 31, 30, 31, 31, 30, 31, 30, 31};
+    Time time = {1950 + (int)below(chance(2) ? 200 : 8050), 1 + (int)below(12), 1 + (int)below(28), (int)below(24), (int)below(60),
+        (int)below(60)};
+    if (chance(2))
+        time.year = years[below(sizeof years / sizeof *years)];
     if (chance(3)) {
-        static const int days[] = {31, 28, 31, 30, 31, 30, 31, 31, 30, 31, 30, 31};
-        bool leap = (year % 4 == 0 && year % 100 != 0) || year % 400 == 0;
+        bool leap = (time.year % 4 == 0 && time.year % 100 != 0) || time.year % 400 == 0;
         if (chance(2))
-            month = 2;
-        day = days[month - 1] + (month == 2 && leap) + slip();
+            time.month = 2;
+        time.day = days[time.month - 1] + (time.month == 2 && leap);
     }
-    bool edge = chance(3);
-    int hour = edge ? 23 : (int)below(24), minute = edge ? 59 : (int)below(60), second = edge ? 59 : (int)below(60);
-    if (slip())
-        switch (below(6)) {
-        case 0: month = 13 * (int)below(2); break;
-        case 1: day = chance(2) ? 0 : 29 + (int)below(4); break;
-        case 2: hour = 24; break;
-        case 3: minute = 60; break;
-        case 4: second = 60; break;
-        default: year = 1900, month = 2, day = 29;
-        }
+    if (chance(6))
+        return (Time){time.year, 1, 1, 0, 0, 0};
+    return chance(6) ? (Time){time.year, 12, 31, 23, 59, 59} : time;
+}
+
+/* The same, or with one part of it another. */
+static Time near_time(Time time)
+{
+    switch (below(6)) {
+    case 0: time.day = 1 + (int)below(28); break;
+    case 1: time.hour = (int)below(24); break;
+    case 2: time.minute = (int)below(60); break;
+    case 3: time.second = (int)below(60); break;
+    default: break;
+    }
+    return time;
+}
+
+static Time spoiled_time(Time time)
+{
+    switch (below(8)) {
+    case 0: time.month = 13 * (int)below(2); break;
+    case 1: time.day = chance(2) ? 0 : 29 + (int)below(4); break;
+    case 2: time.hour = 24; break;
+    case 3: time.minute = 60; break;
+    case 4: time.second = 60; break;
+    case 5: time = (Time){chance(2) ? 2100 : 2050 + (int)below(50), 2, 29, 23, 59, 59}; break;
+    case 6: time.year = (int[]){0, 1, 400, 1600, 1900, 1949}[below(6)]; break;
+    default: time.year = (int)below(1950);
+    }
+    return time;
+}
+
+static Node *time_node(Time time)
+{
     char written[80];
-    bool two = year >= 1950 && year <= 2049 ? chance(2) : chance(8);
-    int size = two ? snprintf(written, sizeof written, "%02d", year % 100) : snprintf(written, sizeof written, "%04d", year);
-    size += snprintf(written + size, sizeof written - (size_t)size, "%02d%02d%02d%02d%02dZ", month, day, hour, minute, second);
+    if (slip())
+        time = spoiled_time(time);
+    bool utc = (time.year >= 1950 && time.year <= 2049) != slip();
+    int size = utc ? snprintf(written, sizeof written, "%02d", time.year % 100) : snprintf(written, sizeof written, "%04d", time.year);
+    size += snprintf(written + size, sizeof written - (size_t)size, "%02d%02d%02d%02d%02dZ", time.month, time.day, time.hour, time.minute,
+        time.second);
     if (slip())
         written[below((size_t)size)] = "/:zZ+-. 0"[below(9)];
     if (slip())
         size--;
     if (slip())
         written[size++] = '0';
-    return leaf((two != slip()) ? 0x17 : 0x18, written, (size_t)size);
+    return leaf((utc != slip()) ? 0x17 : 0x18, written, (size_t)size);
+}
+
+/* The larger, the later it is. */
+static int64_t rank(Time time)
+{
+    return ((((time.year * 100LL + time.month) * 100 + time.day) * 100 + time.hour) * 100 + time.minute) * 100 + time.second;
+}
+
+Node *limit(void)
+{
+    return tagged((uint8_t)(0xA0 + below(2)), time_node(some_time()));
 }
 
 static Node *validity(void)
 {
     Node *node = box(0xA4);
     size_t which = slip() ? 0 : 1 + below(3);
+    Time from = some_time(), to = chance(3) ? near_time(from) : some_time();
+    bool exchanged = which == 3 && (rank(to) < rank(from)) != slip();
     if (which & 1)
-        add(node, tagged(0xA0, time_node()));
+        add(node, tagged(0xA0, time_node(exchanged ? to : from)));
     if (which & 2)
-        add(node, tagged(0xA1, time_node()));
+        add(node, tagged(0xA1, time_node(exchanged ? from : to)));
     if (slip())
-        add(node, tagged((uint8_t)(0xA0 + below(4)), time_node()));
+        add(node, tagged((uint8_t)(0xA0 + below(4)), time_node(some_time())));
     return node;
 }
 

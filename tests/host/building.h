@@ -20,6 +20,9 @@ Node *chain(size_t depth);
 /* An INTEGER of `size` content octets. */
 Node *integer_of(uint8_t id, size_t size);
 
+/* A notBefore or a notAfter. */
+Node *limit(void);
+
 /* The constructs of the grammar. */
 Node *extensions(void);
 Node *template(void);

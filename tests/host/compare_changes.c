@@ -46,6 +46,7 @@ static PairAnswers lists, parts;
 static size_t whats[EDITIONS][WHATS];
 static size_t alone[EDITIONS][KINDS], differing[EDITIONS][KINDS]; /* entries by the kind of their row */
 static size_t without_entries, most_entries, most_rows_met, past_a_byte, carried;
+static size_t later, earlier, across_2050, past_32_bits; /* times that differ, of the second beside the first */
 
 typedef struct {
     size_t numbers[TABLE], count;
@@ -62,6 +63,25 @@ static size_t kind_of(const Rows *rows, int64_t row)
     return rows->numbers[PHAGUNDRO_ROW_NUMBERS * (size_t)row + PHAGUNDRO_ROW_KIND];
 }
 
+static bool is_time(size_t kind)
+{
+    return kind == PHAGUNDRO_KIND_NOT_BEFORE || kind == PHAGUNDRO_KIND_NOT_AFTER;
+}
+
+static size_t length_of(const Rows *rows, int64_t row)
+{
+    return rows->numbers[PHAGUNDRO_ROW_NUMBERS * (size_t)row + PHAGUNDRO_ROW_LENGTH];
+}
+
+/* Two times differ: one is a UTCTime and the other one isn't if the rows have other lengths. */
+static void times_differ(bool other_lengths, int64_t seconds)
+{
+    later += seconds > 0;
+    earlier += seconds < 0;
+    across_2050 += other_lengths;
+    past_32_bits += seconds > UINT32_MAX || seconds < -(int64_t)UINT32_MAX;
+}
+
 static void occurred(size_t edition, size_t count)
 {
     static Rows first, second;
@@ -76,6 +96,10 @@ static void occurred(size_t edition, size_t count)
         whats[edition][what]++;
         (what == PHAGUNDRO_LEAVES_DIFFER ? differing : alone)[edition][kind]++;
         carried += what == PHAGUNDRO_LEAVES_DIFFER && is_carried(first.numbers, (size_t)row);
+        if (what == PHAGUNDRO_LEAVES_DIFFER && is_time(kind)) {
+            bool other_lengths = length_of(&first, row) != length_of(&second, entry_number(i, PHAGUNDRO_ENTRY_SECOND));
+            times_differ(other_lengths, entry_number(i, PHAGUNDRO_ENTRY_SECONDS));
+        }
     }
 }
 
@@ -202,6 +226,15 @@ static int account_parts(size_t edition)
     return lacking + missing(past > 0, "number", PHAGUNDRO_NO_SUCH_MESSAGE, edition);
 }
 
+static int account_times(void)
+{
+    printf("times that differ: later %zu, earlier %zu; one of them UTCTime: %zu; by more seconds than 32 bits have: %zu\n", later, earlier,
+        across_2050, past_32_bits);
+    int lacking = missing(later > 0, "a later time", later, 0) + missing(earlier > 0, "an earlier time", earlier, 0);
+    lacking += missing(across_2050 > 0, "a UTCTime beside another", across_2050, 0);
+    return lacking + missing(past_32_bits > 0, "times that differ by more seconds than", UINT32_MAX, 0);
+}
+
 static int account(size_t pairs)
 {
     enum { MANY_ROWS = 29125 };
@@ -213,6 +246,7 @@ static int account(size_t pairs)
         most_entries, most_rows_met);
     printf("leaves that differ in carried certReqs: %zu; pairs lent once: %zu; neither edition (13): %zu\n", carried, lent_once,
         wrong_editions);
+    lacking += account_times();
     lacking += missing(without_entries > 0, "a list with entries", 0, 0);
     lacking += missing(past_a_byte > 0, "a list with more entries than", UINT8_MAX, 0);
     lacking += missing(pairs < USUAL || most_rows_met >= MANY_ROWS, "a batch with rows", MANY_ROWS, 0);

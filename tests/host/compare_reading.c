@@ -20,7 +20,7 @@ static void differs(const char *what, size_t edition, size_t room)
 
 /* -- What occurred -- */
 
-enum { NEAR_THE_END = 65000, LEAST_STOPS = 100 };
+enum { NEAR_THE_END = 65000, LEAST_STOPS = 100, LEAST_TIMES = 100 };
 enum { CHOICE = 1, PAIRS, LOCATION, TEMPLATE_FIELD, DIFFERENCES }; /* the papers' differences D1 to D4 */
 enum { TAGS = 32 };
 static const uint8_t ruled[] = {1, 2, 3, 5, 6, 10, 12, 17}; /* the tag numbers of the types whose content has a rule */
@@ -32,6 +32,8 @@ static bool stops[EDITIONS][PHAGUNDRO_LONGEST + 1]; /* places of NOT_IN_GRAMMAR 
 static size_t differences[EDITIONS][DIFFERENCES];   /* places of OTHER_EDITION, by listed difference; 0 if it can't be told */
 static size_t fields[KINDS], carried_fields;        /* of these D4 by the field's kind, and those in carried certReqs */
 static size_t shown[EDITIONS][KINDS];
+static size_t forwards[EDITIONS], equal[EDITIONS], backwards[EDITIONS]; /* validities with both times; the last ones are refused */
+static size_t early[EDITIONS], carried_times[EDITIONS];                 /* GeneralizedTime before 2050; validities in carried certReqs */
 static size_t most_messages, longest_accepted, past_a_byte, near_the_end; /* of accepted inputs */
 
 /* The row that begins at a place, or 0 if none does. */
@@ -66,11 +68,47 @@ static int difference_of(size_t edition, size_t place)
     return difference_in_2(place);
 }
 
+/* The element at a place, with one length octet, as a time's moment. */
+static int64_t moment_at(size_t place)
+{
+    return reference_moment(input + place, place + 1 < length ? 2u + input[place + 1] : 0);
+}
+
+/* The times of a validity with one length octet: how many seconds the second is later, if it has both. */
+static bool both_times(size_t validity, int64_t *seconds)
+{
+    size_t from = validity + 2, to = from + 1 < length ? from + 2 + input[from + 1] : length;
+    *seconds = moment_at(to) - moment_at(from);
+    return moment_at(from) >= 0 && moment_at(to) >= 0;
+}
+
+static void accepted_validity(size_t edition, const size_t *rows, size_t row)
+{
+    int64_t seconds;
+    if (!both_times(rows[PHAGUNDRO_ROW_NUMBERS * row + PHAGUNDRO_ROW_FIRST], &seconds))
+        return;
+    (seconds > 0 ? forwards : equal)[edition]++;
+    carried_times[edition] += is_carried(rows, row);
+}
+
+/* The grammar stops at a place, perhaps for one of A12's rules. */
+static void stopped(size_t edition, size_t place)
+{
+    int64_t seconds;
+    stops[edition][place] = true;
+    backwards[edition] += input[place] == 0xA4 && both_times(place, &seconds) && seconds < 0;
+    early[edition] += input[place] == 0x18 && input[place + 1] == 15 && memcmp(input + place + 2, "2050", 4) < 0;
+}
+
 static void accepted(size_t edition, const size_t *rows, size_t count)
 {
     size_t messages = messages_of(rows, count);
-    for (size_t i = 0; i < count; i++)
-        shown[edition][rows[PHAGUNDRO_ROW_NUMBERS * i + PHAGUNDRO_ROW_KIND]]++;
+    for (size_t i = 0; i < count; i++) {
+        size_t kind = rows[PHAGUNDRO_ROW_NUMBERS * i + PHAGUNDRO_ROW_KIND];
+        shown[edition][kind]++;
+        if (kind == PHAGUNDRO_KIND_VALIDITY)
+            accepted_validity(edition, rows, i);
+    }
     past_a_byte += messages > UINT8_MAX;
     near_the_end += length > NEAR_THE_END;
     keep_most(&most_messages, messages);
@@ -83,7 +121,7 @@ static void occurred(size_t edition, reference_answer answer, const size_t *rows
     if (answer.number == PHAGUNDRO_BAD_CONTENT)
         contents[edition][input[answer.place] % TAGS]++;
     if (answer.number == PHAGUNDRO_NOT_IN_GRAMMAR)
-        stops[edition][answer.place] = true;
+        stopped(edition, answer.place);
     if (answer.number == PHAGUNDRO_OTHER_EDITION)
         differences[edition][difference_of(edition, answer.place)]++;
     if (answer.number == PHAGUNDRO_ACCEPTED)
@@ -205,6 +243,18 @@ static int account_fields(void)
     return lacking;
 }
 
+static int account_times(size_t edition)
+{
+    printf("edition %zu: validities with both times: forwards %zu, equal %zu, backwards %zu, carried %zu;", edition, forwards[edition],
+        equal[edition], backwards[edition], carried_times[edition]);
+    printf(" GeneralizedTime before 2050: %zu\n", early[edition]);
+    int lacking = missing(forwards[edition] >= LEAST_TIMES, "many validities forwards, only", forwards[edition], edition);
+    lacking += missing(equal[edition] >= LEAST_TIMES, "many validities of equal times, only", equal[edition], edition);
+    lacking += missing(backwards[edition] >= LEAST_TIMES, "many validities backwards, only", backwards[edition], edition);
+    lacking += missing(carried_times[edition] >= LEAST_TIMES, "many carried validities, only", carried_times[edition], edition);
+    return lacking + missing(early[edition] >= LEAST_TIMES, "GeneralizedTime before 2050 often, only", early[edition], edition);
+}
+
 static int account_kinds(size_t edition)
 {
     printf("edition %zu: rows by kind:", edition);
@@ -220,7 +270,7 @@ static int account(size_t inputs)
     int lacking = 0;
     printf("%zu inputs of seed %llu, %zu bytes, %zu calls: no difference\n", inputs, (unsigned long long)seed, total_bytes, calls);
     for (size_t edition = PHAGUNDRO_RFC2511; edition <= PHAGUNDRO_RFC4211; edition++)
-        lacking += account_answers(edition) + account_differences(edition) + account_kinds(edition);
+        lacking += account_answers(edition) + account_differences(edition) + account_kinds(edition) + account_times(edition);
     lacking += account_fields();
     printf("accepted with more than 255 messages: %zu, at most %zu messages\n", past_a_byte, most_messages);
     printf("accepted with more than 65,000 bytes: %zu, at most %zu bytes\n", near_the_end, longest_accepted);

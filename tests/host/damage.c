@@ -157,23 +157,24 @@ static bool several(const Node *node)
     return node->id == 0x31 && node->first != node->last;
 }
 
-static size_t sets_in(const Node *node)
+/* How many elements inside another are such. */
+static size_t count_such(const Node *node, bool (*such)(const Node *))
 {
     size_t found = 0;
     for (const Node *child = node->first; child; child = child->next)
-        found += several(child) + sets_in(child);
+        found += such(child) + count_such(child, such);
     return found;
 }
 
-/* The nth SET with two members or more inside an element, and its parent. */
-static Node *pick_set(Node *node, size_t *nth, Node **parent)
+/* The nth of them, and its parent. */
+static Node *pick_such(Node *node, bool (*such)(const Node *), size_t *nth, Node **parent)
 {
     for (Node *child = node->first; child; child = child->next) {
-        if (several(child) && (*nth)-- == 0) {
+        if (such(child) && (*nth)-- == 0) {
             *parent = node;
             return child;
         }
-        Node *found = pick_set(child, nth, parent);
+        Node *found = pick_such(child, such, nth, parent);
         if (found)
             return found;
     }
@@ -181,10 +182,10 @@ static Node *pick_set(Node *node, size_t *nth, Node **parent)
 }
 
 /* One of them, or NULL if there is none. */
-static Node *some_set(Node *root, Node **parent)
+static Node *some_such(Node *root, bool (*such)(const Node *), Node **parent)
 {
-    size_t most = sets_in(root), nth = most > 0 ? below(most) : 0;
-    return pick_set(root, &nth, parent);
+    size_t most = count_such(root, such), nth = most > 0 ? below(most) : 0;
+    return pick_such(root, such, &nth, parent);
 }
 
 static void neighbours_swapped(Node *set)
@@ -200,7 +201,7 @@ static void neighbours_swapped(Node *set)
 
 bool disorder(Node *root)
 {
-    Node *parent, *set = some_set(root, &parent);
+    Node *parent, *set = some_such(root, several, &parent);
     if (set)
         neighbours_swapped(set);
     return set != NULL;
@@ -244,7 +245,7 @@ static bool swapped_around(Node *node, const Node *set)
 
 void disorder_tree(Node *root)
 {
-    Node *parent, *set = some_set(root, &parent);
+    Node *parent, *set = some_such(root, several, &parent);
     if (!set)
         return;
     neighbours_swapped(set);
@@ -257,6 +258,28 @@ void disorder_tree(Node *root)
     }
     if (chance(2))
         swapped_around(root, set);
+}
+
+/* -- Validities -- */
+
+/* Whether an element is a validity with both times. */
+static bool has_both_times(const Node *node)
+{
+    const Node *from = node->first, *to = node->last;
+    return node->id == 0xA4 && from && from->next == to && to && from->id == 0xA0 && to->id == 0xA1 && from->first && to->first;
+}
+
+void turn_back(Node *root)
+{
+    Node *parent, *validity = some_such(root, has_both_times, &parent);
+    if (!validity)
+        return;
+    Node *from = validity->first, *to = validity->last, *time = from->first;
+    from->first = from->last = to->first;
+    to->first = to->last = time;
+    from->first->next = to->first->next = NULL;
+    if (chance(3))
+        add(validity, chance(2) ? any(1) : limit());
 }
 
 bool change_octet(Node *root)

@@ -16,6 +16,9 @@ bool disorder(Node *root);
 /* Puts SETs out of order, and perhaps another fault before, in or after one of them. */
 void disorder_tree(Node *root);
 
+/* Exchanges the times of a validity that has both, if there is one inside the root, and perhaps puts an element after them. */
+void turn_back(Node *root);
+
 /* Damages bytes, of which there may be INPUT_ROOM; answers how many there are now. */
 size_t damage_bytes(uint8_t *input, size_t length);
 

@@ -563,6 +563,20 @@ static void two_attributes(Draft *draft)
     add_row(draft, PHAGUNDRO_KIND_SUBJECT, at, draft->length - at, 4);
 }
 
+/* Opens a request, and perhaps one that it carries; answers the row of the last one's template. */
+static size_t open_template(Draft *draft)
+{
+    open_request(draft);
+    if (chance(2))
+        return 4;
+    add_row(draft, PHAGUNDRO_KIND_REG_INFO, 0, 0, 1);
+    add_row(draft, PHAGUNDRO_KIND_REG_INFO_CERT_REQ, 0, 0, 5);
+    add_row(draft, PHAGUNDRO_KIND_CERT_REQ, 0, 0, 6);
+    add_row(draft, PHAGUNDRO_KIND_CERT_REQ_ID, 0, 3, 7);
+    add_row(draft, PHAGUNDRO_KIND_CERT_TEMPLATE, 0, 0, 7);
+    return 9;
+}
+
 /* A template with one field that edition 1 alone allows, or with version 2; it is the message's own, or a carried one. */
 static void field_of_edition_1(Draft *draft)
 {
@@ -579,17 +593,23 @@ static void field_of_edition_1(Draft *draft)
         {PHAGUNDRO_KIND_ISSUER_UID, 3, {0x87, 0x01, 0x00}},
         {PHAGUNDRO_KIND_SUBJECT_UID, 3, {0x88, 0x01, 0x00}},
     };
-    size_t i = below(sizeof fields / sizeof *fields), template = 4;
-    open_request(draft);
-    if (chance(2)) {
-        add_row(draft, PHAGUNDRO_KIND_REG_INFO, 0, 0, 1);
-        add_row(draft, PHAGUNDRO_KIND_REG_INFO_CERT_REQ, 0, 0, 5);
-        add_row(draft, PHAGUNDRO_KIND_CERT_REQ, 0, 0, 6);
-        add_row(draft, PHAGUNDRO_KIND_CERT_REQ_ID, 0, 3, 7);
-        add_row(draft, PHAGUNDRO_KIND_CERT_TEMPLATE, 0, 0, 7);
-        template = 9;
-    }
+    size_t i = below(sizeof fields / sizeof *fields), template = open_template(draft);
     add_row(draft, fields[i].kind, add_octets(draft, fields[i].octets, fields[i].size), fields[i].size, template);
+}
+
+/* A validity with two times near each other or far apart, forwards or backwards, or with one that stands in the other form. */
+static void two_times(Draft *draft)
+{
+    static const char *const times[] = {"\x17\x0D" "500101000000Z", "\x17\x0D" "991231235959Z", "\x17\x0D" "000101000000Z",
+        "\x17\x0D" "491231235959Z", "\x18\x0F" "20500101000000Z", "\x18\x0F" "99991231235959Z", "\x18\x0F" "20491231235959Z"};
+    size_t validity = open_template(draft) + 1;
+    add_row(draft, PHAGUNDRO_KIND_VALIDITY, 0, 0, validity - 1);
+    for (size_t tag = 0; tag < 2; tag++) {
+        const char *time = times[below(sizeof times / sizeof *times)];
+        size_t size = strlen(time), at = add_octets(draft, (uint8_t[]){(uint8_t)(0xA0 + tag), (uint8_t)size}, 2);
+        add_octets(draft, time, size);
+        add_row(draft, PHAGUNDRO_KIND_NOT_BEFORE + tag, at, 2 + size, validity);
+    }
 }
 
 /* Containers inside each other. */
@@ -671,6 +691,7 @@ const DraftSort draft_sorts[DRAFT_SORTS] = {
     {"a leaf near or past the deepest", OPEN, 8, deep_leaf},
     {"two attributes in an RDN", OPEN, 8, two_attributes},
     {"a field of edition 1 alone, or version 2", OPEN, 16, field_of_edition_1},
+    {"two times", OPEN, 16, two_times},
     {"containers too deep", NO_BATCH, 3, deep_containers},
     {"many rows", OPEN, 2, many_rows},
     {"many empty leaves", NO_BATCH, 2, many_empty_leaves},

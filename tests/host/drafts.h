@@ -30,7 +30,7 @@ typedef struct {
     void (*make)(Draft *);
 } DraftSort;
 
-enum { DRAFT_SORTS = 40 };
+enum { DRAFT_SORTS = 41 };
 extern const DraftSort draft_sorts[DRAFT_SORTS];
 
 /* Makes the next draft, from the row of inputs that inputs_start has started. */

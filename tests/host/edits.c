@@ -56,7 +56,7 @@ static void swap_members(size_t one, size_t other)
     members[other] = kept;
 }
 
-/* -- The lists and requests of a batch -- */
+/* -- The lists, requests and validities of a batch -- */
 
 typedef struct {
     Node *node;
@@ -64,8 +64,8 @@ typedef struct {
 } List;
 
 static List lists[MOST];
-static Node *requests[MOST];
-static size_t lists_found, requests_found;
+static Node *requests[MOST], *validities[MOST];
+static size_t lists_found, requests_found, validities_found;
 
 static Node *further_extension(void)
 {
@@ -98,9 +98,11 @@ static Node *child_with(const Node *node, uint8_t id)
 
 static void note_request(Node *request)
 {
-    Node *template = request->first->next, *list = child_with(template, 0xA9);
+    Node *template = request->first->next, *list = child_with(template, 0xA9), *validity = child_with(template, 0xA4);
     if (requests_found < MOST)
         requests[requests_found++] = request;
+    if (validity && validities_found < MOST)
+        validities[validities_found++] = validity;
     if (list)
         note_list(list, further_extension);
     if (template->next)
@@ -130,7 +132,7 @@ static Node *info_of(const Node *message)
 
 static void look_through(Node *root)
 {
-    lists_found = requests_found = 0;
+    lists_found = requests_found = validities_found = 0;
     note_list(root, message);
     for (Node *one = root->first; one; one = one->next) {
         note_request(one->first);
@@ -181,6 +183,13 @@ static void edit_field(Node *request)
     put_together(own);
 }
 
+/* Puts another time in a notBefore or a notAfter, which may then be the later of the two. */
+static void edit_time(Node *validity)
+{
+    Node *changed = chance(2) ? validity->first : validity->last;
+    changed->first = changed->last = limit()->first;
+}
+
 static void edit_id(Node *request)
 {
     take_apart(request);
@@ -225,6 +234,10 @@ void edit(Node *root)
 {
     look_through(root);
     Node *request = requests[below(requests_found)];
+    if (validities_found > 0 && chance(12)) {
+        edit_time(validities[below(validities_found)]);
+        return;
+    }
     switch (below(12)) {
     case 0: edit_id(request); break;
     case 1: edit_controls(request); break;

@@ -1,5 +1,5 @@
 /* The row of inputs. Inputs are trees of elements that are built, damaged and encoded, and then damaged as bytes. The first inputs are the
- * same for each seed: the files, the sizes and depths at which document 01 draws a line, and SETs of two members. */
+ * same for each seed: the files, the sizes and depths at which document 01 draws a line, SETs of two members, and times. */
 #include "inputs.h"
 
 #include "../../include/phagundro.h"
@@ -42,11 +42,24 @@ static Node *request(Node *id)
     return around(0x30, around(0x30, add(add(box(0x30), id), box(0x30))));
 }
 
+/* A certReq whose template has one field. */
+static Node *request_with(Node *field)
+{
+    return add(add(box(0x30), leaf(0x02, "\0", 1)), around(0x30, field));
+}
+
+/* A notBefore or a notAfter with a time as it is written. */
+static Node *written_limit(uint8_t id, bool utc, const char *written)
+{
+    return around(id, leaf(utc ? 0x17 : 0x18, written, strlen(written)));
+}
+
 /* A batch whose one field is a notBefore with the nth of the days and hours at which a calendar is easily wrong; NULL past the last. */
 static Node *on_a_day(size_t n)
 {
-    static const char *const years[] = {"0000", "0001", "0004", "0100", "0200", "0400", "1000", "1600", "1700", "1800", "1900", "1996",
-        "1999", "2000", "2004", "2023", "2100", "2200", "2400", "9999", "00", "01", "04", "48", "49", "50", "51", "52", "96", "99"};
+    static const char *const years[] = {"0000", "0004", "0400", "1900", "1949", "1950", "1999", "2000", "2024", "2048", "2049", "2050",
+        "2051", "2052", "2099", "2100", "2200", "2300", "2400", "4000", "9996", "9999", "00", "01", "04", "48", "49", "50", "51", "52",
+        "96", "99"};
     static const char *const days[] = {"0228", "0229", "0230", "0130", "0131", "0132", "0331", "0332", "0430", "0431", "0531", "0532",
         "0630", "0631", "0731", "0732", "0831", "0832", "0930", "0931", "1031", "1032", "1130", "1131", "1231", "1232", "0001", "1301",
         "0100"};
@@ -55,13 +68,33 @@ static Node *on_a_day(size_t n)
     if (n >= YEARS * DAYS + HOURS)
         return NULL;
     char written[32];
-    const char *year = n < YEARS * DAYS ? years[n / DAYS] : "2024";
+    const char *year = n < YEARS * DAYS ? years[n / DAYS] : "2052";
     const char *day = n < YEARS * DAYS ? days[n % DAYS] : "0229";
     const char *hour = n < YEARS * DAYS ? "235959Z" : hours[n - YEARS * DAYS];
     snprintf(written, sizeof written, "%s%s%s", year, day, hour);
-    Node *time = leaf(strlen(year) == 2 ? 0x17 : 0x18, written, strlen(written));
-    Node *fields = around(0x30, around(0xA4, around(0xA0, time)));
-    return around(0x30, around(0x30, add(add(box(0x30), leaf(0x02, "\0", 1)), fields)));
+    return around(0x30, around(0x30, request_with(around(0xA4, written_limit(0xA0, strlen(year) == 2, written)))));
+}
+
+enum { TIMES = 12, TWO_TIMES = 3 * TIMES * TIMES };
+
+/* A batch whose validity has each two of these times: by itself, with an element after them, and in a carried certReq. */
+static Node *from_to(size_t n)
+{
+    static const char *const times[TIMES] = {"500101000000Z", "500101000001Z", "991231235959Z", "000101000000Z", "491231235958Z",
+        "491231235959Z", "20500101000000Z", "20500101000001Z", "21000301000000Z", "99991231235959Z", "20491231235959Z", "19491231235959Z"};
+    enum { UTC_LENGTH = 13 };
+    const char *from = times[n % TIMES], *to = times[n / TIMES % TIMES];
+    Node *validity = add(box(0xA4), written_limit(0xA0, strlen(from) == UTC_LENGTH, from));
+    add(validity, written_limit(0xA1, strlen(to) == UTC_LENGTH, to));
+    switch (n / (TIMES * TIMES)) {
+    case 0: break;
+    case 1: add(validity, leaf(0x05, NULL, 0)); break;
+    default: {
+        Node *item = add(box(0x30), leaf(0x06, "\x2B\x06\x01\x05\x05\x07\x05\x02\x02", 9));
+        return around(0x30, add(least_message(), around(0x30, add(item, request_with(validity)))));
+    }
+    }
+    return around(0x30, around(0x30, request_with(validity)));
 }
 
 enum { MEMBERS = 8, SETS = 3 * MEMBERS * MEMBERS };
@@ -119,7 +152,8 @@ static Node *at_a_line(size_t n)
     n -= ID_SIZES;
     if (n < SETS)
         return in_a_set(n);
-    return on_a_day(n - SETS);
+    n -= SETS;
+    return n < TWO_TIMES ? from_to(n) : on_a_day(n - TWO_TIMES);
 }
 
 /* A file, rarely a long one; NULL if there is none. */
@@ -185,6 +219,8 @@ static size_t built(uint8_t *input)
         damage_tree(root);
     if (chance(12))
         disorder_tree(root);
+    if (chance(12))
+        turn_back(root);
     if (chance(100))
         root->id = any_identifier();
     size_t length = encode(root, input, INPUT_ROOM);

@@ -1,10 +1,11 @@
-/* What document 02's A5 says of the list of what changed, on pairs of batches that an edition accepts, checked without another list:
+/* What document 02's A5 and A12 say of the list of what changed, on pairs of batches that an edition accepts, checked without another list:
  *
  *   - the list is empty exactly when the bytes are equal;
  *   - each entry is true: one batch alone has the row, or the rows are leaves of one kind whose bytes differ. No row is in two entries or
  *     below another's, and the rows of each batch ascend;
  *   - the list is complete: without what it speaks of, both batches have the same rows, with the same bytes in the leaves;
- *   - with the batches exchanged it says the same, with 1 and 2 exchanged;
+ *   - the fourth number of an entry for two times is the second's moment less the first's, and of any other 0 (A12);
+ *   - with the batches exchanged it says the same, with 1 and 2 exchanged and the seconds negated;
  *   - the part of each entry is the whole row, of the first batch where both have it, and past the last entry there is none.
  *
  * They are checked of the archive's calls; with a planted fault, of the references', which must break one. See comparison.h for the
@@ -75,6 +76,11 @@ static void compare(const Batch *first, const Batch *second, List *list)
         differs("two batches that are accepted aren't compared; number", answer.number);
 }
 
+static int64_t moment_of(const uint8_t *bytes, size_t length)
+{
+    return reference_fault != 0 ? reference_moment(bytes, length) : phagundro_moment(bytes, length);
+}
+
 static phagundro_part part_of(size_t entry)
 {
     const Batch *first = &pair.first, *second = &pair.second;
@@ -105,7 +111,7 @@ static bool same_leaf(const Rows *first, size_t row, const Rows *second, size_t 
 
 /* -- What occurred -- */
 
-static size_t checked, emptied, exchanged, parts, most_entries;
+static size_t checked, emptied, exchanged, parts, times, most_entries;
 
 /* -- Each entry is true -- */
 
@@ -126,6 +132,21 @@ static bool rows_fit(size_t what, size_t first, size_t second, const Rows *one, 
     }
 }
 
+static int64_t row_moment(const Rows *rows, size_t row)
+{
+    return moment_of(rows->batch->octets + field(rows, row, PHAGUNDRO_ROW_FIRST), field(rows, row, PHAGUNDRO_ROW_LENGTH));
+}
+
+/* The seconds that an entry with these rows should have. */
+static int64_t seconds_between(size_t what, size_t first, size_t second, const Rows *one, const Rows *two)
+{
+    size_t kind = field(one, first, PHAGUNDRO_ROW_KIND);
+    if (what != PHAGUNDRO_LEAVES_DIFFER || (kind != PHAGUNDRO_KIND_NOT_BEFORE && kind != PHAGUNDRO_KIND_NOT_AFTER))
+        return 0;
+    times++;
+    return row_moment(two, second) - row_moment(one, first);
+}
+
 static void check_entries(const List *list, const Rows *one, const Rows *two)
 {
     size_t last[2] = {0, 0};
@@ -133,6 +154,9 @@ static void check_entries(const List *list, const Rows *one, const Rows *two)
         size_t rows[2] = {number_of(list, i, PHAGUNDRO_ENTRY_FIRST), number_of(list, i, PHAGUNDRO_ENTRY_SECOND)};
         if (!rows_fit(number_of(list, i, PHAGUNDRO_ENTRY_WHAT), rows[0], rows[1], one, two))
             differs("an entry isn't true", i);
+        int64_t seconds = seconds_between(number_of(list, i, PHAGUNDRO_ENTRY_WHAT), rows[0], rows[1], one, two);
+        if (list->numbers[NUMBERS_OF_ENTRY * i + PHAGUNDRO_ENTRY_SECONDS] != seconds)
+            differs("an entry has other seconds", i);
         for (size_t file = 0; file < 2; file++) {
             if (rows[file] != 0 && rows[file] <= last[file])
                 differs("the rows don't ascend", i);
@@ -203,6 +227,7 @@ static void check_exchanged(List *list)
         int64_t first = entry[PHAGUNDRO_ENTRY_FIRST], what = entry[PHAGUNDRO_ENTRY_WHAT];
         entry[PHAGUNDRO_ENTRY_FIRST] = entry[PHAGUNDRO_ENTRY_SECOND];
         entry[PHAGUNDRO_ENTRY_SECOND] = first;
+        entry[PHAGUNDRO_ENTRY_SECONDS] = -entry[PHAGUNDRO_ENTRY_SECONDS];
         if (what != PHAGUNDRO_LEAVES_DIFFER)
             entry[PHAGUNDRO_ENTRY_WHAT] = PHAGUNDRO_ONLY_FIRST + PHAGUNDRO_ONLY_SECOND - what;
     }
@@ -274,9 +299,10 @@ static void check_pair(void)
 static int account(size_t pairs)
 {
     printf("%zu pairs of seed %llu: no difference\n", pairs, (unsigned long long)seed);
-    printf("lists checked: %zu, of equal batches: %zu, the other way round: %zu, parts: %zu; at most %zu entries\n", checked, emptied,
-        exchanged, parts, most_entries);
+    printf("lists checked: %zu, of equal batches: %zu, the other way round: %zu, parts: %zu, times: %zu; at most %zu entries\n", checked,
+        emptied, exchanged, parts, times, most_entries);
     int lacking = missing(emptied > 0, "equal batches", emptied, 0) + missing(exchanged > emptied, "batches that differ", exchanged, 0);
+    lacking += missing(times > 0, "times that differ", times, 0);
     return comparison_status(lacking + missing(most_entries > UINT8_MAX, "a list with more entries than", UINT8_MAX, 0));
 }
 

@@ -28,9 +28,11 @@ enum {
 /* A row: document 01's numbers, and document 02's A11. */
 enum { ROW_KIND, ROW_FIRST, ROW_LENGTH, ROW_PARENT, ROW_CONTENT, ROW_NUMBERS };
 
-/* An entry of what changed between two batches, and what it says: document 02's A5. */
-enum { ENTRY_WHAT, ENTRY_FIRST, ENTRY_SECOND, ENTRY_NUMBERS };
+/* An entry of what changed between two batches, and what it says: document 02's A5 and A12. */
+enum { ENTRY_WHAT, ENTRY_FIRST, ENTRY_SECOND, ENTRY_SECONDS, ENTRY_NUMBERS };
 enum { ONLY_FIRST = 1, ONLY_SECOND = 2, LEAVES_DIFFER = 3 };
+
+enum { NO_MOMENT = -1 }; /* instead of a time's moment: document 02's A12 */
 
 /* Kinds of containers. */
 enum {

@@ -1,10 +1,11 @@
-/* The reading of a batch by document 01, with document 02's A4 and A11: one function for each construct of its grammar, which takes the
- * elements inside from left to right, judges each before the next, and says where it stops. Identifiers are in hex, as the papers write
- * them. */
+/* The reading of a batch by document 01, with document 02's A4, A11 and A12: one function for each construct of its grammar, which takes
+ * the elements inside from left to right, judges each before the next, and says where it stops. Identifiers are in hex, as the papers
+ * write them. */
 #include "reference.h"
 
 #include "paper.h"
 #include "reference_nest.h"
+#include "reference_times.h"
 
 #include <stdlib.h>
 #include <string.h>
@@ -96,6 +97,11 @@ static size_t size_of(Element element)
 static const uint8_t *content_of(const Walk *walk, Element element)
 {
     return walk->bytes + element.inside;
+}
+
+static int64_t moment_of(const Walk *walk, Element time)
+{
+    return time_moment(time.id, content_of(walk, time), size_of(time));
 }
 
 /* A rule on an element's value. */
@@ -228,59 +234,35 @@ static bool extension(Walk *walk, Element whole)
 
 /* -- Times -- */
 
-static int days_of(int year, int month)
-{
-    switch (month) {
-    case 4: case 6: case 9: case 11:
-        return 30;
-    case 2:
-        return (year % 4 == 0 && year % 100 != 0) || year % 400 == 0 ? 29 : 28;
-    default:
-        return 31;
-    }
-}
-
-static int two_digits(const uint8_t *text)
-{
-    return 10 * (text[0] - '0') + (text[1] - '0');
-}
-
-/* YYMMDDHHMMSSZ or YYYYMMDDHHMMSSZ, with 2 or 4 digits of the year. */
-static bool is_time(const uint8_t *text, size_t size, size_t year_digits)
-{
-    if (size != year_digits + 11 || text[size - 1] != 'Z')
-        return false;
-    for (size_t i = 0; i + 1 < size; i++)
-        if (text[i] < '0' || text[i] > '9')
-            return false;
-    int year = two_digits(text);
-    if (year_digits == 4)
-        year = 100 * year + two_digits(text + 2);
-    else
-        year += year >= 50 ? 1900 : 2000;
-    text += year_digits;
-    int month = two_digits(text), day = two_digits(text + 2);
-    return month >= 1 && month <= 12 && day >= 1 && day <= days_of(year, month) && two_digits(text + 4) <= 23 &&
-           two_digits(text + 6) <= 59 && two_digits(text + 8) <= 59;
-}
-
 /* A tag around a Time. */
-static bool tagged_time(Walk *walk, Element tag)
+static bool tagged_time(Walk *walk, Element tag, Element *time)
 {
     Parts parts = inside(tag);
     if (!ahead(walk, &parts, 0x17) && !ahead(walk, &parts, 0x18))
         return unfit(walk, &parts);
-    Element time = take(walk, &parts);
-    if (!is_time(content_of(walk, time), size_of(time), time.id == 0x17 ? 2 : 4))
-        return stop(walk, time.at);
+    *time = take(walk, &parts);
+    if (moment_of(walk, *time) == NO_MOMENT)
+        return stop(walk, time->at);
     return done(walk, &parts);
 }
 
 /* -- The template -- */
 
+/* Whether notAfter is earlier than notBefore. */
+static bool backwards(const Walk *walk, Element not_before, Element not_after)
+{
+    enum { SHORTER = 13 };
+    if (reference_fault == TEXTS_COMPARED)
+        return memcmp(content_of(walk, not_after), content_of(walk, not_before), SHORTER) < 0;
+    int64_t from = moment_of(walk, not_before), to = moment_of(walk, not_after);
+    return to < from || (to == from && reference_fault == EQUAL_MOMENTS_REFUSED);
+}
+
 static bool validity(Walk *walk, Element whole, size_t self)
 {
     Parts parts = inside(whole);
+    Element times[2];
+    bool there[2] = {false, false};
     if (!ahead(walk, &parts, 0xA0) && !ahead(walk, &parts, 0xA1))
         return unfit(walk, &parts);
     for (uint8_t tag = 0; tag < 2; tag++) {
@@ -288,10 +270,15 @@ static bool validity(Walk *walk, Element whole, size_t self)
             continue;
         Element limit = take(walk, &parts);
         row(walk, tag == 0 ? KIND_NOT_BEFORE : KIND_NOT_AFTER, limit, self);
-        if (!tagged_time(walk, limit))
+        if (!tagged_time(walk, limit, &times[tag]))
             return false;
+        there[tag] = true;
     }
-    return done(walk, &parts);
+    if (!there[0] || !there[1] || !backwards(walk, times[0], times[1]))
+        return done(walk, &parts);
+    if (reference_fault != BACKWARDS_BEFORE_INSIDE && !done(walk, &parts))
+        return false;
+    return stop(walk, reference_fault == NOT_AFTER_PLACE ? times[1].at - 2 : whole.at);
 }
 
 static bool extensions(Walk *walk, Element whole, size_t self)

@@ -1,6 +1,6 @@
-/* The reading, the writing, the verdict and the duplicate search by document 01 and by document 02's A3, A4 and A11, and by document 02 the
- * joining and the cutting (A13) and what changed between two batches (A5), written from those papers alone. The comparisons check the
- * archive against them. */
+/* The reading, the writing, the verdict and the duplicate search by document 01 and by document 02's A3, A4, A11 and A12, and by document
+ * 02 the joining and the cutting (A13), what changed between two batches (A5) and the moments of times (A12), written from those papers
+ * alone. The comparisons check the archive against them. */
 #ifndef REFERENCE_H
 #define REFERENCE_H
 
@@ -53,6 +53,9 @@ typedef struct {
 
 reference_part reference_compare_part(size_t edition, const uint8_t *first, size_t first_length, const uint8_t *second,
     size_t second_length, size_t entry);
+
+/* The moment that the element of a notBefore or a notAfter shows, in whole seconds from 0000-01-01 00:00:00; -1 for any other bytes. */
+int64_t reference_moment(const uint8_t *bytes, size_t length);
 
 /* A fault planted in them, to show that a comparison finds it; 0 for none. */
 enum {
@@ -129,7 +132,18 @@ enum {
     TEMPLATE_PLACE = 56,         /* OTHER_EDITION for a template's field at the template */
     SIGNING_ALG_ENTERED = 57,    /* signingAlg entered in edition 2 before it is refused */
     SERIAL_NUMBER_READABLE = 58, /* serialNumber read in edition 2 */
-    DRAFTS_OF_EDITION_1 = 59     /* drafts with fields that edition 2 omits written there as in edition 1 */
+    DRAFTS_OF_EDITION_1 = 59,    /* drafts with fields that edition 2 omits written there as in edition 1 */
+
+    /* in times and their moments */
+    NO_CENTURY_RULE = 60,         /* every fourth year taken as a leap year */
+    GENERALIZED_2049 = 61,        /* the year 2049 taken as GeneralizedTime */
+    BEFORE_1950_TAKEN = 62,       /* years before 1950 taken as GeneralizedTime */
+    BACKWARDS_BEFORE_INSIDE = 63, /* a validity that runs backwards refused before the rest of its inside is judged */
+    EQUAL_MOMENTS_REFUSED = 64,   /* a notAfter at the moment of notBefore refused */
+    TEXTS_COMPARED = 65,          /* notBefore and notAfter compared by their octets */
+    NOT_AFTER_PLACE = 66,         /* a validity that runs backwards refused at its notAfter */
+    FIRST_LESS_SECOND = 67,       /* of two times that differ the first's moment less the second's */
+    SECONDS_IN_32_BITS = 68       /* the seconds between two times kept in 32 bits */
 };
 extern int reference_fault;
 

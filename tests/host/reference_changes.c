@@ -1,6 +1,7 @@
-/* What changed between two batches by document 02's A5, as a relation between their rows. Each row has a spot below its parent: a position,
- * or a kind with its occurrence. A row's counterpart is looked for at the row's spot among the children of its parent's counterpart. The
- * differences are collected row by row, of the first batch and then of the second, and put in order by the spots on the way to each. */
+/* What changed between two batches by document 02's A5 and A12, as a relation between their rows. Each row has a spot below its parent: a
+ * position, or a kind with its occurrence. A row's counterpart is looked for at the row's spot among the children of its parent's
+ * counterpart. The differences are collected row by row, of the first batch and then of the second, and put in order by the spots on the
+ * way to each. */
 #include "reference.h"
 
 #include "paper.h"
@@ -278,14 +279,38 @@ static reference_pair_answer listed(size_t edition, const uint8_t *first, size_t
     return (reference_pair_answer){ACCEPTED, 0, NEITHER, changes_found};
 }
 
+static int64_t moment_of(const File *file, size_t row)
+{
+    return reference_moment(octets_of(file, row), field(file, row, ROW_LENGTH));
+}
+
+/* "for two times that differ, second less first in seconds, else 0" */
+static int64_t seconds_of(const Change *change)
+{
+    size_t kind = kind_of(&one, change->first);
+    if (change->what != LEAVES_DIFFER || (kind != KIND_NOT_BEFORE && kind != KIND_NOT_AFTER))
+        return 0;
+    int64_t seconds = moment_of(&two, change->second) - moment_of(&one, change->first);
+    if (reference_fault == SECONDS_IN_32_BITS)
+        return (int32_t)seconds;
+    return reference_fault == FIRST_LESS_SECOND ? -seconds : seconds;
+}
+
+static int64_t entry_number(const Change *change, size_t column)
+{
+    switch (column) {
+    case ENTRY_WHAT: return (int64_t)change->what;
+    case ENTRY_FIRST: return (int64_t)change->first;
+    case ENTRY_SECOND: return (int64_t)change->second;
+    default: return seconds_of(change);
+    }
+}
+
 /* Writes the first numbers of the list. */
 static void fill_list(int64_t *entries, size_t numbers)
 {
-    for (size_t i = 0; i < numbers; i++) {
-        const Change *change = &changes[i / ENTRY_NUMBERS];
-        size_t column = i % ENTRY_NUMBERS;
-        entries[i] = (int64_t)(column == ENTRY_WHAT ? change->what : column == ENTRY_FIRST ? change->first : change->second);
-    }
+    for (size_t i = 0; i < numbers; i++)
+        entries[i] = entry_number(&changes[i / ENTRY_NUMBERS], i % ENTRY_NUMBERS);
 }
 
 reference_pair_answer reference_compare(size_t edition, const uint8_t *first, size_t first_length, const uint8_t *second,

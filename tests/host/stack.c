@@ -85,6 +85,15 @@ static void *cut_it(void *unused)
     return unused;
 }
 
+/* Of the input, and of one that is a notAfter. */
+static void *moment_it(void *unused)
+{
+    static const uint8_t limit[] = "\xA1\x11\x18\x0F" "99991231235959Z";
+    phagundro_moment(input, length);
+    phagundro_moment(limit, sizeof limit - 1);
+    return unused;
+}
+
 /* The list, with room and with none, the part of the first entry, and that of one past the last. */
 static void *compare_them(void *unused)
 {
@@ -188,6 +197,7 @@ static void measure_input(void)
     keep_most(&others, taken(judge_it));
     keep_most(&others, taken(join_it));
     keep_most(&others, taken(cut_it));
+    keep_most(&others, taken(moment_it));
     measure_comparing();
     keep_most(messages_of(table, rows) <= PHAGUNDRO_FEW_MESSAGES ? &others : &searching, taken(search_it));
     if (rows > 0)
