@@ -62,7 +62,7 @@ def numbers():
     found |= {f"PHAGUNDRO_FILE_{name}": file for file, name in enumerate(("NEITHER", "FIRST", "SECOND"))}
     found |= {f"PHAGUNDRO_ENTRY_{name}": column for column, name in enumerate(("WHAT", "FIRST", "SECOND", "SECONDS", "NUMBERS"))}
     found |= {f"PHAGUNDRO_{name}": what for what, name in enumerate(("ONLY_FIRST", "ONLY_SECOND", "LEAVES_DIFFER"), 1)}
-    found |= {"PHAGUNDRO_LONGEST": paper.LONGEST, "PHAGUNDRO_DEEPEST": paper.DEEPEST, "PHAGUNDRO_NO_MOMENT": -1}
+    found |= {"PHAGUNDRO_LONGEST": paper.LONGEST, "PHAGUNDRO_DEEPEST": paper.DEEPEST, "PHAGUNDRO_NO_MOMENT": paper.NO_MOMENT}
     return found | {"PHAGUNDRO_ROW_NUMBERS": paper.ROW_NUMBERS}
 
 
