@@ -41,7 +41,7 @@ INTERVALS = [
     ("1950-01-01 00:00:00", "9999-12-31 23:59:59", "2940201 days 23 hours 59 minutes 59 seconds"),
 ]
 
-# Moments that a batch can't have too, with their dates, and the seconds that document 02's own readings give
+# Moments with their dates, the first of them earlier than those of any batch
 MOMENTS = {
     0: "0000-01-01 00:00:00", 86_399: "0000-01-01 23:59:59", 86_400: "0000-01-02 00:00:00", 5_097_600: "0000-02-29 00:00:00",
     31_622_399: "0000-12-31 23:59:59", 31_622_400: "0001-01-01 00:00:00", 61_536_067_200: "1950-01-01 00:00:00",
