@@ -62,7 +62,7 @@ static void show_ratio(const char *name, int count, int of, int to)
     end_row();
 }
 
-void measure_batches(int count, char **paths)
+void measure_batches(int count, const char *const *paths)
 {
     for (int i = 0; i < count; i++)
         measure_calls(paths[i], &inputs[i]);

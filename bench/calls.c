@@ -18,6 +18,7 @@ static _Alignas(PAGE) uint8_t lent[PAGE / 2 + PHAGUNDRO_LONGEST];
 static uint8_t *const output = lent + PAGE / 2;
 static size_t table[MOST_NUMBERS], moved_rows[MOST_NUMBERS];
 static int64_t entries[PHAGUNDRO_ENTRY_NUMBERS * PHAGUNDRO_MOST_ENTRIES];
+static size_t times[PHAGUNDRO_MOST_ROWS], time_count; // the rows of notBefore and notAfter
 
 static bool copy(const uint8_t *bytes, size_t length)
 {
@@ -70,6 +71,16 @@ static bool do_cleared_read(void)
 {
     memset(table, 0, now.numbers * sizeof table[0]);
     return do_read();
+}
+
+static bool do_moments(void)
+{
+    bool right = true;
+    for (size_t i = 0; i < time_count; i++) {
+        const size_t *row = row_of(&now, times[i]);
+        right &= phagundro_moment(now.bytes + row[PHAGUNDRO_ROW_FIRST], row[PHAGUNDRO_ROW_LENGTH]) != PHAGUNDRO_NO_MOMENT;
+    }
+    return right;
 }
 
 static bool do_write(void)
@@ -159,6 +170,7 @@ static subject subjects[CALLS] = {
     [ACCEPT] = {"phagundro_accept", do_accept},
     [READ] = {"phagundro_read", do_read},
     [CLEARED] = {"phagundro_read, rows cleared first", do_cleared_read},
+    [MOMENT] = {"phagundro_moment", NULL},
     [WRITE] = {"phagundro_write", do_write},
     [MOVED] = {"phagundro_write, leaves elsewhere", do_write_moved},
     [VERDICT] = {"phagundro_verdict", do_verdict},
@@ -182,6 +194,18 @@ static void move_leaves(void)
         moved_rows[i + PHAGUNDRO_ROW_FIRST]++;
         moved_rows[i + PHAGUNDRO_ROW_CONTENT]++;
     }
+}
+
+// A batch without a validity has no moments, which are not timed then.
+static void take_times(void)
+{
+    time_count = 0;
+    for (size_t i = 0; i < now.numbers / PHAGUNDRO_ROW_NUMBERS; i++) {
+        size_t kind = row_of(&now, i)[PHAGUNDRO_ROW_KIND];
+        if (kind == PHAGUNDRO_KIND_NOT_BEFORE || kind == PHAGUNDRO_KIND_NOT_AFTER)
+            times[time_count++] = i;
+    }
+    subjects[MOMENT].run = time_count > 0 ? do_moments : NULL;
 }
 
 // Ends the program if a call doesn't write these bytes.
@@ -212,6 +236,7 @@ void measure_calls(const char *path, figures *taken)
         subjects[OPENSSL].run = NULL;
     take_input(path, &now);
     take_parts(&now, &apart);
+    take_times();
     move_leaves();
     check_outputs();
     best_times(subjects, CALLS, now.name, taken->best);

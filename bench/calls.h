@@ -6,14 +6,14 @@
 #include <stddef.h>
 
 enum {
-    COPY, LEAST, STRICT, STRICT_BY_CC, ACCEPT, READ, CLEARED, WRITE, MOVED, VERDICT, VERDICT_NUMBER, DUPLICATES, ACCEPT_BOTH, JOIN, CUT,
-    READ_BOTH, COMPARE, COMPARE_SAME, COMPARE_PART, OPENSSL, CALLS
+    COPY, LEAST, STRICT, STRICT_BY_CC, ACCEPT, READ, CLEARED, MOMENT, WRITE, MOVED, VERDICT, VERDICT_NUMBER, DUPLICATES, ACCEPT_BOTH, JOIN,
+    CUT, READ_BOTH, COMPARE, COMPARE_SAME, COMPARE_PART, OPENSSL, CALLS
 };
 
 typedef struct {
     size_t length, rows, messages;
     bool pair_found;    // by phagundro_duplicates, which stops at the first pair
-    double best[CALLS]; // seconds; 0 for one that isn't in this build
+    double best[CALLS]; // seconds; 0 for one that isn't in this build, or has nothing to do on the batch
 } figures;
 
 const char *call_name(int call);

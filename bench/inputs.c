@@ -1,8 +1,9 @@
-// Takes the batches that are measured from their files, with short names, and reads them.
+// Takes the batches that are measured from their files, with short names, or makes them, and reads them.
 #include "inputs.h"
 #include "names.h"
 #include "rounds.h"
 #include "show.h"
+#include "validity.h"
 
 #include <stdio.h>
 #include <string.h>
@@ -18,13 +19,12 @@ static const struct {
     {"openssl-regToken-60000", "token"},
 };
 
+const char *const made_names[MADE] = {"names", "validity"};
+static size_t (*const makers[MADE])(uint8_t *batch) = {names_batch, validity_batch};
+
 // A file is named as above or, if it isn't there, by itself without its folder and ending.
 static void name_input(const char *path, char *name)
 {
-    if (path == NULL) {
-        strcpy(name, "names");
-        return;
-    }
     const char *folder = strrchr(path, '/');
     snprintf(name, LONGEST_NAME + 1, "%s", folder != NULL ? folder + 1 : path);
     char *ending = strrchr(name, '.');
@@ -35,7 +35,7 @@ static void name_input(const char *path, char *name)
             strcpy(name, short_names[i].name);
 }
 
-void show_head(int count, char **paths)
+void show_head(int count, const char *const *paths)
 {
     begin_row("");
     for (int i = 0; i < count; i++) {
@@ -74,9 +74,12 @@ static void take_rows(input *taken)
 
 void take_input(const char *path, input *taken)
 {
+    int which = 0;
+    while (which < MADE && strcmp(path, made_names[which]) != 0)
+        which++;
     name_input(path, taken->name);
-    if (path == NULL)
-        taken->length = names_batch(taken->bytes);
+    if (which < MADE)
+        taken->length = makers[which](taken->bytes);
     else
         load(path, taken);
     take_rows(taken);

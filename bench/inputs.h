@@ -8,8 +8,12 @@ enum {
     EDITION = PHAGUNDRO_RFC4211,
     MOST_NUMBERS = PHAGUNDRO_ROW_NUMBERS * PHAGUNDRO_MOST_ROWS,
     MOST_INPUTS = 32,
-    LONGEST_NAME = 40
+    LONGEST_NAME = 40,
+    MADE = 2 // batches that the benchmarks make themselves
 };
+
+// The names of these, which stand for paths; a file of such a name is given with its folder.
+extern const char *const made_names[MADE];
 
 typedef struct {
     char name[LONGEST_NAME + 1];          // for the head of a column
@@ -24,9 +28,9 @@ typedef struct {
 const size_t *row_of(const input *of, size_t position);
 
 // The head of a table: a column for each input.
-void show_head(int count, char **paths);
+void show_head(int count, const char *const *paths);
 
-// Takes the batch of a file or, where the path is NULL, that of names.h. A batch that is not accepted ends the program.
+// Takes the batch of a file, or makes it if the path is one of made_names. A batch that is not accepted ends the program.
 void take_input(const char *path, input *taken);
 
 #endif

@@ -165,7 +165,7 @@ static void measure(const char *path, double *best)
     best_times(calls, 2 * VARIANTS, now.name, best);
 }
 
-void measure_refusals(int count, char **paths)
+void measure_refusals(int count, const char *const *paths)
 {
     static double best[MOST_INPUTS][2 * VARIANTS];
     for (int i = 0; i < count; i++)

@@ -6,7 +6,7 @@
 
 enum { ROUNDS = 150 };
 
-// What is timed. A subject without a function isn't in this build, and its time is 0.
+// What is timed. A subject without a function isn't timed: its time is 0.
 typedef struct {
     const char *name;
     bool (*run)(void);

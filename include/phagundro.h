@@ -34,7 +34,7 @@
 extern "C" {
 #endif
 
-#define PHAGUNDRO_VERSION "0.2"
+#define PHAGUNDRO_VERSION "0.3"
 
 /* Limits. */
 enum {
@@ -137,7 +137,7 @@ enum {
     PHAGUNDRO_KIND_MESSAGE           = 2,  /* message */
     PHAGUNDRO_KIND_CERT_REQ          = 3,  /* certReq, of a message or carried in regInfo */
     PHAGUNDRO_KIND_CERT_TEMPLATE     = 5,  /* template, which may have no rows below it */
-    PHAGUNDRO_KIND_VALIDITY          = 14, /* validity */
+    PHAGUNDRO_KIND_VALIDITY          = 14, /* validity, in which notAfter is not earlier than notBefore */
     PHAGUNDRO_KIND_EXTENSIONS        = 19, /* extensions */
     PHAGUNDRO_KIND_CONTROLS          = 30, /* controls */
     PHAGUNDRO_KIND_SIGNATURE         = 51, /* signature */
@@ -158,8 +158,8 @@ enum {
     PHAGUNDRO_KIND_PUBLIC_KEY    = 16, /* publicKey */
     PHAGUNDRO_KIND_ISSUER_UID    = 17, /* issuerUID, edition 1 only */
     PHAGUNDRO_KIND_SUBJECT_UID   = 18, /* subjectUID, edition 1 only */
-    PHAGUNDRO_KIND_NOT_BEFORE    = 20, /* notBefore, in validity */
-    PHAGUNDRO_KIND_NOT_AFTER     = 21, /* notAfter, in validity */
+    PHAGUNDRO_KIND_NOT_BEFORE    = 20, /* notBefore, in validity; phagundro_moment tells when it is */
+    PHAGUNDRO_KIND_NOT_AFTER     = 21, /* notAfter, in validity; likewise */
     PHAGUNDRO_KIND_EXTENSION     = 22, /* extension, one of extensions */
 
     /* of controls */
@@ -194,6 +194,17 @@ enum {
  * Accepted: the first PHAGUNDRO_ROW_NUMBERS times count numbers of the table are the rows, and the numbers after them are as they were.
  * Refused: count is 0, and the whole table is as it was. */
 phagundro_answer phagundro_read(size_t edition, const uint8_t *bytes, size_t length, size_t *table, size_t room);
+
+/* Answered by phagundro_moment for bytes that show no moment; every moment is greater. */
+enum { PHAGUNDRO_NO_MOMENT = -1 };
+
+/* Tells the moment that a notBefore or a notAfter shows, given the bytes of its row: its whole element, A0 or A1 around a time. A moment
+ * is the number of seconds since 0000-01-01 00:00:00, in the Gregorian calendar without leap seconds.
+ *
+ * The time is a UTCTime, whose two-digit years are those from 1950 to 2049, or a GeneralizedTime of a year from 2050 on. So the moments of
+ * an accepted batch are from 61536067200, 1950-01-01 00:00:00, to 315569519999, 9999-12-31 23:59:59. Answers PHAGUNDRO_NO_MOMENT for any
+ * other bytes, the row's with a byte more or less included. */
+int64_t phagundro_moment(const uint8_t *bytes, size_t length);
 
 /* Writes the batch that a draft describes in an edition.
  *
@@ -310,13 +321,14 @@ phagundro_pair_answer phagundro_join(size_t edition, const uint8_t *first, size_
  * Cutting at every position and joining what comes back, in order, gives the batch's bytes again. */
 phagundro_answer phagundro_cut(size_t edition, const uint8_t *bytes, size_t length, size_t position, uint8_t *output, size_t room);
 
-/* An entry: the numbers that a comparison has of each difference. A row is counted as phagundro_read shows it; row 0, the batch, is in no
- * entry. */
+/* An entry: the numbers that a comparison has of each difference. There are four of them since version 0.3; version 0.2 had the first three
+ * alone. A row is counted as phagundro_read shows it; row 0, the batch, is in no entry. The seconds may be negative. */
 enum {
     PHAGUNDRO_ENTRY_WHAT    = 0, /* what the difference is: one of the next three names */
     PHAGUNDRO_ENTRY_FIRST   = 1, /* the field's row in the first batch; 0 where it has none */
     PHAGUNDRO_ENTRY_SECOND  = 2, /* the field's row in the second batch; 0 where it has none */
-    PHAGUNDRO_ENTRY_NUMBERS = 3  /* the numbers of an entry */
+    PHAGUNDRO_ENTRY_SECONDS = 3, /* for a notBefore or notAfter that differs: the second's moment less the first's, in seconds; else 0 */
+    PHAGUNDRO_ENTRY_NUMBERS = 4  /* the numbers of an entry; 3 in 0.2 */
 };
 
 /* What the difference of an entry is. */

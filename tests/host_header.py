@@ -39,6 +39,7 @@ STRUCTS = {
 CALLS = {
     "phagundro_accept": ("size_t", "size_t, const uint8_t *, size_t"),
     "phagundro_read": ("phagundro_answer", "size_t, const uint8_t *, size_t, size_t *, size_t"),
+    "phagundro_moment": ("int64_t", "const uint8_t *, size_t"),
     "phagundro_write": ("phagundro_answer", "size_t, const size_t *, size_t, const uint8_t *, size_t, uint8_t *, size_t"),
     "phagundro_verdict": ("phagundro_verdict_answer", "size_t, const uint8_t *, size_t, size_t"),
     "phagundro_verdict_number": ("size_t", "size_t, const uint8_t *, size_t, size_t"),
@@ -59,9 +60,10 @@ def numbers():
     columns = ("KIND", "FIRST", "LENGTH", "PARENT", "CONTENT")
     found |= {f"PHAGUNDRO_ROW_{name}": column for column, name in enumerate(columns)}
     found |= {f"PHAGUNDRO_FILE_{name}": file for file, name in enumerate(("NEITHER", "FIRST", "SECOND"))}
-    found |= {f"PHAGUNDRO_ENTRY_{name}": column for column, name in enumerate(("WHAT", "FIRST", "SECOND", "NUMBERS"))}
+    found |= {f"PHAGUNDRO_ENTRY_{name}": column for column, name in enumerate(("WHAT", "FIRST", "SECOND", "SECONDS", "NUMBERS"))}
     found |= {f"PHAGUNDRO_{name}": what for what, name in enumerate(("ONLY_FIRST", "ONLY_SECOND", "LEAVES_DIFFER"), 1)}
-    return found | {"PHAGUNDRO_ROW_NUMBERS": paper.ROW_NUMBERS, "PHAGUNDRO_LONGEST": paper.LONGEST, "PHAGUNDRO_DEEPEST": paper.DEEPEST}
+    found |= {"PHAGUNDRO_LONGEST": paper.LONGEST, "PHAGUNDRO_DEEPEST": paper.DEEPEST, "PHAGUNDRO_NO_MOMENT": paper.NO_MOMENT}
+    return found | {"PHAGUNDRO_ROW_NUMBERS": paper.ROW_NUMBERS}
 
 
 def examples():

@@ -9,7 +9,9 @@ import changes_model
 import corpus
 import crmf_cases
 import joining_cases
+import moment_model
 import tool
+import tool_dates
 import tool_texts
 from paper import LONGEST, Answer, File, Kind, What
 from tool_joining import EDITION_NAMES, SMALLEST, accepted, refused
@@ -65,6 +67,7 @@ TEXTS = {
         ("control6{30{30{06{2A03}} 03{00}}}", "1.2.3"), ("free{02{05}}", "1.2.3; 5"), ("free{0A{FB}}", "1.2.3; -5"),
         ("free{01{00}}", "1.2.3; FALSE"), ("free{01{FF}}", "1.2.3; TRUE"), ("free{04{020105}}", "1.2.3"), ("free{1E{0061}}", "1.2.3"),
         ('free{16{"i"}}', '1.2.3; "i"'), ('free{17{"x" 0A}}', r"1.2.3; x\u000A"), ("free{31{}}", "1.2.3"),
+        ('free{17{"240229120000Z"}}', "1.2.3; 240229120000Z"), ('free{A0{18{"20600229120000Z"}}}', "1.2.3; 20600229120000Z"),
         ("free{31{02{01} 02{02}}}", "1.2.3; 1; 2"),
         ('free{30{cn{0C{"a"}} 02{01} cn{0C{"b"}}}}', "1.2.3; CN=a; 1; CN=b"), ("free{A0{30{02{01}} 82{02}}}", "1.2.3; 1"),
         (f'control1{{0C{{"a"*{LONGEST_TEXT - 2}}}}}', f'"{"a" * (LONGEST_TEXT - 2)}"'),
@@ -78,7 +81,7 @@ TEXTS = {
             r'"\xC0\x80\xE0\x80\x80\xED\xA0\x80\xF4\x90\x80\x80\xF8\x80' + "é" + r'\xE2\x82"'),
     ],
     'template{A4{A1{17{"491231235959Z"}}}}': [
-        ('begins{17{"240229120000Z"}}', "240229120000Z"), ('begins{18{"20600229120000Z"}}', "20600229120000Z"),
+        ('begins{17{"240229120000Z"}}', "2024-02-29 12:00:00 UTC"), ('begins{18{"20600229120000Z"}}', "2060-02-29 12:00:00 UTC"),
     ],
     "template{A9{extension}}": [("template{A9{30{06{551D0F} 01{FF} 04{03}}}}", "2.5.29.15; TRUE")],
     "proof{A2{80{00}}}": [("proof{A2{81{01}}}", "1")],
@@ -144,6 +147,8 @@ def shown(field, common):
     if field.number == 0:
         return None
     found = {"row": field.number, "from": field.place, "length": len(field.octets)}
+    if field.kind in tool_dates.KINDS:
+        found["moment"] = moment_model.shown(field.octets)
     if common is None:
         return found
     start = max(0, common - BEFORE)
@@ -153,13 +158,13 @@ def shown(field, common):
 
 def expected(first, second):
     """What --json has to say of the entries of two files, given by their fields, but their texts."""
-    for what, row, other in changes_model.below(first[0], second[0]):
+    for what, row, other, seconds in changes_model.below(first[0], second[0]):
         named, common = first[row] if row else second[other], None
         if what == What.LEAVES_DIFFER:
             octet_pairs = zip(first[row].octets, second[other].octets)
             common = next(at for at, (left, right) in enumerate(octet_pairs) if left != right)
-        yield {"what": what, "says": SAYS[what], "kind": named.kind, "name": kind_names()[named.kind], "path": named.path,
-               "first": shown(first[row], common), "second": shown(second[other], common)}
+        yield {"what": what, "says": SAYS[what], "seconds": seconds, "kind": named.kind, "name": kind_names()[named.kind],
+               "path": named.path, "first": shown(first[row], common), "second": shown(second[other], common)}
 
 
 def without_texts(entry):
@@ -181,12 +186,13 @@ def bracketed(side):
 
 def words_of(entry, names):
     """The lines that the tool has to show of an entry, by what --json says of it."""
+    names = list(names)
     places = {name: f"{side['length']} bytes from byte {side['from']}" + (f": {side['text']}" if side["text"] else "")
               for name, side in zip(names, map(entry.get, SIDES), strict=True) if side}
     path = " / ".join(entry["path"])
     if entry["what"] != What.LEAVES_DIFFER:
         return [f"{path}: only in {name}, {place}" for name, place in places.items()]
-    lines = [f"{path}: differs"]
+    lines = [f"{path}: differs" + (f", {tool_dates.interval(entry['seconds'])} in {names[-1]}" if entry["seconds"] else "")]
     for (name, place), side in zip(places.items(), SIDES, strict=True):
         lines += [f"  {name}: {place}", bracketed(entry[side])]
     return lines

@@ -1,11 +1,14 @@
 /* Comparisons shown: each entry by the field's path, what either file has there and, where leaves differ, the octets around the first that
- * differs. */
+ * differs, and of times the interval between them. */
 #include "compare.h"
 
+#include "dates.h"
 #include "fields.h"
 #include "meanings.h"
 #include "paths.h"
 #include "show.h"
+
+#include <inttypes.h>
 
 enum { BEFORE = 8 }; /* octets shown before the first that differs, at most */
 
@@ -19,8 +22,7 @@ static void take_sides(const comparison *of)
 
 static span bytes_of(const placed_rows *of, size_t row)
 {
-    const size_t *field = row_of(of->table, row);
-    return (span){of->batch.bytes + field[PHAGUNDRO_ROW_FIRST], field[PHAGUNDRO_ROW_LENGTH]};
+    return element_of(row_of(of->table, row), of->batch);
 }
 
 /* What a leaf says. A field with rows below it says nothing. */
@@ -78,6 +80,14 @@ static void show_field(const placed_rows *of, size_t row)
         says.chars);
 }
 
+/* How much later or earlier the second batch's time is than the first's. */
+static void show_interval(const comparison *of, int64_t seconds)
+{
+    text interval = {0};
+    put_interval(&interval, seconds);
+    printf(", %s in %s", interval.chars, shown_name(of->names[SECOND]));
+}
+
 static void show_entry(const comparison *of, const int64_t *entry)
 {
     size_t naming = naming_side(entry);
@@ -87,7 +97,10 @@ static void show_entry(const comparison *of, const int64_t *entry)
         show_field(&sides[naming], row_in(entry, naming));
         return;
     }
-    puts(": differs");
+    fputs(": differs", stdout);
+    if (entry[PHAGUNDRO_ENTRY_SECONDS] != 0)
+        show_interval(of, entry[PHAGUNDRO_ENTRY_SECONDS]);
+    putchar('\n');
     for (size_t i = 0; i < SIDES; i++) {
         surroundings octets = around(&sides[i], row_in(entry, i), common_octets(entry));
         printf("  %s: ", shown_name(of->names[i]));
@@ -121,6 +134,7 @@ static void json_field(const int64_t *entry, size_t i)
     printf("{\"row\": %zu, \"from\": %zu, \"length\": %zu, \"text\": ", row, row_of(of->table, row)[PHAGUNDRO_ROW_FIRST],
         row_of(of->table, row)[PHAGUNDRO_ROW_LENGTH]);
     json_string(says.chars);
+    json_moment(row_of(of->table, row), of->batch);
     if (differs(entry)) {
         surroundings octets = around(of, row, common_octets(entry));
         printf(", \"differs\": %zu, \"around\": %zu, \"octets\": ", octets.place, octets.start);
@@ -133,8 +147,9 @@ static void json_entry(const int64_t *entry)
 {
     const placed_rows *named = &sides[naming_side(entry)];
     size_t row = row_in(entry, naming_side(entry)), kind = row_of(named->table, row)[PHAGUNDRO_ROW_KIND];
-    printf("{\"what\": %d, \"says\": \"%s\", \"kind\": %zu, \"name\": \"%s\", \"path\": [\"", (int)entry[PHAGUNDRO_ENTRY_WHAT],
-        change_of((size_t)entry[PHAGUNDRO_ENTRY_WHAT]), kind, kind_name(kind));
+    printf("{\"what\": %d, \"says\": \"%s\", \"seconds\": %" PRId64 ", \"kind\": %zu, \"name\": \"%s\", \"path\": [\"",
+        (int)entry[PHAGUNDRO_ENTRY_WHAT], change_of((size_t)entry[PHAGUNDRO_ENTRY_WHAT]), entry[PHAGUNDRO_ENTRY_SECONDS], kind,
+        kind_name(kind));
     show_path(named, row, "\", \"");
     fputs("\"], \"first\": ", stdout);
     json_field(entry, FIRST);

@@ -2,6 +2,7 @@
 #include "fields.h"
 
 #include "../include/phagundro.h"
+#include "dates.h"
 #include "identifiers.h"
 
 #include <string.h>
@@ -151,10 +152,21 @@ static uint8_t shown_as(size_t kind, uint8_t identifier)
     }
 }
 
+int64_t field_moment(size_t kind, span whole)
+{
+    bool shows = kind == PHAGUNDRO_KIND_NOT_BEFORE || kind == PHAGUNDRO_KIND_NOT_AFTER;
+    return shows ? phagundro_moment(whole.bytes, whole.length) : PHAGUNDRO_NO_MOMENT;
+}
+
 text field_text(size_t kind, span whole)
 {
     text out = {0};
     element field, type, value;
+    int64_t moment = field_moment(kind, whole);
+    if (moment != PHAGUNDRO_NO_MOMENT) {
+        put_date(&out, moment);
+        return out;
+    }
     if (!next_element(&whole, &field))
         return out;
     if (tells_type(kind) && is_attribute(field, &type, &value))

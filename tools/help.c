@@ -45,11 +45,15 @@ const char general_help[] =
 const char read_help[] =
     "phagundro read --edition N [--hex] [--numbers | --json] [FILE]\n"
     "\n"
-    "Reads a batch in an edition and shows its fields as a tree: row, first byte, whole length, content's first byte and name.\n"
+    "Reads a batch in an edition and shows its fields as a tree: row, first byte, whole length, content's first byte and name, with a\n"
+    "message's position, a certReqId's number and the date of a notBefore or notAfter.\n"
     INPUT_HELP EDITION_HELP
     "  --numbers      the rows as plain numbers, a row a line: kind, first byte, whole length, parent's row, content's first byte\n"
-    "  --json         the answer and the rows as JSON\n"
-    STATUS_HELP FAULTS_HELP;
+    "  --json         the answer and the rows as JSON; a notBefore or notAfter has its date as its text, and its moment, the number of\n"
+    "                 seconds since 0000-01-01 00:00:00\n"
+    STATUS_HELP FAULTS_HELP
+    "In a validity a time through 2049 must be a UTCTime and a later one a GeneralizedTime, and notAfter must not be earlier than\n"
+    "notBefore; else the batch is refused with number 8.\n";
 
 const char write_help[] =
     "phagundro write --edition N [--hex] [--output FILE] ROWS SLICE\n"
@@ -126,8 +130,9 @@ const char compare_help[] =
     "Compares two batches and shows every field that only one of them has, and every field of both whose bytes differ. Each is a batch\n"
     "in DER, and one of them may be -, standard input. A message, a control, an item of regInfo and an extension is compared with the\n"
     "one at the same position. A field is a line with its path from the message down. For one that differs, a line for each file has\n"
-    "its place and its text, and below it are the bytes around the first that differs, which is in brackets.\n"
+    "its place and its text, and below it are the bytes around the first that differs, which is in brackets. A notBefore or notAfter is\n"
+    "shown as a date; if it differs, its line says how much later or earlier it is in SECOND: 1 second later, 2 days 3 hours earlier.\n"
     BATCHES_HEX_HELP EDITION_HELP
-    "  --json         the answer and the entries as JSON\n"
+    "  --json         the answer and the entries as JSON; \"seconds\" is SECOND's moment less FIRST's, and 0 for what is no time\n"
     "Exit status: 0 the same bytes, 1 different, 2 refused, or usage or file trouble.\n"
     "A refusal is shown with the file that it is about: FIRST, or SECOND if FIRST is accepted.\n";

@@ -65,7 +65,7 @@ static void json_reading(size_t edition, phagundro_answer answer, octets batch)
     putchar('{');
     json_answer(edition, answer.number, answer.place, batch);
     printf(", \"count\": %zu, \"rows\": ", answer.count);
-    json_rows(table, answer.count);
+    json_rows(table, answer.count, batch);
     putchar('}');
 }
 

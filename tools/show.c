@@ -2,7 +2,7 @@
 #include "show.h"
 
 #include "differences.h"
-#include "elements.h"
+#include "fields.h"
 #include "meanings.h"
 
 #include <inttypes.h>
@@ -54,6 +54,11 @@ const size_t *row_of(const size_t *table, size_t row)
     return table + PHAGUNDRO_ROW_NUMBERS * row;
 }
 
+span element_of(const size_t *row, octets batch)
+{
+    return (span){batch.bytes + row[PHAGUNDRO_ROW_FIRST], row[PHAGUNDRO_ROW_LENGTH]};
+}
+
 /* The number of rows above a row. */
 static size_t depth_of(const size_t *table, size_t row)
 {
@@ -70,6 +75,14 @@ static int64_t id_of(const size_t *row, octets batch)
     return signed_number((span){batch.bytes + row[PHAGUNDRO_ROW_CONTENT], row[PHAGUNDRO_ROW_LENGTH] - header});
 }
 
+/* The date of a notBefore or notAfter; nothing for any other row. */
+static text date_of(const size_t *row, octets batch)
+{
+    size_t kind = row[PHAGUNDRO_ROW_KIND];
+    span whole = element_of(row, batch);
+    return field_moment(kind, whole) == PHAGUNDRO_NO_MOMENT ? (text){0} : field_text(kind, whole);
+}
+
 void show_tree(size_t edition, const size_t *table, size_t count, octets batch)
 {
     size_t position = 0;
@@ -77,6 +90,7 @@ void show_tree(size_t edition, const size_t *table, size_t count, octets batch)
     printf("%6s %6s %6s %7s  field\n", "row", "byte", "length", "content");
     for (size_t i = 0; i < count; i++) {
         const size_t *row = row_of(table, i);
+        text date = date_of(row, batch);
         int indent = (int)(2 * depth_of(table, i));
         printf("%6zu %6zu %6zu %7zu  %*s%s", i, row[PHAGUNDRO_ROW_FIRST], row[PHAGUNDRO_ROW_LENGTH], row[PHAGUNDRO_ROW_CONTENT], indent,
             "", kind_name(row[PHAGUNDRO_ROW_KIND]));
@@ -84,6 +98,8 @@ void show_tree(size_t edition, const size_t *table, size_t count, octets batch)
             printf(" at position %zu", position++);
         if (row[PHAGUNDRO_ROW_KIND] == PHAGUNDRO_KIND_CERT_REQ_ID)
             printf(" %" PRId64, id_of(row, batch));
+        if (date.length > 0)
+            printf(" %s", date.chars);
         putchar('\n');
     }
 }
@@ -121,14 +137,28 @@ void json_line(size_t start, octets batch)
     putchar('"');
 }
 
-void json_rows(const size_t *table, size_t count)
+void json_moment(const size_t *row, octets batch)
+{
+    int64_t moment = field_moment(row[PHAGUNDRO_ROW_KIND], element_of(row, batch));
+    if (moment != PHAGUNDRO_NO_MOMENT)
+        printf(", \"moment\": %" PRId64, moment);
+}
+
+void json_rows(const size_t *table, size_t count, octets batch)
 {
     putchar('[');
     for (size_t i = 0; i < count; i++) {
         const size_t *row = row_of(table, i);
-        printf("%s\n  {\"kind\": %zu, \"name\": \"%s\", \"first\": %zu, \"length\": %zu, \"parent\": %zu, \"content\": %zu}",
+        text date = date_of(row, batch);
+        printf("%s\n  {\"kind\": %zu, \"name\": \"%s\", \"first\": %zu, \"length\": %zu, \"parent\": %zu, \"content\": %zu",
             i == 0 ? "" : ",", row[PHAGUNDRO_ROW_KIND], kind_name(row[PHAGUNDRO_ROW_KIND]), row[PHAGUNDRO_ROW_FIRST],
             row[PHAGUNDRO_ROW_LENGTH], row[PHAGUNDRO_ROW_PARENT], row[PHAGUNDRO_ROW_CONTENT]);
+        if (date.length > 0) {
+            fputs(", \"text\": ", stdout);
+            json_string(date.chars);
+            json_moment(row, batch);
+        }
+        putchar('}');
     }
     putchar(']');
 }
