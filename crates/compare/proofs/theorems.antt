@@ -23,4 +23,5 @@ pub mod Bounded
 pub mod TheList
 pub mod OneAnswer
 pub mod SecondsLater
+pub mod TimesApart
 pub mod SecondsVectors

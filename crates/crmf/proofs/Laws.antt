@@ -23,7 +23,7 @@
 --     listed              every difference that occurs is on the list (`differences`), so its number is one of 1 to 4 (`numbered`), and a fourth is
 --                         edition 1's (`fourth-first`); each on the list is the mark that some form's marking gives (`listed-marks`)
 --     forwards-exactly    A12: a validity's octets run forwards exactly if its elements do (`Forwards`)
---     times-shown         each row of notBefore or notAfter of a batch shows a moment
+--     times-shown         each row of notBefore or notAfter of a batch shows a moment; they are leaves (`time-leaf`)
 --     validities-forwards each row of a validity runs forwards
 --     fourth-exactly      a fourth difference (`fourth`) occurs exactly where a row shows a field that edition 2 has left out (`LeftOut`); rows that
 --                         show the same pieces show the same such fields (`left-out-too`)
@@ -157,9 +157,9 @@ pub use Rattle.crmf.proofs.theorems.grammar.Choices.{Choice, taking, ch
 pub use Rattle.crmf.proofs.theorems.editions.FirstSeen.{Edition, first-edition, second-edition, firstSeen, after, seenOf, walk-seen}
 pub use Rattle.crmf.proofs.theorems.editions.ListedDifferences.{listed, numbered, fourth-first, listed-marks}
 pub use Rattle.crmf.proofs.theorems.values.ValidityOrder.{forwards-exactly}
-pub use Rattle.crmf.proofs.theorems.rows.TimeRows.{times-shown, validities-forwards}
+pub use Rattle.crmf.proofs.theorems.rows.TimeRows.{time-leaf, times-shown, validities-forwards}
 pub use Rattle.crmf.proofs.theorems.editions.LeftOutFields.{fourth, fourth-exactly}
-pub use Rattle.crmf.proofs.theorems.pieces.LeftOutPieces.{left-out-too}
+pub use Rattle.crmf.proofs.theorems.pieces.LeftOutPieces.{piece-among, left-out-too}
 pub use Rattle.crmf.proofs.theorems.editions.Marks.{trail-occurrences, marks-met}
 pub use Rattle.crmf.proofs.theorems.editions.FirstForms.{FirstForm, forms-exactly}
 pub use Rattle.crmf.proofs.theorems.editions.AscendingPlaces.{Ascends, ascends-least, trail-ascends, occurrences-ascend, first-least}

@@ -1,2 +1,2 @@
 -- What the code's functions answer.
-pub mod Told
+pub mod Moments

@@ -7,7 +7,7 @@ ghost use mathlib.Core.Option.{Option·getD, bind};
 ghost use lib.ListN.{length};
 ghost use Rattle.time.specs.meaning.Calendar.{moment};
 ghost use Rattle.time.specs.meaning.Time as time;
-ghost use Rattle.time.specs.steps.Told.{told};
+ghost use Rattle.time.specs.steps.Moments.{asMoment};
 
 // The first year that stands as GeneralizedTime.
 const FIRST_GENERALIZED_YEAR: usize = 2050;
@@ -35,7 +35,7 @@ fn pair_at(content: &[u8], i: usize) -> usize
 // The moment of a year whose month, day, hour, minute and second are written from i on, with Z after them.
 fn moment_at(year: usize, content: &[u8], i: usize) -> Moment
     requires { ⌜ (year ≤ 9999) × (i + 10 < length (now content)) ⌝ }
-    ensures { λ r. ⌜ r ≡ told (bind (time.dateAt year (now (content .entry)) i) moment) ⌝ }
+    ensures { λ r. ⌜ r ≡ asMoment (bind (time.dateAt year (now (content .entry)) i) moment) ⌝ }
 {
     let month = pair_at(content, i);
     let day = pair_at(content, i + 2);
@@ -63,7 +63,7 @@ fn century(year: usize) -> usize
 
 // The moment that the content octets of a UTCTime show.
 pub fn utc_time(content: &[u8]) -> Moment
-    ensures { λ r. ⌜ r ≡ told (time.utcMoment (now (content .entry))) ⌝ }
+    ensures { λ r. ⌜ r ≡ asMoment (time.utcMoment (now (content .entry))) ⌝ }
 {
     if content.len() != 13 {
         return Moment::Missing;
@@ -77,7 +77,7 @@ pub fn utc_time(content: &[u8]) -> Moment
 
 // The moment that the content octets of a GeneralizedTime show.
 pub fn generalized_time(content: &[u8]) -> Moment
-    ensures { λ r. ⌜ r ≡ told (time.generalizedMoment (now (content .entry))) ⌝ }
+    ensures { λ r. ⌜ r ≡ asMoment (time.generalizedMoment (now (content .entry))) ⌝ }
 {
     if content.len() != 15 {
         return Moment::Missing;

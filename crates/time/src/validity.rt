@@ -4,7 +4,7 @@ use crate::time;
 ghost use mathlib.Core.Path.{_≡_};
 ghost use Rattle.time.specs.meaning.Time.{timeMoment};
 ghost use Rattle.time.specs.meaning.Validity as validity;
-ghost use Rattle.time.specs.steps.Told.{told};
+ghost use Rattle.time.specs.steps.Moments.{asMoment};
 
 // Whether the octets are an element with one length octet.
 fn is_short(element: &[u8]) -> bool
@@ -18,7 +18,7 @@ fn is_short(element: &[u8]) -> bool
 
 // The moment that an element with the identifier and the content shows.
 fn time_moment(identifier: u8, content: &[u8]) -> Moment
-    ensures { λ r. ⌜ r ≡ told (timeMoment identifier (now (content .entry))) ⌝ }
+    ensures { λ r. ⌜ r ≡ asMoment (timeMoment identifier (now (content .entry))) ⌝ }
 {
     match identifier {
         0x17 => time::utc_time(content),
@@ -29,7 +29,7 @@ fn time_moment(identifier: u8, content: &[u8]) -> Moment
 
 // The moment that the element of a Time shows.
 fn element_moment(element: &[u8]) -> Moment
-    ensures { λ r. ⌜ r ≡ told (validity.elementMoment (now (element .entry))) ⌝ }
+    ensures { λ r. ⌜ r ≡ asMoment (validity.elementMoment (now (element .entry))) ⌝ }
 {
     if !is_short(element) {
         return Moment::Missing;
@@ -39,7 +39,7 @@ fn element_moment(element: &[u8]) -> Moment
 
 // The moment that the element of notBefore or notAfter shows, with its identifier and its length.
 pub fn shown_moment(field: &[u8]) -> Moment
-    ensures { λ r. ⌜ r ≡ told (validity.shownMoment (now (field .entry))) ⌝ }
+    ensures { λ r. ⌜ r ≡ asMoment (validity.shownMoment (now (field .entry))) ⌝ }
 {
     if !is_short(field) {
         return Moment::Missing;

@@ -33,7 +33,7 @@ abbrev pub TimeKind : ℕ → Type 0
 TimeKind kind = (kind ≡ kinds.notBefore) ⊎ (kind ≡ kinds.notAfter)
 
 -- the test of kinds tells this
-time-kind : (kind : ℕ) → TimeKind kind → isTimeKind kind ≡ true
+pub time-kind : (kind : ℕ) → TimeKind kind → isTimeKind kind ≡ true
 unfolding isTimeKind
 time-kind kind (inl is) = rw is
 time-kind kind (inr is) = rw is

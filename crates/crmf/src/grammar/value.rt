@@ -8,7 +8,7 @@ use time::validity::forwards;
 ghost use Prim.Native.Nat.{ℕ, _+_, _≤_};
 ghost use mathlib.Core.Path.{_≡_};
 ghost use mathlib.Core.Option.{Option, Option·getD};
-ghost use Rattle.time.specs.steps.Told.{told};
+ghost use Rattle.time.specs.steps.Moments.{asMoment};
 ghost use Rattle.crmf.specs.meaning.Value as value;
 ghost use Rattle.crmf.specs.meaning.Value.{Rule, Selector};
 ghost use Rattle.crmf.specs.steps.grammar.Lines.{keep, choose};
@@ -54,7 +54,7 @@ pub(crate) fn is_two(content: &[u8]) -> bool
 
 // Whether a moment is shown.
 fn is_shown(moment: Moment) -> bool
-    ensures { λ r. ⌜ ((o : Option ℕ) → moment ≡ told o → r ≡ value.isShown o) ⌝ }
+    ensures { λ r. ⌜ ((o : Option ℕ) → moment ≡ asMoment o → r ≡ value.isShown o) ⌝ }
 {
     match moment {
         Moment::At(seconds) => true,

@@ -4,20 +4,20 @@ use mathlib.Core.Option.{Option, some, none}
 use mathlib.Core.Path.{_≡_, refl, sym, ap, _∙_}
 use Rattle.time.specs.declared.moment.Moment.{Moment}
 use Rattle.time.specs.declared.moment.Moment.the-variants.{At, Missing}
-use Rattle.time.specs.steps.Told.{told}
+use Rattle.time.specs.steps.Moments.{asMoment}
 
 -- the moment of an answer, if it has one
 abbrev said : Moment → Option ℕ
 said (At n) = some n
 said Missing = none
 
-said-told : (o : Option ℕ) → said (told o) ≡ o
-unfolding told
+said-told : (o : Option ℕ) → said (asMoment o) ≡ o
+unfolding asMoment
 said-told none = refl
 said-told (some n) = refl
 
-pub told-at : (o : Option ℕ) (m : Moment) (n : ℕ) → m ≡ told o → m ≡ At n → o ≡ some n
+pub told-at : (o : Option ℕ) (m : Moment) (n : ℕ) → m ≡ asMoment o → m ≡ At n → o ≡ some n
 told-at o m n is at = sym (said-told o) ∙ ap said (sym is ∙ at)
 
-pub told-missing : (o : Option ℕ) (m : Moment) → m ≡ told o → m ≡ Missing → o ≡ none
+pub told-missing : (o : Option ℕ) (m : Moment) → m ≡ asMoment o → m ≡ Missing → o ≡ none
 told-missing o m is missing = sym (said-told o) ∙ ap said (sym is ∙ missing)

@@ -19,7 +19,7 @@ use Rattle.crmf.proofs.theorems.rows.RowContents.{content-same}
 use Rattle.crmf.proofs.theorems.pieces.Agreeing.{leaf-octets}
 
 -- the row at the same place of two lists that show the same pieces shows the same piece
-piece-among : (s u : List ℕ) (rs qs : List Row) → piecesOf s rs ≡ piecesOf u qs → (r : Row) → List·Memᴰ r rs
+pub piece-among : (s u : List ℕ) (rs qs : List Row) → piecesOf s rs ≡ piecesOf u qs → (r : Row) → List·Memᴰ r rs
     → (q : Row) × List·Memᴰ q qs × (pieceOf s r ≡ pieceOf u q)
 unfolding piecesOf
 piece-among s u [] qs same r at = absurd (List·Memᴰ·not-nil at)

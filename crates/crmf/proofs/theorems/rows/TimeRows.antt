@@ -18,7 +18,7 @@ use Rattle.crmf.specs.meaning.Value.{someForwards, isEmpty, keeps}
 use Rattle.crmf.specs.meaning.Notation.{Identifiers, octet, generalName, anything, nothing, among, named, Name, names, order, Top, Time, Inside, free, holds, Form, Parts}
 use Rattle.crmf.specs.meaning.Grammar.{content}
 use Rattle.crmf.specs.meaning.Language.{Matches, end, pass, take, choose, Within, unseen, parts}
-use Rattle.crmf.specs.meaning.Rows.{Row, headerLength, noExtent, batchRows}
+use Rattle.crmf.specs.meaning.Rows.{Row, headerLength, noExtent, batchRows, container}
 use Rattle.crmf.specs.meaning.Fields.{StandsAt}
 use Rattle.crmf.specs.meaning.LeftOut.{rowContent}
 use Rattle.crmf.specs.steps.grammar.Lines.{keep}
@@ -38,6 +38,11 @@ use Rattle.crmf.proofs.theorems.rows.TakenElements.{TakenElement, takes
 -- the kinds of notBefore and notAfter
 abbrev timed : ℕ → Bool
 timed = among (kinds.notBefore ∷ kinds.notAfter ∷ [])
+
+-- they are leaves
+pub time-leaf : (kind : ℕ) → (kind ≡ kinds.notBefore) ⊎ (kind ≡ kinds.notAfter) → container kind ≡ false
+unfolding container among
+time-leaf kind = ⊎-elim (λ first. rw first refl) (λ second. rw second refl)
 
 -- whether an element's form is that of notBefore or notAfter: its identifier, and a Time inside
 abbrev holdsTime : Inside → Bool

@@ -10,21 +10,21 @@ use borrow.Author.Tests.{le-leb, lt-leb}
 use lib.Dec.{leb}
 use Rattle.time.specs.meaning.Calendar.{moment}
 use Rattle.time.specs.meaning.Time.{pairAt, dateAt, firstGeneralizedYear, generalizedMoment}
-use Rattle.time.specs.steps.Told.{told}
+use Rattle.time.specs.steps.Moments.{asMoment}
 use Rattle.time.proofs.theorems.Digits.{pair-most, pair-there, pair-gone}
 use Rattle.time.proofs.theorems.Times.{generalized-length, generalized-year, generalized-no-hundreds, generalized-no-rest}
 use Rattle.time.proofs.time.generalized_time.Statement.{statement}
 use Rattle.time.proofs.time.generalized_time.Tie as tie
 
 returns : tie.Need-returns
-unfolding told
+unfolding asMoment
 returns c = rw (generalized-length (c .before .before .args .content .now) (c .if1 .taken))
 
 pair-at-requires : tie.Need-pair-at-requires
 pair-at-requires c κs = search needs
 
 returns-2 : tie.Need-returns-2
-unfolding told
+unfolding asMoment
 returns-2 c =
     let s = c .before .before .before .before .args .content .now in
     let gone = pair-gone (pairAt s 0) (pair-most s 0) (λ few. omega (arith, c .if2 .taken, c .before .pair-at .ensures, few)) in
@@ -40,7 +40,7 @@ pair-at-requires-2 : tie.Need-pair-at-requires-2
 pair-at-requires-2 c κs = search needs
 
 returns-3 : tie.Need-returns-3
-unfolding told
+unfolding asMoment
 returns-3 c =
     let e = c .before .before in
     let s = e .before .before .before .before .args .content .now in
@@ -66,7 +66,7 @@ add-year : tie.Need-add-year
 add-year c = search needs
 
 returns-4 : tie.Need-returns-4
-unfolding told
+unfolding asMoment
 returns-4 c = rw (year (c .before), lt-leb firstGeneralizedYear _ (c .if4 .taken))
 
 moment-at-requires : tie.Need-moment-at-requires

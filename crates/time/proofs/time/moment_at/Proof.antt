@@ -7,7 +7,7 @@ use lib.Dec.{leb, eqb}
 use lib.ListN.{getD}
 use Rattle.time.specs.meaning.Calendar.{daysBefore, seconds}
 use Rattle.time.specs.meaning.Time.{pairAt, dateAt}
-use Rattle.time.specs.steps.Told.{told}
+use Rattle.time.specs.steps.Moments.{asMoment}
 use Rattle.time.proofs.theorems.Dates.{tests, date-bounds, moment-tested}
 use Rattle.time.proofs.time.moment_at.Statement.{statement}
 use Rattle.time.proofs.time.moment_at.Tie as tie
@@ -92,13 +92,13 @@ seconds-requires c κs =
     (c .days-before .ensures .1, b .1, b .2, b .3)
 
 returns : tie.Need-returns
-unfolding told dateAt seconds daysBefore
+unfolding asMoment dateAt seconds daysBefore
 returns c =
     let d = c .before .before .before .before in
     let a = d .before .before .before .before .before .before .before .args in
     let s = a .content .now in
     let i = a .i in
-    sym (ap told (moment-tested (a .year) (pairAt s i) (pairAt s (i + 2)) (pairAt s (i + 4)) (pairAt s (i + 6)) (pairAt s (i + 8)) (eqb (getD s (i + 10) 0) 0x5A) true
+    sym (ap asMoment (moment-tested (a .year) (pairAt s i) (pairAt s (i + 2)) (pairAt s (i + 4)) (pairAt s (i + 6)) (pairAt s (i + 8)) (eqb (getD s (i + 10) 0) 0x5A) true
     (sym (tested d) ∙ c .before .before .if1 .taken))
     ∙ rw (
       c .seconds .ensures,
@@ -111,13 +111,13 @@ returns c =
     ))
 
 returns-2 : tie.Need-returns-2
-unfolding told dateAt
+unfolding asMoment dateAt
 returns-2 c =
     let d = c .before .before in
     let a = d .before .before .before .before .before .before .before .args in
     let s = a .content .now in
     let i = a .i in
-    sym (ap told (moment-tested (a .year) (pairAt s i) (pairAt s (i + 2)) (pairAt s (i + 4)) (pairAt s (i + 6)) (pairAt s (i + 8)) (eqb (getD s (i + 10) 0) 0x5A) false
+    sym (ap asMoment (moment-tested (a .year) (pairAt s i) (pairAt s (i + 2)) (pairAt s (i + 4)) (pairAt s (i + 6)) (pairAt s (i + 8)) (eqb (getD s (i + 10) 0) 0x5A) false
     (sym (tested d) ∙ c .if1 .left)))
 
 pub moment-at-spec : {M : Type 1} → statement M

@@ -4,21 +4,21 @@ use mathlib.Core.Path.{sym, ap, _∙_}
 use native.Mathlib.Omega.{arith}
 use borrow.Author.Needs.{needs}
 use Rattle.time.specs.meaning.Time.{pairAt}
-use Rattle.time.specs.steps.Told.{told}
+use Rattle.time.specs.steps.Moments.{asMoment}
 use Rattle.time.proofs.theorems.Digits.{pair-most, pair-there, pair-gone}
 use Rattle.time.proofs.theorems.Times.{utc-length, utc-year, utc-no-year}
 use Rattle.time.proofs.time.utc_time.Statement.{statement}
 use Rattle.time.proofs.time.utc_time.Tie as tie
 
 returns : tie.Need-returns
-unfolding told
+unfolding asMoment
 returns c = rw (utc-length (c .before .before .args .content .now) (c .if1 .taken))
 
 pair-at-requires : tie.Need-pair-at-requires
 pair-at-requires c κs = search needs
 
 returns-2 : tie.Need-returns-2
-unfolding told
+unfolding asMoment
 returns-2 c =
     let s = c .before .before .before .before .args .content .now in
     let gone = pair-gone (pairAt s 0) (pair-most s 0) (λ few. omega (arith, c .if2 .taken, c .before .pair-at .ensures, few)) in
@@ -36,7 +36,7 @@ returns-3 c =
     let s = d .before .before .before .args .content .now in
     let there = pair-there (pairAt s 0) (omega (arith, c .before .before .if2 .left, d .pair-at .ensures)) in
     c .moment-at .ensures
-    ∙ ap told (rw (c .before .century .ensures .0, d .pair-at .ensures) (sym (utc-year s _ (d .before .if1 .left) there)))
+    ∙ ap asMoment (rw (c .before .century .ensures .0, d .pair-at .ensures) (sym (utc-year s _ (d .before .if1 .left) there)))
 
 pub utc-time-spec : {M : Type 1} → statement M
 utc-time-spec =

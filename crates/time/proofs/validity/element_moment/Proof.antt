@@ -7,7 +7,7 @@ use borrow.Author.Tests.{not-true, not-false}
 use lib.ListN.{length, getD}
 use Rattle.der.proofs.Laws.{take-from}
 use Rattle.time.specs.meaning.Time.{timeMoment}
-use Rattle.time.specs.steps.Told.{told}
+use Rattle.time.specs.steps.Moments.{asMoment}
 use Rattle.time.proofs.theorems.Validities.{short-two, element-short, element-other}
 use Rattle.time.proofs.validity.element_moment.Statement.{statement}
 use Rattle.time.proofs.validity.element_moment.Tie as tie
@@ -16,7 +16,7 @@ is-short-requires : tie.Need-is-short-requires
 is-short-requires c κs = search needs
 
 returns : tie.Need-returns
-unfolding told
+unfolding asMoment
 returns c =
     let s = c .before .before .before .args .element .now in
     rw (element-other s (sym (c .before .is-short .ensures) ∙ not-true _ (c .if1 .taken)))
@@ -45,7 +45,7 @@ returns-2 c =
     let d = c .before .before .before .before in
     let s = d .before .before .args .element .now in
     c .time-moment .ensures
-    ∙ ap told (ap (timeMoment (getD s 0 0)) (take-from 2 s) ∙ sym (element-short s (sym (d .is-short .ensures) ∙ not-false _ (c .before .before .before .if1 .left))))
+    ∙ ap asMoment (ap (timeMoment (getD s 0 0)) (take-from 2 s) ∙ sym (element-short s (sym (d .is-short .ensures) ∙ not-false _ (c .before .before .before .if1 .left))))
 
 pub element-moment-spec : {M : Type 1} → statement M
 element-moment-spec =

@@ -8,7 +8,7 @@ use lib.Dec.{eqb}
 use lib.ListN.{length, getD}
 use Rattle.der.proofs.Laws.{take-from}
 use Rattle.time.specs.meaning.Validity.{elementMoment}
-use Rattle.time.specs.steps.Told.{told}
+use Rattle.time.specs.steps.Moments.{asMoment}
 use Rattle.time.proofs.theorems.Validities.{short-two, shown-inside, shown-long, shown-other, neither, either}
 use Rattle.time.proofs.validity.shown_moment.Statement.{statement}
 use Rattle.time.proofs.validity.shown_moment.Tie as tie
@@ -17,7 +17,7 @@ is-short-requires : tie.Need-is-short-requires
 is-short-requires c κs = search needs
 
 returns : tie.Need-returns
-unfolding told
+unfolding asMoment
 returns c =
     rw (shown-long (c .before .before .before .args .field .now) (sym (c .before .is-short .ensures) ∙ not-true _ (c .if1 .taken)))
 
@@ -29,7 +29,7 @@ shared-slice-read-identifier : tie.Need-shared-slice-read-identifier
 shared-slice-read-identifier c = omega (arith, two (c .before))
 
 returns-2 : tie.Need-returns-2
-unfolding told
+unfolding asMoment
 returns-2 c =
     let d = c .before .before in
     let s = d .before .before .before .args .field .now in
@@ -53,7 +53,7 @@ returns-3 c =
     let d = c .before .before .before .before in
     let s = d .before .before .before .args .field .now in
     c .element-moment .ensures
-    ∙ ap told (ap elementMoment (take-from 2 s) ∙ sym (shown-inside s (sym (d .before .is-short .ensures) ∙ not-false _ (d .if1 .left)) (either (eqb (getD s 0 0) 0xA0) (eqb (getD s 0 0) 0xA1) (c .before .before .if2 .left))))
+    ∙ ap asMoment (ap elementMoment (take-from 2 s) ∙ sym (shown-inside s (sym (d .before .is-short .ensures) ∙ not-false _ (d .if1 .left)) (either (eqb (getD s 0 0) 0xA0) (eqb (getD s 0 0) 0xA1) (c .before .before .if2 .left))))
 
 pub shown-moment-spec : {M : Type 1} → statement M
 shown-moment-spec =

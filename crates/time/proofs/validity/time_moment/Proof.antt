@@ -4,7 +4,7 @@ use native.Mathlib.Omega.{arith}
 use borrow.Author.Needs.{needs}
 use borrow.Author.Tests.{ne-eqb}
 use Rattle.time.specs.meaning.Time.{timeMoment}
-use Rattle.time.specs.steps.Told.{told}
+use Rattle.time.specs.steps.Moments.{asMoment}
 use Rattle.time.proofs.validity.time_moment.Statement.{statement}
 use Rattle.time.proofs.validity.time_moment.Tie as tie
 
@@ -23,7 +23,7 @@ unfolding timeMoment
 returns-2 c = c .generalized-time .ensures ∙ rw (c .before .match .keys2)
 
 returns-3 : tie.Need-returns-3
-unfolding timeMoment told
+unfolding timeMoment asMoment
 returns-3 c = rw (timeMoment, ne-eqb (c .before .before .args .identifier) 0x17 (omega arith), ne-eqb (c .before .before .args .identifier) 0x18 (omega arith))
 
 pub time-moment-spec : {M : Type 1} → statement M

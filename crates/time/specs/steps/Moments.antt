@@ -4,6 +4,6 @@ use mathlib.Core.Option.{Option, some, none}
 use Rattle.time.specs.declared.moment.Moment.{Moment}
 use Rattle.time.specs.declared.moment.Moment.the-variants.{At, Missing}
 
-unfoldable pub told : Option ℕ → Moment
-told (some n) = At n
-told none = Missing
+unfoldable pub asMoment : Option ℕ → Moment
+asMoment (some n) = At n
+asMoment none = Missing
