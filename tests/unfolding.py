@@ -26,6 +26,7 @@ OPEN = {
     "crmf.meaning.Kinds": "document 01's numbers",
     "crmf.meaning.Rows.width": "document 01's number, which arithmetic multiplies by",
     "crmf.meaning.Messages.proofs": "document 01's list of identifiers",
+    "crmf.meaning.LeftOut.rowContent": "a slice's name: the content octets of a row's element",
     "crmf.meaning.Messages.batchHeader": "a number's name: the length of a header, which arithmetic adds and subtracts",
     "crmf.meaning.Rows.movedRow": "a record's name: its fields are read",
     "crmf.meaning.Rows.renumberedRow": "a record's name: its fields are read",
