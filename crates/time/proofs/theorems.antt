@@ -1,4 +1,5 @@
 -- The theorems and laws about the definitions. The proofs of the functions are beside them, in the folders of src.
+pub mod Tables
 pub mod Days
 pub mod Digits
 pub mod Dates

@@ -12,7 +12,7 @@ fn leap(year: usize) -> bool
 }
 
 // The days of each month of a common year, January at 1.
-const MONTH_DAYS: [usize; 13] = [0, 31, 28, 31, 30, 31, 30, 31, 31, 30, 31, 30, 31];
+const MONTH_DAYS: [u8; 13] = [0, 31, 28, 31, 30, 31, 30, 31, 31, 30, 31, 30, 31];
 
 // The days of a month of a year; 0 if the number is no month's.
 pub(crate) fn days_in(year: usize, month: usize) -> usize
@@ -21,7 +21,7 @@ pub(crate) fn days_in(year: usize, month: usize) -> usize
     if 12 < month {
         return 0;
     }
-    let days = MONTH_DAYS[month];
+    let days = MONTH_DAYS[month] as usize;
     if leap(year) & (month == 2) {
         return days + 1;
     }
@@ -37,14 +37,14 @@ fn days_before_year(year: usize) -> usize
 }
 
 // The days before each month of a common year, January at 1.
-const DAYS_BEFORE: [usize; 13] = [0, 0, 31, 59, 90, 120, 151, 181, 212, 243, 273, 304, 334];
+const DAYS_BEFORE: [u16; 13] = [0, 0, 31, 59, 90, 120, 151, 181, 212, 243, 273, 304, 334];
 
 // The days of all months before a month of a year.
 fn days_before_month(year: usize, month: usize) -> usize
     requires { ⌜ month ≤ 12 ⌝ }
     ensures { λ r. ⌜ r ≡ calendar.daysBeforeMonth year month ⌝ }
 {
-    let days = DAYS_BEFORE[month];
+    let days = DAYS_BEFORE[month] as usize;
     if leap(year) & (2 < month) {
         return days + 1;
     }

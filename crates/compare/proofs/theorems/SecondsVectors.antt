@@ -4,13 +4,13 @@ use Prim.Native.Nat.{ℕ}
 use mathlib.Core.Path.{_≡_, refl}
 use mathlib.Core.List.{List, [], _∷_}
 use mathlib.Core.Option.{bind}
-use lib.IntN.{ℤ, pos, negsuc}
+use lib.IntN.{pos, negsuc}
 use Rattle.time.specs.meaning.Calendar.{leap, monthDays, daysIn, total, daysBeforeYear, daysBeforeMonth, isDay, isReal, daysBefore, seconds, moment}
 use Rattle.time.specs.meaning.Time.{digit, pairAt, dateAt, century, utcDate, generalizedDate, utcMoment, generalizedMoment, timeMoment}
 use Rattle.time.specs.meaning.Validity.{isShort, elementMoment, shownMoment}
 use Rattle.crmf.specs.meaning.Kinds as kinds
 use Rattle.crmf.specs.meaning.Rows.{Row}
-use Rattle.compare.specs.meaning.Changes.{Change, only-first, leaves-differ, entry}
+use Rattle.compare.specs.meaning.Changes.{only-first, leaves-differ, entry}
 use Rattle.compare.specs.meaning.Times.{isTimeKind, secondLessFirst, leafSeconds, secondsLater}
 
 -- "notAfter 491231235959Z"

@@ -1,16 +1,17 @@
 -- Months, days and dates: what the code tests on numbers that stand for parts that may be missing, 100 for two octets that are no digits and
 -- 0 days for no month, is what the definitions say of the parts. Assumes nothing.
-use Prim.Native.Nat.{ℕ, zero, suc, _≤_, _<_}
+use Prim.Native.Nat.{ℕ, zero, suc, _≤_}
 use mathlib.Core.Bool.{Bool, true, false, _&&_, and-false, and-true, true≢false}
 use mathlib.Core.List.{List, [], _∷_}
-use mathlib.Core.Option.{Option, some, none, Option·getD, Option·some-injective, Option·none-ne-some, bind}
+use mathlib.Core.Option.{Option, some, none, Option·getD, Option·none-ne-some, bind}
 use mathlib.Core.Path.{_≡_, refl, sym, _∙_}
 use borrow.Author.Tests.{leb-true, lt-leb}
 use native.Mathlib.Omega.{arith}
 use lib.Dec.{leb}
-use lib.ListN.{length, getD, getElem?}
+use lib.ListN.{getD, getElem?}
 use Rattle.time.specs.meaning.Calendar.{leap, monthDays, daysIn, Date, isDay, isReal, seconds, moment}
 use Rattle.time.proofs.theorems.Digits.{both}
+use Rattle.time.proofs.theorems.Tables.{atMost, entry-most, entry-there}
 
 -- the entry of a list, with a default in either way
 entry-or : (l : List ℕ) (i d : ℕ) → getD l i d ≡ Option·getD (getElem? l i) d
@@ -21,6 +22,10 @@ entry-or (a ∷ l) (suc i) d = entry-or l i d
 -- the days of each month of a common year, January at 1
 abbrev pub monthTable : List ℕ
 monthTable = 0 ∷ 31 ∷ 28 ∷ 31 ∷ 30 ∷ 31 ∷ 30 ∷ 31 ∷ 31 ∷ 30 ∷ 31 ∷ 30 ∷ 31 ∷ []
+
+-- none has more than 31
+pub table-few : (month : ℕ) → getD monthTable month 0 ≤ 31
+table-few month = entry-most monthTable 31 refl month
 
 -- the table has the days of every month, but for February in a leap year
 pub days-tabled : (year month : ℕ) → (month ≡ 2 → leap year ≡ false)
@@ -36,25 +41,14 @@ pub days-leap : (year : ℕ) → leap year ≡ true → daysIn year 2 ≡ some 2
 unfolding daysIn monthDays
 days-leap year is = rw is
 
--- whether all entries of a list are at most 31
-abbrev few : List ℕ → Bool
-few [] = true
-few (a ∷ l) = leb a 31 && few l
-
--- an entry of such a list, and its number
-entry-few : (l : List ℕ) → few l ≡ true → (i a : ℕ) → getElem? l i ≡ some a → (i < length l) × (a ≤ 31)
-entry-few [] are i a is = absurd (Option·none-ne-some a is)
-entry-few (b ∷ l) are zero a is = (omega arith, omega (arith, leb-true b 31 (both (leb b 31) (few l) are .0), Option·some-injective b a is))
-entry-few (b ∷ l) are (suc i) a is = let p = entry-few l (both (leb b 31) (few l) are .1) i a is in (omega (arith, p .0), p .1)
-
 -- there are 12 months, and none has more than 31 days
 pub month-days : (year month days : ℕ) → daysIn year month ≡ some days → (month ≤ 12) × (days ≤ 31)
 unfolding daysIn monthDays
 month-days year zero days is = absurd (Option·none-ne-some days is)
 month-days year (suc month) days is =
-    let p = entry-few (monthDays year) (are (leap year)) month days is in (omega (arith, p .0), p .1)
+    let p = entry-there (monthDays year) 31 (are (leap year)) month days is in (omega (arith, p .0), p .1)
   where
-    are : (b : Bool) → few (31 ∷ (elim b as (λ x. ℕ) [ true ↦ 29 | false ↦ 28 ]) ∷ 31 ∷ 30 ∷ 31 ∷ 30 ∷ 31 ∷ 31 ∷ 30 ∷ 31 ∷ 30 ∷ 31 ∷ []) ≡ true
+    are : (b : Bool) → atMost (31 ∷ (elim b as (λ x. ℕ) [ true ↦ 29 | false ↦ 28 ]) ∷ 31 ∷ 30 ∷ 31 ∷ 30 ∷ 31 ∷ 31 ∷ 30 ∷ 31 ∷ 30 ∷ 31 ∷ []) 31 ≡ true
     are true = refl
     are false = refl
 

@@ -10,6 +10,7 @@ use lib.Dec.{leb, ltb, eqb}
 use lib.ListN.{getD, take}
 use Rattle.der.proofs.theorems.lists.Range.{each}
 use Rattle.time.specs.meaning.Calendar.{leap, monthDays, total, daysBeforeYear, daysBeforeMonth}
+use Rattle.time.proofs.theorems.Tables.{entry-most}
 
 -- a leap day, if there is one
 abbrev pub leapDay : Bool → ℕ
@@ -73,6 +74,10 @@ years-counted (suc year) =
 -- the days before each month of a common year, January at 1
 abbrev pub beforeTable : List ℕ
 beforeTable = 0 ∷ 0 ∷ 31 ∷ 59 ∷ 90 ∷ 120 ∷ 151 ∷ 181 ∷ 212 ∷ 243 ∷ 273 ∷ 304 ∷ 334 ∷ []
+
+-- none has more than 334
+pub before-few : (month : ℕ) → getD beforeTable month 0 ≤ 334
+before-few month = entry-most beforeTable 334 refl month
 
 -- Counting the days of the months gives what the table has, and one more from March on in a leap year.
 abbrev tabled : Bool → ℕ → ℕ

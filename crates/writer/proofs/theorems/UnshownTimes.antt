@@ -2,8 +2,7 @@
 -- GeneralizedTime before 2050 among them. A batch with the draft's rows would have the same octets there. Assumes nothing.
 use Prim.Native.Nat.{ℕ, _+_}
 use mathlib.Core.Logic.{_⊎_, inl, inr, ⊎-elim}
-use mathlib.Core.Path.{_≡_, refl, sym, ap, subst, _∙_}
-use mathlib.Core.Bool.{false}
+use mathlib.Core.Path.{_≡_, sym, ap, subst, _∙_}
 use mathlib.Core.List.{List, List·Memᴰ}
 use mathlib.Core.Option.{none, Option·none-ne-some}
 use lib.Seq.{slice}
@@ -11,7 +10,7 @@ use Rattle.der.specs.meaning.Refusal.{noSuchBatch}
 use Rattle.time.specs.meaning.Validity.{shownMoment}
 use Rattle.crmf.specs.meaning.Edition.{Edition}
 use Rattle.crmf.specs.meaning.Kinds as kinds
-use Rattle.crmf.specs.meaning.Rows.{Row, container, numbers, batchRows}
+use Rattle.crmf.specs.meaning.Rows.{Row, numbers, batchRows}
 use Rattle.crmf.specs.meaning.Pieces.{Piece}
 use Rattle.crmf.proofs.Laws.{numbers-once, leaf-octets, piece-among, time-leaf}
 use Rattle.editions.proofs.Laws.{times-shown}

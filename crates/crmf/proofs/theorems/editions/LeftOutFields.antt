@@ -6,7 +6,7 @@ use mathlib.Core.Logic.{_↔_, _⊎_, inl, inr}
 use mathlib.Core.Bool.{Bool, true, false, not, _&&_, _||_, and-eq-true-iff}
 use mathlib.Core.List.{List, [], _∷_, List·Memᴰ, List·Memᴰ·head, List·Memᴰ·not-nil, List·Memᴰ·eq-of-singleton}
 use lib.Dec.{eqb}
-use lib.Seq.{slice, take-length}
+use lib.Seq.{slice}
 use borrow.Author.Tests.{eqb-true, eq-eqb, not-true}
 use Rattle.der.specs.meaning.Tree.{Tree, encode, WellFormed}
 use Rattle.crmf.specs.meaning.Details.{fitsNoPart, valueBroken}
@@ -16,14 +16,13 @@ use Rattle.crmf.specs.meaning.Notation.{among, Mark, both, alone, Markin
 use Rattle.crmf.specs.meaning.Grammar.{content}
 use Rattle.crmf.specs.meaning.Language.{Matches, Occurrence, occurs, occurrences}
 use Rattle.crmf.specs.meaning.Rows.{Row, headerLength, noExtent, batchRows}
-use Rattle.crmf.specs.meaning.Fields.{StandsAt}
 use Rattle.crmf.specs.meaning.LeftOut.{omitted, rowContent, LeftOut, one-of-four, other-version}
 use Rattle.crmf.proofs.theorems.lists.Tests.{all, all-among}
 use Rattle.crmf.proofs.theorems.values.ValueRules.{same-octets, same-itself}
 use Rattle.crmf.proofs.theorems.grammar.Choices.{never-both}
 use Rattle.crmf.proofs.theorems.grammar.Containers.{allForms}
 use Rattle.crmf.proofs.theorems.grammar.ChoicesMatch.{holds-true, true-holds}
-use Rattle.crmf.proofs.theorems.rows.TakenElements.{TakenElement, takes, formsPass, content-passes, occurs-taken, taken-occurs, ShownBy, row-taken, taken-row, taken-content}
+use Rattle.crmf.proofs.theorems.rows.TakenElements.{encoded-stands, TakenElement, takes, formsPass, content-passes, occurs-taken, taken-occurs, ShownBy, row-taken, taken-row, taken-content}
 
 -- the kinds of the five fields
 abbrev five : ℕ → Bool
@@ -165,9 +164,6 @@ module _ (s : List ℕ) (x : TakenElement) (r : Row) (shows : ShownBy x r) (stan
   left-out-occurs (other none no-fourth) detail left-out = never-both (five (x .form .kind)) (ap five (sym (shows .kind)) ∙ left-out-five s r detail left-out) none
 
 module _ {R : ℕ → Bool} {t : Tree} (m : Matches R (content Top) t) (left : ℕ) (formed : WellFormed left 0 t) (s : List ℕ) (encoded : encode t ≡ s) where
-  stands-at : StandsAt s 0 (encode t)
-  stands-at = rw encoded (take-length s)
-
   -- how the form of an element is marked by its kind, and that it gives the element around it none of the five
   marked : (x : TakenElement) → List·Memᴰ x (takes m) → MarkedAs (x .form .marking) (x .form .kind) × (five (x .form .item) ≡ false)
   marked x at =
@@ -184,7 +180,7 @@ module _ {R : ℕ → Bool} {t : Tree} (m : Matches R (content Top) t) (left : �
           let (x, at, own) = occurs-taken m (fourth p detail) occurring in
           let so = marked x at .0 in
           let (r, in-rows, shows) = taken-row m 0 0 noExtent x at (occurs-some p (x .first) detail (x .octets) so own) in
-          let (first, left-out) = occurs-left-out s x r shows (taken-content s m left 0 formed stands-at x at) so p detail own in
+          let (first, left-out) = occurs-left-out s x r shows (taken-content s m left 0 formed (encoded-stands s t encoded) x at) so p detail own in
           (r, in-rows, first, left-out)
 
       back : (r : Row) × List·Memᴰ r (batchRows m) × (r .first ≡ p) × LeftOut s r detail → List·Memᴰ (fourth p detail) (occurrences m)
@@ -192,6 +188,6 @@ module _ {R : ℕ → Bool} {t : Tree} (m : Matches R (content Top) t) (left : �
         where
           by : (x : TakenElement) × List·Memᴰ x (takes m) × (ShownBy x r ⊎ (r .kind ≡ x .form .item)) → List·Memᴰ (fourth p detail) (occurrences m)
           by (x, at, inl shows) =
-              let own = left-out-occurs s x r shows (taken-content s m left 0 formed stands-at x at) (marked x at .0) detail left-out in
+              let own = left-out-occurs s x r shows (taken-content s m left 0 formed (encoded-stands s t encoded) x at) (marked x at .0) detail left-out in
               subst (λ (q : ℕ). List·Memᴰ (fourth q detail) (occurrences m)) first (taken-occurs m x (fourth (r .first) detail) at own)
           by (x, at, inr item) = never-both (five (x .form .item)) (ap five (sym item) ∙ left-out-five s r detail left-out) (marked x at .1)

@@ -8,7 +8,7 @@ use mathlib.Core.Bool.{Bool, true, false, _&&_, and-eq-true-iff}
 use mathlib.Core.List.{List, [], _∷_, _++_, List·Memᴰ, List·Memᴰ·head, List·Memᴰ·tail, List·Memᴰ·not-nil, List·Memᴰ·cases-cons, List·Memᴰ·append-cases, List·Memᴰ·eq-of-singleton, Memᴰ·append-left, Memᴰ·append-right}
 use lib.Dec.{eqb}
 use lib.ListN.{length, length-append, drop}
-use lib.Seq.{slice, drop-at}
+use lib.Seq.{slice, drop-at, take-length}
 use Rattle.der.specs.meaning.Tree.{Tree, header, encode, WellFormed}
 use Rattle.der.proofs.Laws.{drop-slice}
 use Rattle.crmf.specs.meaning.Notation.{markOf, Name, names, Inside, Form, part, Parts, done, _then_, select}
@@ -225,6 +225,10 @@ content-stands s id first whole c sized own =
     let h = first + headerLength whole c - first in
     let same : h ≡ length (header id c) = omega (arith, sized, length-append (header id c) c) in
     sym (drop-slice first (first + whole) (first + headerLength whole c) s (omega arith)) ∙ ap (drop h) own ∙ drop-at (header id c) c h (sym same)
+
+-- Elements stand in the octets that they encode to.
+pub encoded-stands : (s : List ℕ) (t : Tree) → encode t ≡ s → StandsAt s 0 (encode t)
+encoded-stands s t encoded = rw encoded (take-length s)
 
 module _ (s : List ℕ) where
   mutual

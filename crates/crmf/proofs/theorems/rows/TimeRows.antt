@@ -3,22 +3,21 @@
 use Prim.Native.Nat.{ℕ, _+_}
 use mathlib.Core.Path.{_≡_, refl, sym, ap, subst, _∙_}
 use mathlib.Core.Logic.{_⊎_, inl, inr, ⊎-elim}
-use mathlib.Core.Bool.{Bool, true, false, not, _&&_, _||_, and-eq-true-iff}
-use mathlib.Core.List.{List, [], _∷_, _++_, List·Memᴰ, List·Memᴰ·not-nil, List·Memᴰ·cases-cons, List·Memᴰ·append-cases}
+use mathlib.Core.Bool.{Bool, true, false, not, _&&_, _||_}
+use mathlib.Core.List.{List, [], _∷_, List·Memᴰ, List·Memᴰ·not-nil, List·Memᴰ·cases-cons, List·Memᴰ·append-cases}
 use mathlib.Core.Option.{some, Option·some-injective}
 use lib.Dec.{T, eqb}
 use lib.ListN.{length, getElem?}
-use lib.Seq.{slice, take-length}
-use borrow.Author.Tests.{eqb-true, eq-eqb, not-true}
+use lib.Seq.{slice}
+use borrow.Author.Tests.{eqb-true, eq-eqb}
 use Rattle.der.specs.meaning.Tree.{Tree, element, header, encode, WellFormed}
-use Rattle.der.specs.meaning.Identifier.{constructed}
 use Rattle.time.specs.meaning.Validity.{shownMoment, forwards}
 use Rattle.crmf.specs.meaning.Kinds as kinds
 use Rattle.crmf.specs.meaning.Value.{someForwards, isEmpty, keeps}
-use Rattle.crmf.specs.meaning.Notation.{Identifiers, octet, generalName, anything, nothing, among, named, Name, names, order, Top, Time, Inside, free, holds, Form, Parts}
+use Rattle.crmf.specs.meaning.Notation.{Identifiers, octet, generalName, anything, nothing, among, named, names, order, Top, Time, Inside, free, holds, Form, Parts}
 use Rattle.crmf.specs.meaning.Grammar.{content}
 use Rattle.crmf.specs.meaning.Language.{Matches, end, pass, take, choose, Within, unseen, parts}
-use Rattle.crmf.specs.meaning.Rows.{Row, headerLength, noExtent, batchRows, container}
+use Rattle.crmf.specs.meaning.Rows.{Row, noExtent, batchRows, container}
 use Rattle.crmf.specs.meaning.Fields.{StandsAt}
 use Rattle.crmf.specs.meaning.LeftOut.{rowContent}
 use Rattle.crmf.specs.steps.grammar.Lines.{keep}
@@ -26,14 +25,14 @@ use Rattle.crmf.specs.steps.grammar.Packed.{judgeCode}
 use Rattle.crmf.proofs.theorems.lists.Tests.{all, either}
 use Rattle.crmf.proofs.theorems.lines.JudgeCodes.{same-rule}
 use Rattle.crmf.proofs.theorems.values.ValueRules.{both}
-use Rattle.crmf.proofs.theorems.values.ValidityOrder.{TimeShown, time-held, made, either-one, field-shows}
+use Rattle.crmf.proofs.theorems.values.ValidityOrder.{time-held, made, either-one, field-shows}
 use Rattle.crmf.proofs.theorems.grammar.Names.{in-order}
 use Rattle.crmf.proofs.theorems.grammar.Choices.{never-both}
 use Rattle.crmf.proofs.theorems.grammar.Containers.{allForms}
 use Rattle.crmf.proofs.theorems.grammar.ChoicesMatch.{holds-true}
-use Rattle.crmf.proofs.theorems.rows.RowLaws.{Standing, standing}
+use Rattle.crmf.proofs.theorems.rows.RowLaws.{standing}
 use Rattle.crmf.proofs.theorems.pieces.ShownPieces.{shown}
-use Rattle.crmf.proofs.theorems.rows.TakenElements.{TakenElement, takes, takesIn, formsPass, content-passes, ShownBy, row-taken, taken-content}
+use Rattle.crmf.proofs.theorems.rows.TakenElements.{encoded-stands, TakenElement, takes, takesIn, formsPass, content-passes, ShownBy, row-taken, taken-content}
 
 -- the kinds of notBefore and notAfter
 abbrev timed : ℕ → Bool
@@ -150,9 +149,6 @@ unfolding keeps
 kept-forwards c kept = both (not (isEmpty c)) (forwards c) (holds-true (not (isEmpty c) && forwards c) kept) .1
 
 module _ {R : ℕ → Bool} {t : Tree} (m : Matches R (content Top) t) (left : ℕ) (formed : WellFormed left 0 t) (s : List ℕ) (encoded : encode t ≡ s) where
-  stands-at : StandsAt s 0 (encode t)
-  stands-at = rw encoded (take-length s)
-
   -- what the test says of the form of an element that is taken
   tested : (x : TakenElement) → List·Memᴰ x (takes m)
       → ((timed (x .form .kind) ≡ true → (holdsTime (x .form .inside) ≡ true) × (fieldOctet (x .form .identifiers) ≡ true))
@@ -178,7 +174,7 @@ module _ {R : ℕ → Bool} {t : Tree} (m : Matches R (content Top) t) (left : �
       by : (x : TakenElement) × List·Memᴰ x (takes m) × (ShownBy x r ⊎ (r .kind ≡ x .form .item)) → (n : ℕ) × (shownMoment (slice (r .first) (r .first + r .whole) s) ≡ some n)
       by (x, at, inl shows) =
           let (inside, identifiers) = tested x at .0 .0 (ap timed (sym (shows .kind)) ∙ is) in
-          let (n, shown-it) = taken-shows s m left 0 formed stands-at x at inside identifiers in
+          let (n, shown-it) = taken-shows s m left 0 formed (encoded-stands s t encoded) x at inside identifiers in
           (n, rw (shows .first, shows .whole) shown-it)
       by (x, at, inr item) = never-both (timed (x .form .item)) (ap timed (sym item) ∙ is) (tested x at .1 .0)
 
@@ -190,6 +186,6 @@ module _ {R : ℕ → Bool} {t : Tree} (m : Matches R (content Top) t) (left : �
       by : (x : TakenElement) × List·Memᴰ x (takes m) × (ShownBy x r ⊎ (r .kind ≡ x .form .item)) → forwards (rowContent s r) ≡ true
       by (x, at, inl shows) =
           let rule = tested x at .0 .1 (eq-eqb _ _ (sym (shows .kind) ∙ kind)) in
-          let octets : rowContent s r ≡ x .octets = rw (shows .content, shows .first, shows .whole) (taken-content s m left 0 formed stands-at x at) in
+          let octets : rowContent s r ≡ x .octets = rw (shows .content, shows .first, shows .whole) (taken-content s m left 0 formed (encoded-stands s t encoded) x at) in
           ap forwards octets ∙ kept-forwards (x .octets) (subst (λ y. T (keeps y (x .octets))) rule (taken-kept m x at))
       by (x, at, inr item) = never-both (eqb (x .form .item) kinds.validity) (eq-eqb _ _ (sym item ∙ kind)) (tested x at .1 .1)

@@ -1,9 +1,9 @@
 -- A validity's elements and its octets say the same of the order of its times: each of notBefore and notAfter has one length octet, and so has the Time
 -- inside it. Assumes nothing.
-use Prim.Native.Nat.{ℕ, zero, suc, _+_, _≤_}
+use Prim.Native.Nat.{ℕ, zero, suc, _+_}
 use mathlib.Core.Path.{_≡_, refl, sym, ap, ap₂, subst, _∙_}
 use mathlib.Core.Logic.{_↔_, _⊎_, inl, inr, ⊎-elim}
-use mathlib.Core.Bool.{Bool, true, false, _||_}
+use mathlib.Core.Bool.{Bool, true, _||_}
 use mathlib.Core.List.{List, [], _∷_, _++_}
 use mathlib.Core.Option.{Option, some, none as absent, Option·some-injective}
 use native.Mathlib.Omega.{arith}
@@ -21,12 +21,12 @@ use Rattle.crmf.specs.meaning.Value.{isShown, utcTime, generalizedTimeFr
 use Rattle.crmf.specs.meaning.Kinds as kinds
 use Rattle.crmf.specs.meaning.Notation.{octet, named, holds, done, _then_, plain, holding, ruled, row, maybe, Validity, Time}
 use Rattle.crmf.specs.meaning.Grammar.{content}
-use Rattle.crmf.specs.meaning.Language.{OneOf, Matches, end, pass, take, Within, parts}
+use Rattle.crmf.specs.meaning.Language.{Matches, end, pass, take, Within, parts}
 use Rattle.crmf.specs.meaning.Validity.{Shows, here, later, Forwards}
 use Rattle.crmf.specs.meaning.Fields.{Field}
 use Rattle.crmf.proofs.theorems.grammar.ChoicesMatch.{holds-true}
 use Rattle.crmf.proofs.theorems.messages.FieldsMatch.{Fits, FitsOne, fits-holding, fits-only, fits-cons}
-use Rattle.crmf.proofs.theorems.rows.RowLaws.{Standing, standing}
+use Rattle.crmf.proofs.theorems.rows.RowLaws.{standing}
 
 -- Some elements are a single Time, which shows a moment.
 pub record TimeShown (t : Tree) : Type 0 where

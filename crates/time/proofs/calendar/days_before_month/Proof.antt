@@ -2,7 +2,7 @@
 use mathlib.Core.Bool.{true, false}
 use native.Mathlib.Omega.{arith}
 use borrow.Author.Needs.{needs}
-use Rattle.time.proofs.theorems.Days.{months-tabled, months-few}
+use Rattle.time.proofs.theorems.Days.{before-few, months-tabled, months-few}
 use Rattle.time.proofs.calendar.days_before_month.Statement.{statement}
 use Rattle.time.proofs.calendar.days_before_month.Tie as tie
 
@@ -11,6 +11,9 @@ mul-days c = search needs
 
 array-read-days : tie.Need-array-read-days
 array-read-days c = search needs
+
+cast-days : tie.Need-cast-days
+cast-days c = omega (arith, before-few (c .args .month))
 
 leap-requires : tie.Need-leap-requires
 leap-requires c κs = search needs
@@ -33,4 +36,4 @@ returns-2 c =
 
 pub days-before-month-spec : {M : Type 1} → statement M
 days-before-month-spec =
-    tie.close (tie.spec mul-days array-read-days leap-requires add-result returns returns-2)
+    tie.close (tie.spec mul-days array-read-days cast-days leap-requires add-result returns returns-2)

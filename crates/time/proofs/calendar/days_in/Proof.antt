@@ -8,7 +8,7 @@ use borrow.Author.Tests.{eqb-true, eq-eqb}
 use lib.Dec.{eqb}
 use lib.ListN.{List·getD-eq-default}
 use Rattle.time.proofs.theorems.Digits.{both}
-use Rattle.time.proofs.theorems.Dates.{monthTable, days-tabled, days-leap}
+use Rattle.time.proofs.theorems.Dates.{monthTable, table-few, days-tabled, days-leap}
 use Rattle.time.proofs.calendar.days_in.Statement.{statement}
 use Rattle.time.proofs.calendar.days_in.Tie as tie
 
@@ -17,11 +17,11 @@ returns c =
     let a = c .before .args in
     sym (List·getD-eq-default monthTable 0 (c .if1 .taken)) ∙ days-tabled (a .year) (a .month) (λ two. absurd (omega arith))
 
-mul-days : tie.Need-mul-days
-mul-days c = omega arith
-
 array-read-days : tie.Need-array-read-days
 array-read-days c = omega arith
+
+cast-days : tie.Need-cast-days
+cast-days c = omega (arith, table-few (c .before .args .month))
 
 leap-requires : tie.Need-leap-requires
 leap-requires c κs = tt
@@ -47,4 +47,4 @@ returns-3 c =
 pub days-in-spec : {M : Type 1} → statement M
 days-in-spec =
     tie.close
-    (tie.spec returns mul-days array-read-days leap-requires add-result returns-2 returns-3)
+    (tie.spec returns array-read-days cast-days leap-requires add-result returns-2 returns-3)
