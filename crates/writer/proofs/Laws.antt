@@ -7,7 +7,7 @@
 --     not-right-refused   and so is a draft of which a leaf's fifth number isn't right over the slice; if an element stands there, one that isn't its
 --                         first byte and the length of its header (`wrong-content-refused`)
 --     left-out-refused    and in edition 2 so is a draft with a field that edition 2 leaves out (`LeftOut`)
---     unshown-refused     and so is a draft with a notBefore or notAfter that shows no moment
+--     unshown-refused     and so is a draft with a notBefore or notAfter that shows no moment; what is written runs forwards (`written-forwards`)
 --     containers-ignored  drafts that differ only in the fifth numbers of containers (`SameBut`) are answered the same
 --     one-batch           no two batches have a draft's rows and leaf bytes
 --     written-answer      given room for the batch that has them, writing answers 0 and its length
@@ -33,7 +33,7 @@ pub use Rattle.writer.proofs.theorems.WritesExactly.{writes-exactly, wr
 pub use Rattle.writer.proofs.theorems.Described.{one-batch}
 pub use Rattle.writer.proofs.theorems.Misshapen.{Misshapen, misshapen-refused}
 pub use Rattle.writer.proofs.theorems.LeftOut.{left-out-refused}
-pub use Rattle.writer.proofs.theorems.UnshownTimes.{unshown-refused}
+pub use Rattle.writer.proofs.theorems.WrittenTimes.{written-forwards, unshown-refused}
 pub use Rattle.writer.proofs.theorems.Contents.{not-right-refused, wrong-content-refused, SameBut, containers-ignored}
 pub use Rattle.writer.proofs.theorems.Demand2.{output-stays, describes-nothing, written-answer, written-output, written-has-rows, reads-back, writes-again}
 pub use Rattle.writer.proofs.theorems.OneAnswer.{Same, joins-once, join-stays, cuts-once, cut-stays}

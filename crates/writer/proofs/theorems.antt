@@ -16,7 +16,7 @@ pub mod JoinVectors
 pub mod Joining
 pub mod JoinsExactly
 pub mod LeftOut
-pub mod UnshownTimes
+pub mod WrittenTimes
 pub mod Misshapen
 pub mod OctetRuns
 pub mod OneAnswer
