@@ -2,8 +2,7 @@
 use Prim.Native.Nat.{ℕ, zero, suc}
 use mathlib.Core.Path.{◌≡◌, refl, sym, ap}
 use Rattle.compare.specs.steps.Tables.{room_of}
-use Rattle.compare.proofs.tables.room.Statement.{statement}
-use Rattle.compare.proofs.tables.room.Tie as tie
+use Rattle.compare.proofs.tables.room.Goals as goal
 
 -- any size but the first two
 most_room : (size : ℕ) → (size ≡ 0 → ⊥) → (size ≡ 1 → ⊥) → room_of size ≡ 32767
@@ -11,14 +10,11 @@ most_room zero not-few not_more = absurd (not-few refl)
 most_room (suc zero) not-few not_more = absurd (not_more refl)
 most_room (suc (suc size)) not-few not_more = refl
 
-returns : tie.Need-returns
-returns c = sym (ap room_of c.if1.true)
+pub returns-then-size-eq0 : goal.returns-then-size-eq0
+returns-then-size-eq0 c = sym (ap room_of c.if-size-eq0.true)
 
-returns-2 : tie.Need-returns-2
-returns-2 c = sym (ap room_of c.if2.true)
+pub returns-then-size-eq1 : goal.returns-then-size-eq1
+returns-then-size-eq1 c = sym (ap room_of c.if-size-eq1.true)
 
-returns-3 : tie.Need-returns-3
-returns-3 c = sym (most_room _ c.before.if1.false c.if2.false)
-
-pub room_spec : {M : Type 1} → statement M
-room_spec = tie.close (tie.spec returns returns-2 returns-3)
+pub returns : goal.returns
+returns c = sym (most_room _ c.if-size-eq0.false c.if-size-eq1.false)
