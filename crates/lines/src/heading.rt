@@ -15,7 +15,7 @@ const LIST: usize = 2;
 pub const OCTETS: usize = 3;
 
 // A heading as far as it has been read.
-#[derive(Drop)]
+#[derive(Clone, Copy)]
 pub struct Heading {
     // The part that is being read.
     pub part: usize,
