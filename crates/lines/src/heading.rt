@@ -59,6 +59,7 @@ pub fn read(heading: Heading, c: u8, list: &mut [usize]) -> Heading
 }
 
 // Begins the part that a mark announces.
+#[tactic(auto, unfolding(crate::specs::Heading::with_mark))]
 fn begin_part(heading: Heading, mark: u8) -> Heading
     ensures { result ≡ with_mark heading mark }
 {
