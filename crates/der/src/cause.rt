@@ -3,7 +3,7 @@ ghost use Rattle.std.specs.Prelude.{◌≡◌};
 ghost use Rattle.der.specs.steps.Cause.{cause_number, cause_detail};
 
 // The causes, in the order in which an element is judged after the input's length.
-#[derive(Drop)]
+#[derive(Clone, Copy)]
 pub enum Cause {
     // The input is longer than it may be.
     TooLong,

@@ -7,6 +7,8 @@
 // There are two ways to judge a nest, since nearly all input is right. The recogniser keeps no place and names no fault, so it is quick. Only
 // an input that it refuses is walked again, to explain why. Both follow the same rules of `element`, `content` and `closing`: by definition,
 // the recogniser takes what the walk finds no fault in. `content` is public too: the layers above apply its rules to implicitly tagged values.
+#![tactic(auto)]
+
 pub mod bounds;
 mod cause;
 pub mod closing;

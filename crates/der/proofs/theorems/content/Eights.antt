@@ -19,10 +19,10 @@ use Rattle.der.proofs.theorems.content.Productions.{over_characters, utf8_exact}
 
 -- "such bytes" are those that are a character each
 pub ascii_exactly : (octet : ℕ) → Ascii octet ↔ Character (octet ∷ [])
-ascii_exactly octet = (λ a. utf8_1 {a = octet} (zero-le, omega arith), below)
+ascii_exactly octet = (λ a. utf8_1 {a = octet} (zero-le, omega arith), below octet)
   where
-    below : Character (octet ∷ []) → Ascii octet
-    below (utf8_1 w) = omega (arith, w.1)
+    below : (o : ℕ) → Character (o ∷ []) → Ascii o
+    below o (utf8_1 w) = omega (arith, w.1)
 
 -- characters after characters are UTF-8
 joined : {ps qs : List ℕ} → Utf8 ps → Utf8 qs → Utf8 (ps ++ qs)
