@@ -26,6 +26,8 @@ APART = {
     "allKnown": "are_all_known",
     "goesOn": "walk_goes_on",
     "isTrue": "is_true_octet",
+    "issuerUID": "issuer_uid",
+    "subjectUID": "subject_uid",
     "noRoom": "no_room_number",
     "tooLong": "too_long_number",
     "unknownEdition": "unknown_edition_number",

@@ -14,7 +14,7 @@ use editions::pair::{FILE_FIRST, FILE_NEITHER, FILE_SECOND};
 const BEYOND: usize = 65536;
 
 // How many entries there are, and the part that one of them speaks of: whose it is, its first byte and its length.
-#[derive(Drop)]
+#[derive(Clone, Copy)]
 pub(crate) struct Found {
     pub(crate) count: usize,
     pub(crate) file: usize,

@@ -12,14 +12,14 @@ use crate::times::seconds_later;
 use crmf::kinds;
 
 // A row of each batch.
-#[derive(Drop)]
+#[derive(Clone, Copy)]
 pub(crate) struct Pair {
     pub(crate) first: usize,
     pub(crate) second: usize,
 }
 
 // Where the merge stands: the next row of each batch, and how many entries there are so far.
-#[derive(Drop)]
+#[derive(Clone, Copy)]
 pub(crate) struct Cursor {
     pub(crate) first: usize,
     pub(crate) second: usize,

@@ -12,7 +12,7 @@ use editions::reader::accept;
 // What `find_part` answers: document 01's number (`der::refusal`), the place, whose refusal or whose part it is, and the part's first byte and
 // length. C gets it in this layout.
 #[repr(C)]
-#[derive(Drop)]
+#[derive(Clone, Copy)]
 pub struct Part {
     pub number: usize,
     pub place: usize,

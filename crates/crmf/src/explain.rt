@@ -19,7 +19,7 @@ use der::bounds::DEPTH;
 use der::element::reading::read_at;
 
 // What the walk over a container answers.
-#[derive(Drop)]
+#[derive(Clone, Copy)]
 pub enum Walked {
     // All of it is in the grammar.
     Passed(Tally),
@@ -32,7 +32,7 @@ pub enum Walked {
 }
 
 // The line and the place that the walk goes on with, and the tally before them.
-#[derive(Drop)]
+#[derive(Clone, Copy)]
 struct Cursor {
     state: usize,
     at: usize,
@@ -40,7 +40,7 @@ struct Cursor {
 }
 
 // What the walk over one element answers: where to go on, or the break.
-#[derive(Drop)]
+#[derive(Clone, Copy)]
 enum WalkStep {
     On(Cursor),
     Stop {

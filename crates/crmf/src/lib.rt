@@ -9,6 +9,8 @@
 // proved against the grammar's meaning, in both directions.
 //
 // `messages` finds where the message at a position of a batch stands.
+#![tactic(auto)]
+
 pub mod explain;
 mod grammar;
 pub mod kinds;

@@ -8,7 +8,7 @@ use der::element::reading::read_at;
 
 // A message's position in its batch, from 0. It is never a certReqId.
 #[repr(C)]
-#[derive(Drop)]
+#[derive(Clone, Copy)]
 pub struct Position(pub usize);
 
 // The first byte of the message at a position of a batch; the batch's end if it has none there. An input longer than LONGEST has none.

@@ -22,7 +22,7 @@ use der::element::length::measure;
 pub(crate) const NEITHER: usize = 0;
 
 // What the recogniser answers.
-#[derive(Drop)]
+#[derive(Clone, Copy)]
 pub enum Recognition {
     // A batch of the edition with this many rows, and no certReqId of more than 8 octets.
     Rows(usize),
@@ -86,7 +86,7 @@ fn decoded(number: usize) -> Recognition
 }
 
 // Where the count goes on after an element.
-#[derive(Drop)]
+#[derive(Clone, Copy)]
 enum Advance {
     // With a line of the table, at a place of the bytes, with this many rows so far.
     Past {

@@ -20,7 +20,7 @@ use der::element::reading::read_at;
 pub const WIDTH: usize = 5;
 
 // The element around some rows: the row above them, its first byte, its whole length and its content's first byte.
-#[derive(Drop)]
+#[derive(Clone, Copy)]
 pub(crate) struct Around {
     pub(crate) up: usize,
     pub(crate) place: usize,
@@ -29,7 +29,7 @@ pub(crate) struct Around {
 }
 
 // Where to go on: the line, the place and the number of the next row.
-#[derive(Drop)]
+#[derive(Clone, Copy)]
 pub(crate) struct Spot {
     pub(crate) state: usize,
     pub(crate) at: usize,
@@ -38,7 +38,7 @@ pub(crate) struct Spot {
 
 // The place at which the elements end, the number of rows that may be written, and the table's layout: whether each row is packed into one
 // number, or has its five.
-#[derive(Drop)]
+#[derive(Clone, Copy)]
 struct Bounds {
     end: usize,
     limit: usize,
@@ -46,7 +46,7 @@ struct Bounds {
 }
 
 // The row numbers at an element: of the row above it, of the first that it gives and of the next after its own.
-#[derive(Drop)]
+#[derive(Clone, Copy)]
 pub(crate) struct Numbers {
     pub(crate) up: usize,
     pub(crate) row: usize,
@@ -55,7 +55,7 @@ pub(crate) struct Numbers {
 
 // What a row holds: its kind (0: there is no row), its element's first byte and whole length, its parent's row, and the first byte of its
 // element's content.
-#[derive(Drop)]
+#[derive(Clone, Copy)]
 pub(crate) struct Entry {
     pub(crate) kind: usize,
     pub(crate) first: usize,

@@ -12,7 +12,7 @@ use crate::element::identifier::is_constructed;
 use crate::{cause, closing, content};
 
 // What the walk over an element answers.
-#[derive(Drop)]
+#[derive(Clone, Copy)]
 pub enum Nest {
     // No fault: the place after the element.
     End(usize),

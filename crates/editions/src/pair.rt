@@ -10,7 +10,7 @@ pub const FILE_SECOND: usize = 2;
 
 // The answer: document 01's number (`der::refusal`), the place, whose refusal it is, and the count. C gets it in this layout.
 #[repr(C)]
-#[derive(Drop)]
+#[derive(Clone, Copy)]
 pub struct PairAnswer {
     pub number: usize,
     pub place: usize,

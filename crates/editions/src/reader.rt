@@ -19,7 +19,7 @@ use der::refusal::{
 
 // What a call answers: document 01's number (`der::refusal`), the place, and the count of rows. C gets it in this layout.
 #[repr(C)]
-#[derive(Drop)]
+#[derive(Clone, Copy)]
 pub struct Answer {
     pub number: usize,
     pub place: usize,

@@ -1,4 +1,6 @@
 // Times: the calendar, the moments that times show, and the times of a validity.
+#![tactic(auto)]
+
 mod calendar;
 pub mod moment;
 pub mod time;

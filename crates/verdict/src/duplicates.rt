@@ -12,13 +12,13 @@ use der::element::reading;
 use der::refusal::ACCEPTED;
 
 // A message's certReqId, a signed whole number. It is never a position.
-#[derive(Drop)]
+#[derive(Clone, Copy)]
 pub struct ReqId(pub i64);
 
 // What the search answers: document 01's number (`der::refusal`; ACCEPTED if it searched), the place, 1 if a pair was found and 0 if not, and
 // the pair's positions.
 #[repr(C)]
-#[derive(Drop)]
+#[derive(Clone, Copy)]
 pub struct Duplicates {
     pub number: usize,
     pub place: usize,
@@ -28,7 +28,7 @@ pub struct Duplicates {
 }
 
 // What comes of a try with some slots: the answer, or that there are more messages than slots.
-#[derive(Drop)]
+#[derive(Clone, Copy)]
 enum Outcome {
     Answered(Duplicates),
     TooMany,

@@ -44,7 +44,7 @@ pub const MISPLACED_DH_MAC: usize = 7;
 // What `judge` answers: document 01's number (`der::refusal`; ACCEPTED with a verdict), the place, the verdict, and the signed part's place and
 // length.
 #[repr(C)]
-#[derive(Drop)]
+#[derive(Clone, Copy)]
 pub struct Verdict {
     pub number: usize,
     pub place: usize,
@@ -54,7 +54,7 @@ pub struct Verdict {
 }
 
 // A part of the bytes: its first byte and its length.
-#[derive(Drop)]
+#[derive(Clone, Copy)]
 struct Extent {
     from: usize,
     length: usize,

@@ -14,7 +14,7 @@ use der::refusal::NO_SUCH_BATCH;
 use editions::reader::Answer;
 
 // What comes of a try: the answer, or that the sums or the scratch are too small.
-#[derive(Drop)]
+#[derive(Clone, Copy)]
 pub(crate) enum Outcome {
     Answered(Answer),
     TooSmall,

@@ -7,7 +7,7 @@ ghost use Rattle.writer.specs.steps.Inner.{row_of};
 use crmf::rows::WIDTH;
 
 // A row of a draft.
-#[derive(Drop)]
+#[derive(Clone, Copy)]
 pub(crate) struct Row {
     pub(crate) kind: usize,
     pub(crate) first: usize,

@@ -41,8 +41,8 @@ content Template =
     then maybe (row kinds.subject (holding 0xA5 OneName))
     -- "publicKey A6 Spki content, issuerUID 87 and subjectUID 88 BIT STRING" (D4), "extensions A9"
     then maybe (row kinds.public_key (holding 0xA6 Spki))
-    then maybe (only 1 4 fits_no_part (row kinds.issuer_uID (ruled bit_string (plain 0x87))))
-    then maybe (only 1 4 fits_no_part (row kinds.subject_uID (ruled bit_string (plain 0x88))))
+    then maybe (only 1 4 fits_no_part (row kinds.issuer_uid (ruled bit_string (plain 0x87))))
+    then maybe (only 1 4 fits_no_part (row kinds.subject_uid (ruled bit_string (plain 0x88))))
     then maybe (row kinds.extensions (holding 0xA9 Extensions))
     then done
 -- OptionalValidity (RFC 2511 5, RFC 4211 5). "Validity: notBefore A0 (Time)?, notAfter A1 (Time)?"

@@ -44,11 +44,11 @@ subject = 15
 abbrev pub public_key : ℕ
 public_key = 16
 
-abbrev pub issuer_uID : ℕ
-issuer_uID = 17
+abbrev pub issuer_uid : ℕ
+issuer_uid = 17
 
-abbrev pub subject_uID : ℕ
-subject_uID = 18
+abbrev pub subject_uid : ℕ
+subject_uid = 18
 
 abbrev pub extensions : ℕ
 extensions = 19
@@ -145,4 +145,4 @@ reg_info_cert_req = 74
 -- all of them
 abbrev pub row_kinds : List ℕ
 row_kinds =
-    batch ∷ message ∷ cert_req ∷ cert_req_id ∷ cert_template ∷ version ∷ serial_number ∷ signing_alg ∷ issuer ∷ validity ∷ subject ∷ public_key ∷ issuer_uID ∷ subject_uID ∷ extensions ∷ not_before ∷ not_after ∷ extension ∷ controls ∷ unknown_control ∷ reg_token ∷ authenticator ∷ pki_publication_info ∷ pki_archive_options ∷ old_cert_id ∷ protocol_encr_key ∷ ra_verified ∷ signature ∷ key_encipherment ∷ key_agreement ∷ poposk_input ∷ signature_algorithm ∷ signature_bits ∷ this_message ∷ subsequent_message ∷ dh_mac ∷ agree_mac ∷ encrypted_key ∷ reg_info ∷ unknown_reg_info ∷ octet_pairs ∷ utf8_pairs ∷ reg_info_cert_req ∷ []
+    batch ∷ message ∷ cert_req ∷ cert_req_id ∷ cert_template ∷ version ∷ serial_number ∷ signing_alg ∷ issuer ∷ validity ∷ subject ∷ public_key ∷ issuer_uid ∷ subject_uid ∷ extensions ∷ not_before ∷ not_after ∷ extension ∷ controls ∷ unknown_control ∷ reg_token ∷ authenticator ∷ pki_publication_info ∷ pki_archive_options ∷ old_cert_id ∷ protocol_encr_key ∷ ra_verified ∷ signature ∷ key_encipherment ∷ key_agreement ∷ poposk_input ∷ signature_algorithm ∷ signature_bits ∷ this_message ∷ subsequent_message ∷ dh_mac ∷ agree_mac ∷ encrypted_key ∷ reg_info ∷ unknown_reg_info ∷ octet_pairs ∷ utf8_pairs ∷ reg_info_cert_req ∷ []

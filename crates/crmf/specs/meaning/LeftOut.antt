@@ -8,7 +8,7 @@ use Rattle.crmf.specs.meaning.Rows.{Row}
 
 -- "serialNumber, signingAlg, issuerUID and subjectUID are omitted by the requester"
 abbrev pub omitted : List ℕ
-omitted = kinds.serial_number ∷ kinds.signing_alg ∷ kinds.issuer_uID ∷ kinds.subject_uID ∷ []
+omitted = kinds.serial_number ∷ kinds.signing_alg ∷ kinds.issuer_uid ∷ kinds.subject_uid ∷ []
 
 -- the content octets of a row's element
 abbrev pub row_content : List ℕ → Row → List ℕ

@@ -10,21 +10,21 @@ use crate::grammar::{codes, marking, table};
 use crate::kinds;
 
 // A form of one edition alone: its difference's number (0: none was met) and its place.
-#[derive(Drop)]
+#[derive(Clone, Copy)]
 pub struct Difference {
     pub number: usize,
     pub place: usize,
 }
 
 // A certReqId of more than 8 content octets: its whole length (0: none was met) and its place.
-#[derive(Drop)]
+#[derive(Clone, Copy)]
 pub struct LongId {
     pub whole: usize,
     pub place: usize,
 }
 
 // The count of rows, the first form of edition 1 alone, the first of edition 2 alone, and the first long certReqId.
-#[derive(Drop)]
+#[derive(Clone, Copy)]
 pub struct Tally {
     pub count: usize,
     pub one: Difference,

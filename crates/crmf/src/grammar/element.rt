@@ -10,7 +10,7 @@ use der::element::reading::Element;
 
 // An element that fits a line of the grammar: the line's packed word, the element's first byte, its content's first byte and the place past
 // its end.
-#[derive(Drop)]
+#[derive(Clone, Copy)]
 pub struct Fit {
     pub word: usize,
     pub first: usize,
@@ -19,7 +19,7 @@ pub struct Fit {
 }
 
 // Whether an element fits a line.
-#[derive(Drop)]
+#[derive(Clone, Copy)]
 pub enum Fitting {
     // No line that can be reached has its identifier.
     Misfit,

@@ -7,7 +7,7 @@ use crate::grammar::lines::LINES;
 use crate::grammar::{codes, table, value};
 
 // The line to go on with, or request A9's detail of the rule that the value breaks.
-#[derive(Drop)]
+#[derive(Clone, Copy)]
 pub enum Onward {
     To(usize),
     Breaks(usize),

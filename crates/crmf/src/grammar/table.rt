@@ -12,7 +12,7 @@ use crate::grammar::codes;
 use crate::grammar::lines::{LINES, TABLE};
 
 // What the search for an element's line finds.
-#[derive(Drop)]
+#[derive(Clone, Copy)]
 pub enum FoundLine {
     At(usize),
     Nowhere,

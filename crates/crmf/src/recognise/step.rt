@@ -18,7 +18,7 @@ use der::content::utf8;
 use der::{content, recognise};
 
 // How the recogniser goes on at an element.
-#[derive(Drop)]
+#[derive(Clone, Copy)]
 pub enum Visit {
     // The element isn't recognised.
     Refuse,

@@ -18,7 +18,7 @@ use der::bounds::LONGEST;
 use der::element::reading::read_at;
 
 // How the comparison goes on after an element: from a spot, or not at all, since a row differs.
-#[derive(Drop)]
+#[derive(Clone, Copy)]
 enum Step {
     On(Spot),
     Differs,

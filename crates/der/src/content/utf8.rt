@@ -6,7 +6,7 @@ ghost use Rattle.der.specs.steps.Utf8Classes.{class_of, utf8_from, utf8, after_s
 use crate::content::octet_class;
 
 // What the check makes of one octet.
-#[derive(Drop)]
+#[derive(Clone, Copy)]
 enum OctetStep {
     // How many tails the character still wants, and the lowest and the highest class of the next.
     Next(u8, u8, u8),

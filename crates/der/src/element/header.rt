@@ -8,7 +8,7 @@ use crate::element::identifier::is_allowed;
 use crate::element::length::{measure, wide};
 
 // What is read at the start of the octets from an element's first byte to its parent's end.
-#[derive(Drop)]
+#[derive(Clone, Copy)]
 pub enum Head {
     // A header of `octets` bytes, and after it a content of `length` bytes, which ends no later than the parent.
     Stands {

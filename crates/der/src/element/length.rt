@@ -4,7 +4,7 @@ ghost use Rattle.std.specs.Prelude.{◌≡◌, ◌≤◌};
 ghost use Rattle.der.specs.steps.Span.{no_span, fitted, span_of};
 
 // How many identifier and length octets an element has, and how many octets of content. Without an element both are 0.
-#[derive(Drop)]
+#[derive(Clone, Copy)]
 pub struct Span {
     pub octets: usize,
     pub length: usize,

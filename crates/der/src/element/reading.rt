@@ -8,7 +8,7 @@ use crate::element::identifier::is_allowed;
 use crate::element::length::measure;
 
 // An element: its identifier, the first byte of its content and the place after its last byte.
-#[derive(Drop)]
+#[derive(Clone, Copy)]
 pub struct Element {
     pub identifier: u8,
     pub content: usize,

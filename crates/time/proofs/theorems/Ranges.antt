@@ -11,7 +11,6 @@ use native.Mathlib.Omega.{arith}
 use borrow.Author.Tests.{leb-true, leb-false, eqb-true}
 use lib.Dec.{leb, eqb}
 use lib.ListN.{length, get_or, get_elem?, take, drop}
-use Rattle.der.proofs.theorems.lists.Range.{each}
 use Rattle.time.specs.meaning.Calendar.{month_days, days_in, total, days_before_year, days_before_month, Date, is_day, is_real, days_before, seconds, moment}
 use Rattle.time.specs.meaning.Time.{pair_at, date_at, century, utc_date, generalized_date, first_generalized_year, utc_moment, generalized_moment, time_moment}
 use Rattle.time.specs.meaning.Validity.{is_short, element_moment, shown_moment}

@@ -1,7 +1,6 @@
 -- Lists of elements as lists of fields. Well-formed elements are well-formed fields that stand one after the other: so a constructed field
 -- consists of the fields inside it, each stands at its place in the octets of the whole, and all of it moves with the bytes. Assumes nothing.
 use Prim.Native.Nat.{ℕ, zero, suc, ◌+◌, ◌≤◌}
-use native.Mathlib.Nat.{add_assoc}
 use native.Mathlib.Omega.{arith}
 use mathlib.Core.Path.{◌≡◌, refl, sym, ap, ap₂, ◌∙◌, subst}
 use mathlib.Core.Logic.{◌⊎◌, inl, inr}

@@ -107,6 +107,7 @@ fits_only {R} {form} {f} fit = by_form fit.one fit.keeping
   where
     by_form : {g : Form} → OneOf g (form ∷ []) → Fits R g f → Fits R form f
     by_form OneOf.first keeping = keeping
+    by_form {g = g} (Rattle.crmf.specs.meaning.Language.later x4) keeping = elim x4 [ ]
 
 -- a field that keeps the first form or one of the others
 pub fits_cons : {R : ℕ → Bool} {form : Form} {forms : List Form} {f : Field} → FitsOne R (form ∷ forms) f → Fits R form f ⊎ FitsOne R forms f

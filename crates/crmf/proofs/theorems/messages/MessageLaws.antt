@@ -27,7 +27,7 @@ use Rattle.crmf.specs.meaning.Fields.{Field, fields, chain, octets, Runs, Consis
 use Rattle.crmf.specs.meaning.Messages.{proofs, Message, message_of, batch, messages, batch_of, moved_message}
 use Rattle.crmf.proofs.theorems.grammar.Choices.{never_both}
 use Rattle.crmf.proofs.theorems.grammar.ChoicesMatch.{holds-true}
-use Rattle.crmf.proofs.theorems.messages.FieldLaws.{chain_fields, fields_chain, encode_fields, FormedField, chain_formed, fields_formed, fields_run, child_formed, consists_fields, consists_stand, IfAny, if_any, first_with_own, first_with_after, first_with_before, fields_moved, inside_moved, nth_moved, first_with_moved, drop_moved}
+use Rattle.crmf.proofs.theorems.messages.FieldLaws.{fields_chain, encode_fields, FormedField, chain_formed, fields_formed, fields_run, child_formed, consists_fields, consists_stand, IfAny, if_any, first_with_own, first_with_after, first_with_before, fields_moved, inside_moved, nth_moved, first_with_moved, drop_moved}
 use Rattle.crmf.proofs.theorems.messages.FieldsMatch.{Fits, FitsOne, Begun, once_begun, optional_begun, repeated_keep, end_fields, Holding, fits_holding, fits_only, fits_cons, holding_take}
 
 -- A proof's field: which of the four it is, and what it holds.

@@ -117,6 +117,7 @@ held_rows : {R : ℕ → Bool} (k id : ℕ) (name : Name) {g : Form} {inside : T
 held_rows k id name OneOf.first within =
     let (d, same) = within_held within in
     (d, λ here later n up extent. ap (λ (inner : ℕ → ℕ → Extent → List Row). rows_one k kinds.none here (λ j u. inner j u here) later n up extent) same)
+held_rows {R = R} k id name {g = g} {inside = inside} (Rattle.crmf.specs.meaning.Language.later x3) within = elim x3 [ ]
 
 -- the form of a message
 abbrev message_form : Form

@@ -12,7 +12,6 @@ use Rattle.der.specs.meaning.Tree.{Tree, encode}
 use Rattle.der.specs.meaning.Bounds.{longest}
 use Rattle.der.specs.steps.Reading.{reading_at, tree}
 use Rattle.der.proofs.Laws.{read_at_in_order, sequence_constructed}
-use Rattle.crmf.specs.meaning.Grammar.{content}
 use Rattle.crmf.specs.meaning.Fields.{Field, fields}
 use Rattle.crmf.specs.steps.Fields.{fields_between}
 use Rattle.crmf.specs.steps.Positions.{elements_read}

@@ -54,6 +54,7 @@ short_only {R} {form} {f} s = by_form s.one s.field
   where
     by_form : {g : Form} → OneOf g (form ∷ []) → ShortField R g f → ShortField R form f
     by_form OneOf.first field = field
+    by_form {g = g} (Rattle.crmf.specs.meaning.Language.later x4) field = elim x4 [ ]
 
 -- The first field of a list of elements, and the elements after it.
 record FirstShort (R : ℕ → Bool) (forms : List Form) (ps : Parts) (t : Tree) : Type 0 where

@@ -154,6 +154,7 @@ record Batched (rs : List Row) (t : Tree) : Type 0 where
 -- the one form of a list
 pub only_form : {f g : Form} → OneOf f (g ∷ []) → f ≡ g
 only_form first = refl
+only_form {f = f} {g = g} (Rattle.crmf.specs.meaning.Language.later x3) = elim x3 [ ]
 
 -- no parts describe no elements, which have no rows
 pub nothing_left : {R : ℕ → Bool} {t : Tree} (m : Matches R done t) (n up : ℕ) (extent : Extent) → (t ≡ none) × (rows m n up extent ≡ [])

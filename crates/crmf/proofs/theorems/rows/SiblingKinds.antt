@@ -168,6 +168,7 @@ module _ (table : ℕ → Row) where
       let ended = ap length (nothing_left m x.after 0 no_extent).1 in
       ascending_in within x.start x.below here (omega arith) (rw (below, kind)) x.within i j (omega arith) less
       (omega (arith, x.ends, x.last)) same strict
+  batch_ascending {R = R} {f = f} {inside = inside} {rest = rest} here (Rattle.crmf.specs.meaning.Language.later x9) within m stand i j from less before same strict = elim x9 [ ]
 
   -- which are the rows of a batch
   top_ascending : {R : ℕ → Bool} {t : Tree} (m : Matches R (part once (batch_form ∷ []) then done) t) → Stands table 0 (rows m 0 0 no_extent)

@@ -11,7 +11,7 @@ use lib.Dec.{T, eqb}
 use lib.ListN.{length, get_elem?}
 use lib.Seq.{slice}
 use borrow.Author.Tests.{eqb-true, eq-eqb}
-use Rattle.der.specs.meaning.Tree.{Tree, element, header, encode, WellFormed}
+use Rattle.der.specs.meaning.Tree.{Tree, header, encode, WellFormed}
 use Rattle.time.specs.meaning.Validity.{shown_moment, forwards}
 use Rattle.crmf.specs.meaning.Kinds as kinds
 use Rattle.crmf.specs.meaning.Value.{some_forwards, is_empty, keeps}

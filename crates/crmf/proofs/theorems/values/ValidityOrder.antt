@@ -19,7 +19,7 @@ use Rattle.time.specs.meaning.Validity.{shown_moment, forwards}
 use Rattle.time.proofs.Laws.{time_utc, time_generalized, time_few, shown_parts, forwards_none, forwards_alone, forwards_two}
 use Rattle.crmf.specs.meaning.Value.{is_shown, utc_time, generalized_time_from2050, keeps}
 use Rattle.crmf.specs.meaning.Kinds as kinds
-use Rattle.crmf.specs.meaning.Notation.{octet, named, holds, done, ◌then◌, plain, holding, ruled, row, maybe, Validity, Time}
+use Rattle.crmf.specs.meaning.Notation.{named, holds, done, ◌then◌, plain, holding, ruled, row, maybe, Validity, Time}
 use Rattle.crmf.specs.meaning.Grammar.{content}
 use Rattle.crmf.specs.meaning.Language.{Matches, end, pass, take, Within, parts}
 use Rattle.crmf.specs.meaning.Validity.{Shows, here, later, Forwards}
@@ -43,6 +43,7 @@ pub record TimeShown (t : Tree) : Type 0 where
 shown_some : (o : Option ℕ) → T (is_shown o) → (n : ℕ) × (o ≡ some n)
 unfolding is_shown
 shown_some (some n) is = (n, refl)
+shown_some absent is = elim is [ ]
 
 -- what comes after the last part
 done_none : {R : ℕ → Bool} {t : Tree} → Matches R done t → t ≡ none

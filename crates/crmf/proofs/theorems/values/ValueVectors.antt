@@ -1,10 +1,9 @@
 -- Contents that the value rules take or refuse, and ways that values select, computed on the definitions. Assumes nothing.
-use Prim.Native.Nat.{ℕ, ◌+◌}
+use Prim.Native.Nat.{ℕ}
 use mathlib.Core.Bool.{true, false}
 use mathlib.Core.List.{List, [], ◌∷◌, ◌++◌, map}
 use mathlib.Core.Option.{some as present, none as absent}
 use mathlib.Core.Path.{◌≡◌, refl}
-use lib.ListN.{take}
 use Rattle.crmf.specs.meaning.Value.{is_empty, is_up_to, number, is_true_octet, type_number}
 use Rattle.time.specs.meaning.Validity.{is_short, shown_moment, first_element, further_elements, in_order, forwards}
 use Rattle.crmf.specs.meaning.Lists.{same}

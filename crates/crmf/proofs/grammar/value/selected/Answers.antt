@@ -1,0 +1,41 @@
+-- `crmf::grammar::value::selected` meets its contract: each arm's code is one selector's, and no selector has another code. Assumes nothing.
+use mathlib.Core.Path.{◌∙◌}
+use borrow.Author.Rules.{rules}
+use native.Mathlib.Omega.{arith}
+use Rattle.crmf.specs.meaning.Value.{action, method, control_type, info_type, selected}
+use Rattle.crmf.specs.steps.grammar.Packed.{judge_code}
+use Rattle.crmf.proofs.theorems.lines.JudgeCodes.{same_selector, selector_range}
+use Rattle.crmf.proofs.theorems.values.ValueRules.{selected_bound}
+use Rattle.crmf.proofs.grammar.value.selected.Goals as goal
+
+pub returns-in-16 : goal.returns-in-16
+unfolding selected judge_code
+returns-in-16 c = (
+  λ s e. rw (same_selector s action (e ∙ c.in-16.is)) c.number.ensures,
+  rw c.number.ensures (selected_bound action _),
+)
+
+pub returns-in-17 : goal.returns-in-17
+unfolding selected judge_code
+returns-in-17 c = (
+  λ s e. rw (same_selector s method (e ∙ c.in-17.is)) c.number-in-17.ensures,
+  rw c.number-in-17.ensures (selected_bound method _),
+)
+
+pub returns-in-18 : goal.returns-in-18
+unfolding selected judge_code
+returns-in-18 c = (
+  λ s e. rw (same_selector s control_type (e ∙ c.in-18.is)) c.type_number.ensures,
+  rw c.type_number.ensures (selected_bound control_type _),
+)
+
+pub returns-in-19 : goal.returns-in-19
+unfolding selected judge_code
+returns-in-19 c = (
+  λ s e. rw (same_selector s info_type (e ∙ c.in-19.is)) c.type_number-in-19.ensures,
+  rw c.type_number-in-19.ensures (selected_bound info_type _),
+)
+
+pub returns-in_default : goal.returns-in_default
+unfolding judge_code
+returns-in_default c = (λ s e. absurd (omega (arith, selector_range s)), search rules)
