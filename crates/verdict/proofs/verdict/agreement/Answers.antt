@@ -3,18 +3,14 @@ use Prim.Native.Nat.{ℕ}
 use mathlib.Core.Path.{sym, ap}
 use mathlib.Core.Bool.{Bool, true, false}
 use Rattle.verdict.specs.meaning.Verdict.{key_agreement, misplaced_dh_mac}
-use Rattle.verdict.proofs.verdict.agreement.Statement.{statement}
-use Rattle.verdict.proofs.verdict.agreement.Tie as tie
+use Rattle.verdict.proofs.verdict.agreement.Goals as goal
 
 -- the verdict by the test
 abbrev by_test : Bool → ℕ
 by_test t = elim t [ true ↦ misplaced_dh_mac | false ↦ key_agreement ]
 
-returns : tie.Need-returns
-returns c = sym (ap by_test c.if1.true)
+pub returns-then-mac-both : goal.returns-then-mac-both
+returns-then-mac-both c = sym (ap by_test c.if-mac-both.true)
 
-returns-2 : tie.Need-returns-2
-returns-2 c = sym (ap by_test c.if1.false)
-
-pub agreement_spec : {M : Type 1} → statement M
-agreement_spec = tie.close (tie.spec returns returns-2)
+pub returns-else-mac-both : goal.returns-else-mac-both
+returns-else-mac-both c = sym (ap by_test c.if-mac-both.false)
