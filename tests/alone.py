@@ -1,17 +1,12 @@
-"""Each wrong program of the must-fail edits by itself, in a copy of the repository below target/: which proof refuses it, and how."""
+"""Each wrong program of the must-fail edits by itself, in a copy of its crate: which proof refuses it, and how."""
 
-import os
-import re
-import shutil
-import subprocess
+import concurrent.futures
 
 import must_fail
-from layout import CRATES, ROOT
+import trying
 
-COPY = ROOT / "target/alone"
-
-# What `rt must-fail` says of an edit: its crate, its label, what became of it.
-SAID = re.compile(r"rt: must-fail (\w+)/([^:\s]+): (.*)")
+# What the log of a crate that is still proved has.
+PROVED = "\nlogic=proved "
 
 
 def line(program):
@@ -24,21 +19,11 @@ def programs(names=()):
     return [program for program in every if not names or any(name.lower() in line(program).lower() for name in names)]
 
 
-def prepare():
-    """The copy: the crates without their edits, and what is proved of them, so that a wrong program proves its own crate alone."""
-    shutil.rmtree(COPY, ignore_errors=True)
-    shutil.copytree(CRATES, COPY / "crates", ignore=shutil.ignore_patterns("must-fail"))
-    shutil.copy(ROOT / "crates.txt", COPY)
-    for part in ("rlib", "stamp"):
-        if (ROOT / "target" / part).exists():
-            shutil.copytree(ROOT / "target" / part, COPY / "target" / part)
-
-
-def judged(program, label, became):
+def judged(program):
     """Whether a wrong program is refused by the proof that it names, and what that proof says, or what is wrong."""
-    if not became.startswith("refused"):
-        return False, became
-    log = (COPY / "target/must-fail" / program.crate.name / label / ".log").read_text(errors="replace")
+    log = trying.log(program.crate, program.changes)
+    if PROVED in log:
+        return False, "the crate is proved with it"
     for proof in program.proofs:
         said = must_fail.refusal(log, proof)
         if said:
@@ -48,37 +33,14 @@ def judged(program, label, became):
     return False, f"not refused by {named}, but by {others}"
 
 
-def tried(crate, chosen, jobs):
-    """Tries wrong programs of a crate, each as an edit of its own, and answers one by one the program and its judgement."""
-    folder = COPY / "crates" / crate / "must-fail"
-    folder.mkdir()
-    labelled = {f"{program.edit.partition('/')[2]}-{n}": program for n, program in enumerate(chosen)}
-    for label, program in labelled.items():
-        (folder / f"{label}.edit").write_text("\n".join(program.lines) + "\n")
-    last = ""
-    environment = os.environ | {"RT_JOBS": str(jobs)}
-    with subprocess.Popen(
-        ["rt", "must-fail", crate], cwd=COPY, env=environment, stdout=subprocess.PIPE, stderr=subprocess.STDOUT, text=True
-    ) as run:
-        for said in run.stdout:
-            found = SAID.match(said)
-            last = said.strip() or last
-            if found and found[2] in labelled:
-                program = labelled.pop(found[2])
-                yield program, *judged(program, found[2], found[3])
-    for program in labelled.values():
-        yield program, False, f"it was not tried: {last}"
-    shutil.rmtree(folder)
-
-
 def run(chosen, jobs):
     """Tries wrong programs, prints a line and a refusal for each, and answers how many failed."""
-    prepare()
     failed = 0
-    for crate in sorted({program.crate.name for program in chosen}):
-        for program, refused, said in tried(crate, [program for program in chosen if program.crate.name == crate], jobs):
+    for crate in {program.crate for program in chosen}:
+        trying.prepare(crate)
+    with concurrent.futures.ThreadPoolExecutor(jobs) as pool:
+        for program, (refused, said) in zip(chosen, pool.map(judged, chosen)):
             failed += not refused
             print(f"{'refused' if refused else 'FAILED'} {line(program)}\n    {said}", flush=True)
-    shutil.rmtree(COPY)
     print(f"{len(chosen) - failed} refused by their own proof, {failed} failed")
     return failed

@@ -1,6 +1,6 @@
-"""The must-fail edits: every wrong program is refused by its own proof, as the edits and the logs that `rt ci` leaves have it.
+"""The must-fail edits: every wrong program is refused by its own proof, as the edits and what `rt check` says of each have it.
 
-An edit is one wrong program, or several that don't touch each other, which saves a proof of the crate for each. Each begins with the
+An edit is one wrong program, or several that don't touch each other, which saves a check of the crate for each. Each begins with the
 comment that says what is wrong with it. A line `refused: proofs/..`, with a declaration's name after it if the file alone says too little,
 names the proof that must refuse it; `refused: fn ..` names a function that Rattle proves by itself.
 
@@ -9,36 +9,48 @@ and no other. A constant reaches the functions that use it. Whatever reaches fur
 and a right program beside it could look refused: so it is changed in an edit of its own.
 """
 
+import concurrent.futures
 import re
 import typing
 
-from layout import CRATES, ROOT
+import trying
+from layout import CRATES
 
 # Errors that show nothing of a fact: a file no longer fits, as when a name is gone, or it waits for what was refused elsewhere.
-UNFIT = ("that can be named from here", "is not in scope", "has no field", "was not admitted", "so this cannot be checked")
+UNFIT = ("that can be named from here", "is not in scope", "has no field", "has no `", "is no name", "was not admitted",
+    "so this cannot be checked")
 
-# An error of a proof: the file in the edit's copy of the crate, the declaration, and what is said, with the lines below that are indented.
-ERROR = re.compile(r"^\S*/target/must-fail/\w+/[^/\s]+/(proofs/\S+?):[\d:]+: error: `([^`]*)`: (.*(?:\n .*)*)", re.MULTILINE)
+# An error of a proof: the file in the crate, the declaration, and what is said, with the lines below that are indented.
+ERROR = re.compile(r"^(?:\./)?(proofs/\S+?):[\d:]+: error: `([^`]*)`: (.*(?:\n .*)*)", re.MULTILINE)
+
+# The files of a function's proof.
+FILES = ("Answers.antt", "Invariants.antt")
 
 # The items of a source file, each from its first line to its last; `rt fmt` begins them, and nothing else, at the margin.
-FUNCTION = re.compile(r'^(?:pub(?:\(crate\))? )?(?:extern "C" )?fn (\w+)(?:<[^>]*>)?\(.*?^}$', re.MULTILINE | re.DOTALL)
+FUNCTION = re.compile(
+    r"^(?:#\[cycle\((?P<cycle>\w+)\)\]\n)?"
+    r'(?:pub(?:\(crate\))? )?(?:extern "C" )?fn (?P<name>\w+)(?:<[^>]*>)?\(.*?^}$',
+    re.MULTILINE | re.DOTALL,
+)
 CONSTANT = re.compile(r"^(?:pub(?:\(crate\))? )?const (\w+): .*?;$", re.MULTILINE | re.DOTALL)
 TYPE = re.compile(r"^(?:pub(?:\(crate\))? )?(?:struct|enum) \w+.*?(?:^}|;)$", re.MULTILINE | re.DOTALL)
 
 
 class Change(typing.NamedTuple):
+    """A change of a file: a text that stands in it once, after the changes before it, and what comes in its place."""
+
     file: str
     old: str
+    new: str
 
 
 class Program(typing.NamedTuple):
-    """A wrong program: its edit (crate/label), its comment, the proofs that must refuse it, what it changes, and its lines."""
+    """A wrong program: its edit (crate/label), its comment, the proofs that must refuse it, and what it changes."""
 
     edit: str
     says: str
     proofs: list
     changes: list
-    lines: list
 
     @property
     def crate(self):
@@ -48,17 +60,18 @@ class Program(typing.NamedTuple):
 def wrong_programs(edit):
     """The wrong programs of an edit: a comment after anything else begins one."""
     programs = []
-    file = above = ""
+    file = old = above = ""
     for line in edit.read_text().splitlines():
         if line.startswith("#") and not above.startswith("#"):
-            programs.append(Program(f"{edit.parent.parent.name}/{edit.stem}", line.removeprefix("#").strip(), [], [], []))
+            programs.append(Program(f"{edit.parent.parent.name}/{edit.stem}", line.removeprefix("#").strip(), [], []))
         elif line.startswith("refused: "):
             programs[-1].proofs.append(line.removeprefix("refused: "))
         elif line.startswith("file: "):
             file = line.removeprefix("file: ")
         elif line.startswith("old: "):
-            programs[-1].changes.append(Change(file, line.removeprefix("old: ")))
-        programs[-1].lines.append(line)
+            old = line.removeprefix("old: ")
+        elif line.startswith("new:"):
+            programs[-1].changes.append(Change(file, old, line.removeprefix("new:").removeprefix(" ")))
         above = line
     return programs
 
@@ -69,11 +82,11 @@ def edits():
 
 
 def facts(log):
-    """The errors in a log that are for a fact: file, declaration and words of each. The declaration that only joins the others has none."""
+    """The errors in a log that are for a fact: file, declaration and words of each."""
     return [
         (file, declared, words)
         for file, declared, words in ERROR.findall(log)
-        if not any(unfit in words for unfit in UNFIT) and not declared.endswith("-spec")
+        if not any(unfit in words for unfit in UNFIT)
     ]
 
 
@@ -88,35 +101,51 @@ def parted(proof):
 def refusal(log, proof):
     """What a proof says to refuse a wrong program for a fact, or None."""
     if proof.startswith("fn "):
-        said = re.search(rf"^{re.escape(proof)}: no proof: (.*`search` does not close .*`returns(?:-\d+)?`.*)", log, re.MULTILINE)
+        said = re.search(rf"^{re.escape(proof)}: no proof: (.*`search` did not prove .*`(?:\w+-)?returns[^`]*`.*)", log, re.MULTILINE)
         return said and said[1]
     file, declared = parted(proof)
     return next((f"`{by}`: {words}" for where, by, words in facts(log) if where == file and declared in ("", by)), None)
 
 
+def tried(programs):
+    """The wrong programs of an edit that no proof which they name refuses, each with that proof, if all are tried at once. A function that
+    Rattle proves by itself waits for what it calls: it is looked at again with its own wrong program alone."""
+    log = trying.log(programs[0].crate, [change for program in programs for change in program.changes])
+    missed = [(program, proof) for program in programs for proof in program.proofs if not refusal(log, proof)]
+    if len(programs) == 1:
+        return missed
+    return [(program, proof) for program, proof in missed if not refusal(trying.log(program.crate, program.changes), proof)]
+
+
 def unrefused():
-    found = []
-    for program in (program for edit in edits() for program in edit):
-        log = ROOT / "target/must-fail" / program.edit / ".log"
-        said = log.read_text(errors="replace") if log.exists() else ""
-        if not said:
-            found.append(f"{program.edit}: target/ has no log of the edit")
-        elif not program.proofs:
-            found.append(f"{program.edit}: no proof is named for: {program.says}")
-        else:
-            found += [f"{program.edit}: not refused by {proof}: {program.says}" for proof in program.proofs if not refusal(said, proof)]
+    every = edits()
+    found = [f"{program.edit}: no proof is named for: {program.says}" for edit in every for program in edit if not program.proofs]
+    for crate in {edit[0].crate for edit in every}:
+        trying.prepare(crate)
+    with concurrent.futures.ThreadPoolExecutor(trying.lanes()) as pool:
+        for missed in pool.map(tried, every):
+            found += [f"{program.edit}: not refused by {proof}: {program.says}" for program, proof in missed]
     return found
 
 
 def proof_of(crate, source, function):
-    """The proof of a function: its file, or that of its cycle, or the function's own name if Rattle proves it by itself."""
+    """Where the proof of a function stands, if it has any file: its folder, or that of its cycle."""
     module = source.relative_to(crate / "src").with_suffix("").parts
-    module = () if module in (("lib",), ("main",)) else module
-    folder = crate.joinpath("proofs", *module)
-    for file in [*folder.glob("+*/Proof.antt"), folder / function / "Proof.antt"]:
-        if file.exists() and function in file.parent.name.split("+"):
-            return str(file.relative_to(crate))
-    return f"fn {'::'.join((crate.name, *module, function))}"
+    folder = "/".join(["proofs", *(() if module in (("lib",), ("main",)) else module)])
+    cycle = next((item["cycle"] for item in FUNCTION.finditer(source.read_text()) if item["name"] == function), None)
+    around = f"{folder}/+{cycle or function}"
+    return around if cycle or (crate / around).exists() else f"{folder}/{function}"
+
+
+def place(crate, proof):
+    """Where the proof stands that a line `refused:` names: a function's folder, or a file of lemmas."""
+    if proof.startswith("fn "):
+        *modules, function = proof.split("::")[1:]
+        sources = ["/".join(modules) + ".rt"] if modules else ["lib.rt", "main.rt"]
+        return next(proof_of(crate, crate / "src" / source, function) for source in sources if (crate / "src" / source).exists())
+    file = parted(proof)[0]
+    folder, _, name = file.rpartition("/")
+    return folder if name in FILES else file
 
 
 def users(crate, constant):
@@ -127,7 +156,7 @@ def users(crate, constant):
         named = re.compile(rf"\b{constant}\b")
         if any(named.search(item[0]) for item in TYPE.finditer(text)):
             return None
-        found |= {proof_of(crate, source, item[1]) for item in FUNCTION.finditer(text) if named.search(item[0])}
+        found |= {proof_of(crate, source, item["name"]) for item in FUNCTION.finditer(text) if named.search(item[0])}
         for other in (item[1] for item in CONSTANT.finditer(text) if named.search(item[0].partition("=")[2])):
             more = users(crate, other)
             if more is None:
@@ -142,29 +171,37 @@ def body(function):
     return function.start() + re.search(r"^\{$" if contract else r"\{$", function[0], re.MULTILINE).end()
 
 
-def reach(crate, change):
-    """The proofs that a change can break; None if any could be."""
-    if change.file.startswith("proofs/") and change.file.endswith("/Proof.antt"):
-        return {change.file}
+def reach(crate, change, text):
+    """The proofs that a change of this text can break; None if any could be."""
+    folder, _, name = change.file.rpartition("/")
+    if folder.startswith("proofs/") and name in FILES:
+        return {folder}
     if not change.file.startswith("src/"):
         return None
-    source = crate / change.file
-    text = source.read_text()
     at = text.index(change.old)
     for function in FUNCTION.finditer(text):
         if body(function) <= at < function.end():
-            return {proof_of(crate, source, function[1])}
+            return {proof_of(crate, crate / change.file, function["name"])}
     for constant in CONSTANT.finditer(text):
         if constant.start() <= at < constant.end():
             return users(crate, constant[1])
     return None
 
 
+def steps(program):
+    """Each change of a wrong program, with the text that it is made in."""
+    texts = {}
+    for change in program.changes:
+        text = texts.get(change.file) or (program.crate / change.file).read_text()
+        yield change, text
+        texts[change.file] = text.replace(change.old, change.new)
+
+
 def touched(program):
     """The proofs that a wrong program can break; None if any could be."""
     found = set()
-    for change in program.changes:
-        reached = reach(program.crate, change)
+    for change, text in steps(program):
+        reached = reach(program.crate, change, text)
         if reached is None:
             return None
         found |= reached
@@ -174,8 +211,8 @@ def touched(program):
 def ill_made(program):
     """What is wrong with a wrong program before any proof is looked at."""
     found = []
-    for change in program.changes:
-        count = (program.crate / change.file).read_text().count(change.old)
+    for change, text in steps(program):
+        count = text.count(change.old)
         if count != 1:
             found.append(f"{program.edit}: {change.file} has {count} times {change.old!r}")
     if all(change.file.startswith("proofs/") for change in program.changes):
@@ -185,7 +222,7 @@ def ill_made(program):
 
 def unseen(program, own):
     """The proofs that a wrong program names and can't break."""
-    named = [] if own is None else [proof for proof in program.proofs if parted(proof)[0] not in own]
+    named = [] if own is None else [proof for proof in program.proofs if place(program.crate, proof) not in own]
     return [f"{program.edit}: {proof} doesn't see this: {program.says}" for proof in named]
 
 

@@ -10,7 +10,7 @@ TOKEN = re.compile(r"`([^`]+)`")
 PATH = re.compile(r"[\w./-]+/[\w./-]+\.(?:antt|rt)")
 HEADING = re.compile(r"^## .*?(?:`crates/(\w+)`)?$", re.MULTILINE)
 PUBLIC = re.compile(r'^pub (?:extern "C" )?fn (\w+)', re.MULTILINE)
-NAME = r"(?<![\w·-])%s(?![\w·-])"
+NAME = r"(?<![\w-])%s(?![\w-])"
 
 
 def sections():
@@ -31,7 +31,7 @@ def claims():
                     base = folder if (folder / token).exists() else CRATES
                     yield base / token, names
                     names = []
-                elif re.fullmatch(r"[\w·-]+", token):
+                elif re.fullmatch(r"[\w-]+", token):
                     names.append(token)
 
 

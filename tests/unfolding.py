@@ -12,9 +12,10 @@ USE = re.compile(
     r"\b(?P<marks>(?:unfoldable )?(?:pub )?)use\s+(?P<path>[^\s{};]+?)"
     r"(?:\.\{(?P<names>[^}]*)\}|\s+as\s+(?P<alias>[^\s;]+))?(?=[\s;]|$)"
 )
-# an `unfolding` line with its further lines, which are indented more; and `unfold a b in`
+# an `unfolding` line with its further lines, which are indented more; `unfold a b in`; and what a function's tactic opens
 LINE = re.compile(r"^( *)unfolding\b(?P<names>.*(?:\n\1 +.*)*)", re.MULTILINE)
-TERM = re.compile(r"(?<![\w·-])unfold\s(?P<names>.*?)\sin\b", re.DOTALL)
+TERM = re.compile(r"(?<![\w-])unfold\s(?P<names>.*?)\sin\b", re.DOTALL)
+TACTIC = re.compile(r"#!?\[tactic\([^\]]*?\bunfolding\((?P<names>[^)]*)\)")
 ABBREVIATION = re.compile(r"^ *(?:unfoldable )?abbrev pub (?P<name>\S+)", re.MULTILINE)
 
 # Each as crate.module.name, or crate.module for all of a module's, with what it is open for.
@@ -26,27 +27,30 @@ OPEN = {
     "crmf.meaning.Kinds": "document 01's numbers",
     "crmf.meaning.Rows.width": "document 01's number, which arithmetic multiplies by",
     "crmf.meaning.Messages.proofs": "document 01's list of identifiers",
-    "crmf.meaning.LeftOut.rowContent": "a slice's name: the content octets of a row's element",
-    "crmf.meaning.Messages.batchHeader": "a number's name: the length of a header, which arithmetic adds and subtracts",
-    "crmf.meaning.Rows.movedRow": "a record's name: its fields are read",
-    "crmf.meaning.Rows.renumberedRow": "a record's name: its fields are read",
+    "crmf.meaning.LeftOut.row_content": "a slice's name: the content octets of a row's element",
+    "crmf.meaning.Messages.batch_header": "a number's name: the length of a header, which arithmetic adds and subtracts",
+    "crmf.meaning.Rows.moved_row": "a record's name: its fields are read",
+    "crmf.meaning.Rows.renumbered_row": "a record's name: its fields are read",
     "der.meaning.Fault.First": "a type's name: the relation of the first fault",
     "der.meaning.Fault.Any": "a type's name: the relation of any fault",
     "crmf.steps.explain.Walk.every": "the test that is always true",
     "crmf.meaning.Fields.StandsAt": "a type's name: an equation",
-    "crmf.meaning.Pieces.pieceOf": "a record's name: its fields are read",
+    "crmf.meaning.Pieces.piece_of": "a record's name: its fields are read",
     "editions.steps.Reading.accepted": "a record's name: its fields are read",
     "editions.steps.Reading.refusal": "a record's name: its fields are read",
-    "verdict.meaning.Verdict.misplacedDhMac": "document 01's number, the largest verdict",
+    "verdict.meaning.Verdict.misplaced_dh_mac": "document 01's number, the largest verdict",
     "cases.Reading.largest": "the largest `usize`, which arithmetic compares with and counts down from",
-    "cases.Reading.tokenAt": "a record's name: its fields are read",
+    "cases.Reading.token_at": "a record's name: its fields are read",
 }
 
 
 def crate_of(path, brought):
     """The crate of this repository that a path leads into, if any; `brought` has the crate of each name that the file brings."""
-    head = path.removeprefix("package.").split(".")[0]
-    crate = head.removeprefix("Rattle·").split("·")[0] if head.startswith("Rattle·") else brought.get(head)
+    if "::" in path:
+        crate = path.split("::")[0]
+    else:
+        head, *inside = path.split(".")
+        crate = inside[0] if head == "Rattle" and inside else brought.get(head)
     return crate if crate in folders() else None
 
 
@@ -76,8 +80,8 @@ def opened_in(path):
     for use in USE.finditer(text):
         if use["marks"].startswith("unfoldable") and crate_of(use["path"], brought) not in (None, own):
             yield f"passes on the right to unfold {use['path']}"
-    for match in [*LINE.finditer(text), *TERM.finditer(text)]:
-        for name in match["names"].split():
+    for match in [*LINE.finditer(text), *TERM.finditer(text), *TACTIC.finditer(text)]:
+        for name in match["names"].replace(",", " ").split():
             crate = crate_of(name, brought)
             if crate not in (None, own):
                 yield f"opens {name} of the crate {crate}"
@@ -85,7 +89,7 @@ def opened_in(path):
 
 def sources():
     """Every file of a crate that isn't one of vectors."""
-    files = sorted(path for path in CRATES.rglob("*") if path.suffix in (".antt", ".rt"))
+    files = sorted(path for part in ("src", "specs", "proofs") for path in CRATES.glob(f"*/{part}/**/*") if path.suffix in (".antt", ".rt"))
     return [path for path in files if not path.name.endswith("Vectors.antt")]
 
 
@@ -108,17 +112,17 @@ def taken_in(path, found):
     text = without_comments(path)
     brought = {}
     for use in USE.finditer(text):
-        module = use["path"].removeprefix("Rattle·").replace(".specs.", ".", 1)
+        module = use["path"].removeprefix("Rattle.").replace(".specs.", ".", 1)
         if module in found and use["names"] is None:
             brought[use["alias"] or use["path"].split(".")[-1]] = module
         for name in (use["names"] or "").split(","):
             name = re.split(r"\s+as\s+", name.strip())[0]
             if not module.startswith(own + ".") and name in found.get(module, ()):
                 yield f"{module}.{name}"
-    for alias, module in [*brought.items(), *((f"Rattle·{m.replace('.', '.specs.', 1)}", m) for m in found)]:
+    for alias, module in [*brought.items(), *((f"Rattle.{m.replace('.', '.specs.', 1)}", m) for m in found)]:
         if module.startswith(own + ".") or alias not in text:
             continue
-        for name in re.findall(rf"(?<![\w·.]){re.escape(alias)}\.([^\s(){{}},;]+)", text):
+        for name in re.findall(rf"(?<![\w.]){re.escape(alias)}\.([^\s(){{}},;]+)", text):
             if name in found[module]:
                 yield f"{module}.{name}"
 
@@ -146,7 +150,7 @@ def steps_in_meaning():
     return [
         f"{path.relative_to(CRATES)} takes something from the code's steps"
         for path in sorted(CRATES.glob("*/specs/meaning/*.antt"))
-        if re.search(r"^(?:pub )?use Rattle·\S+?specs\.(?:steps|declared)\.", path.read_text(), re.MULTILINE)
+        if re.search(r"^(?:pub )?use Rattle\.\w+\.specs\.(?:steps|declared)\.", path.read_text(), re.MULTILINE)
     ]
 
 
