@@ -6,7 +6,7 @@ BUILD ?= target/tool
 
 HEADER = include/phagundro.h
 VERSION := $(shell sed -n 's/.*define PHAGUNDRO_VERSION "\(.*\)"/\1/p' $(HEADER))
-ARCHIVE = target/staticlib/libcapi.a
+ARCHIVE = crates/capi/out/libcapi.a
 SOURCES = $(wildcard tools/*.c)
 HEADERS = $(wildcard tools/*.h) $(HEADER)
 COMPILE = $(CC) -std=c11 -Wall -Wextra -Werror $(CFLAGS)
@@ -25,7 +25,7 @@ INSTALLED = $(DESTDIR)$(PREFIX)
 all: $(BUILD)/phagundro ## the archive, if there is none yet, and the tool
 
 $(ARCHIVE):
-	rt staticlib capi
+	cd crates/capi && rt lib
 
 $(BUILD)/phagundro: $(SOURCES) $(HEADERS) $(ARCHIVE) Makefile
 	mkdir -p $(BUILD)

@@ -16,7 +16,7 @@ from layout import ROOT
 FOLDER = pathlib.Path(__file__).with_name("host")
 HEADER = ROOT / "include/phagundro.h"
 BUILT = ROOT / "target/host"
-ARCHIVE = ROOT / "target/staticlib/libcapi.a"
+ARCHIVE = ROOT / "crates/capi/out/libcapi.a"
 WARNINGS = ["-Wall", "-Wextra", "-Werror"]
 C11 = ["gcc", "-std=c11", *WARNINGS]
 CPP17 = ["g++", "-std=c++17", *WARNINGS]
@@ -65,7 +65,7 @@ def sanitized(name, *more):
 @functools.cache
 def archive():
     ARCHIVE.unlink(missing_ok=True)
-    did(["rt", "staticlib", "capi"])
+    did(["make", ARCHIVE.relative_to(ROOT)])
     return ARCHIVE
 
 
