@@ -20,7 +20,8 @@ MEMORY = 4 << 30  # bytes that a check may take
 
 def checked(folder, *flags):
     """What a check of the crate in a folder says, and whether it is proved."""
-    ended = subprocess.run(["rt", "check", *flags], cwd=folder, stdout=subprocess.PIPE, stderr=subprocess.STDOUT, text=True, errors="replace")
+    both = {"stdout": subprocess.PIPE, "stderr": subprocess.STDOUT, "text": True, "errors": "replace"}
+    ended = subprocess.run(["rt", "check", *flags], cwd=folder, **both)
     return ended.stdout, ended.returncode == 0
 
 
