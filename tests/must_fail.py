@@ -119,11 +119,13 @@ def tried(programs):
 
 def unrefused():
     every = edits()
-    found = [f"{program.edit}: no proof is named for: {program.says}" for edit in every for program in edit if not program.proofs]
-    for crate in {edit[0].crate for edit in every}:
+    fit = [edit for edit in every if not any(ill_made(program) for program in edit)]
+    found = [f"{edit[0].edit}: not tried, since it doesn't fit" for edit in every if edit not in fit]
+    found += [f"{program.edit}: no proof is named for: {program.says}" for edit in every for program in edit if not program.proofs]
+    for crate in {edit[0].crate for edit in fit}:
         trying.prepare(crate)
     with concurrent.futures.ThreadPoolExecutor(trying.lanes()) as pool:
-        for missed in pool.map(tried, every):
+        for missed in pool.map(tried, fit):
             found += [f"{program.edit}: not refused by {proof}: {program.says}" for program, proof in missed]
     return found
 
@@ -192,7 +194,8 @@ def steps(program):
     """Each change of a wrong program, with the text that it is made in."""
     texts = {}
     for change in program.changes:
-        text = texts.get(change.file) or (program.crate / change.file).read_text()
+        path = program.crate / change.file
+        text = texts.get(change.file) or (path.read_text() if path.exists() else "")
         yield change, text
         texts[change.file] = text.replace(change.old, change.new)
 
