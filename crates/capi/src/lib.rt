@@ -1,4 +1,6 @@
 // The C calls; their manual is include/phagundro.h. A slice comes as a pointer and a length.
+#![tactic(auto)]
+
 ghost use Rattle.std.specs.Prelude.{◌≡◌};
 ghost use Rattle.time.specs.meaning.Validity.{shown_moment};
 ghost use Rattle.editions.specs.meaning.Reads.{Reads};

@@ -9,7 +9,7 @@ ghost use Rattle.cases.specs.Reading.{filled, pushed, pushed_again, pushed_part,
 pub const ROOM: usize = 70000;
 
 // A case as far as it has been read.
-#[derive(Drop)]
+#[derive(Clone, Copy)]
 pub struct Case {
     // How many octets the room has so far.
     pub octets: usize,

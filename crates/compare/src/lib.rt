@@ -1,4 +1,6 @@
 // Comparing two batches: what changed between them, and the parts that it concerns.
+#![tactic(auto)]
+
 pub mod compare;
 pub mod entries;
 mod found;

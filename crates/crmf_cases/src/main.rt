@@ -6,6 +6,8 @@
 //
 // ONE and TWO are the first form of edition 1 alone and of edition 2 alone that was met (before the break): Dn@PLACE, with the
 // difference's number; or `-` for none.
+#![tactic(auto)]
+
 use cases::case::{Case, ROOM, octets};
 use cases::input::TEXT;
 use crmf::explain::Walked;
@@ -13,7 +15,7 @@ use crmf::explain::tally::{Difference, Tally};
 use der::refusal::NOT_IN_GRAMMAR;
 use format::answer::{fault, refusal};
 use format::page::{character, number, text};
-use libc::STDOUT_FILENO;
+use std::io;
 
 // The octets of the page on which a line is written.
 const PAGE: usize = 256;
@@ -54,31 +56,33 @@ fn write_answer(page: &mut [u8; PAGE], answer: Walked) -> usize {
 }
 
 // Prints the page's first octets.
-fn print(page: &[u8; PAGE], length: usize) {
-    io::write_all(STDOUT_FILENO, octets(page, length));
+fn print(rt: &impl Print, page: &[u8; PAGE], length: usize) -> io::Result<()> {
+    rt.write_all(octets(page, length))
 }
 
 // Judges a case: the first octets of the room.
-fn judge(room: &[u8; ROOM], case: Case, page: &mut [u8; PAGE]) {
+fn judge(rt: &impl Print, room: &[u8; ROOM], case: Case, page: &mut [u8; PAGE]) -> io::Result<()> {
     let end = write_answer(page, crmf::explain::count(octets(room, case.octets)));
-    print(page, end);
+    print(rt, page, end)
 }
 
-fn main() {
+fn main(rt: HostRuntime) -> io::Result<()> {
     let mut text = [0u8; TEXT];
     let mut room = [0u8; ROOM];
     let mut page = [0u8; PAGE];
+    let mut reader = rt.stdin();
     let mut input = cases::input::open();
     let mut case = cases::case::start();
     for turn in 0..usize::MAX {
-        input = cases::input::next(input, &mut text);
+        input = cases::input::next(input, &mut text, &mut reader)?;
         if input.ended {
-            return;
+            return Ok(());
         }
         case = cases::case::read(case, input.character, &mut room);
         if input.character == b'\n' {
-            judge(&room, case, &mut page);
+            judge(&rt, &room, case, &mut page)?;
             case = cases::case::start();
         }
     }
+    Ok(())
 }

@@ -6,6 +6,8 @@
 //     -                                 in neither edition's grammar
 //
 // and an empty line. One more line says so if a number of the table has changed that shouldn't.
+#![tactic(auto)]
+
 ghost use Rattle.std.specs.Prelude.{◌≤◌};
 
 use cases::case::{Case, ROOM, octets};
@@ -15,7 +17,7 @@ use crmf::recognise::Recognition;
 use crmf::rows::WIDTH;
 use format::page::{character, text};
 use format::rows::rows;
-use libc::STDOUT_FILENO;
+use std::io;
 
 // The rows that the table holds.
 const ROWS: usize = NUMBERS / WIDTH;
@@ -62,8 +64,8 @@ fn write_table(
 }
 
 // Prints the page's first octets.
-fn print(page: &[u8; PAGE], length: usize) {
-    io::write_all(STDOUT_FILENO, octets(page, length));
+fn print(rt: &impl Print, page: &[u8; PAGE], length: usize) -> io::Result<()> {
+    rt.write_all(octets(page, length))
 }
 
 // Reads a batch with the first numbers of the table lent.
@@ -91,7 +93,7 @@ fn fill(
 }
 
 // Reads a batch in the first edition that accepts it, with `numbers` numbers of a table lent, and prints the answer.
-fn answer(batch: &[u8], numbers: usize, page: &mut [u8; PAGE]) {
+fn answer(rt: &impl Print, batch: &[u8], numbers: usize, page: &mut [u8; PAGE]) -> io::Result<()> {
     let mut table = [0usize; NUMBERS];
     let mut at = fill(1, batch, &mut table, numbers, page);
     if at == 0 {
@@ -101,7 +103,7 @@ fn answer(batch: &[u8], numbers: usize, page: &mut [u8; PAGE]) {
         at = text(page, 0, b"-\n");
     }
     let end = character(page, at, b'\n');
-    print(page, end);
+    print(rt, page, end)
 }
 
 // The number of two octets.
@@ -110,29 +112,31 @@ fn number(high: u8, low: u8) -> usize {
 }
 
 // Judges a case: the first octets of the room.
-fn judge(room: &[u8; ROOM], case: Case, page: &mut [u8; PAGE]) {
+fn judge(rt: &impl Print, room: &[u8; ROOM], case: Case, page: &mut [u8; PAGE]) -> io::Result<()> {
     let bytes = octets(room, case.octets);
     if bytes.len() < 2 {
-        return;
+        return Ok(());
     }
-    answer(&bytes[2..], number(bytes[0], bytes[1]), page);
+    answer(rt, &bytes[2..], number(bytes[0], bytes[1]), page)
 }
 
-fn main() {
+fn main(rt: HostRuntime) -> io::Result<()> {
     let mut text = [0u8; TEXT];
     let mut room = [0u8; ROOM];
     let mut page = [0u8; PAGE];
+    let mut reader = rt.stdin();
     let mut input = cases::input::open();
     let mut case = cases::case::start();
     for turn in 0..usize::MAX {
-        input = cases::input::next(input, &mut text);
+        input = cases::input::next(input, &mut text, &mut reader)?;
         if input.ended {
-            return;
+            return Ok(());
         }
         case = cases::case::read(case, input.character, &mut room);
         if input.character == b'\n' {
-            judge(&room, case, &mut page);
+            judge(&rt, &room, case, &mut page)?;
             case = cases::case::start();
         }
     }
+    Ok(())
 }

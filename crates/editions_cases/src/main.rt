@@ -12,6 +12,8 @@
 // with `and not 0 but N` if the third number, the place of an acceptance or the count of a refusal, isn't 0. `, accept` and the answer of
 // `accept` follow if that is another, and `, changed` if a number of the table has changed that shouldn't: any at a refusal, and one after
 // the rows at an acceptance.
+#![tactic(auto)]
+
 use cases::case::{ROOM, octets};
 use cases::input::TEXT;
 use cases::table::{NUMBERS, is_untouched, prepare};
@@ -21,8 +23,8 @@ use editions::reader::Answer;
 use format::answer::answer;
 use format::page::{character, text};
 use format::rows::rows;
-use libc::STDOUT_FILENO;
 use lines::line::Line;
+use std::io;
 
 // The most rows that are printed.
 const SHOWN: usize = 60;
@@ -67,8 +69,8 @@ fn write_table(page: &mut [u8; PAGE], at: usize, table: &[usize; NUMBERS], count
 }
 
 // Prints the page's first octets.
-fn print(page: &[u8; PAGE], length: usize) {
-    io::write_all(STDOUT_FILENO, octets(page, length));
+fn print(rt: &impl Print, page: &[u8; PAGE], length: usize) -> io::Result<()> {
+    rt.write_all(octets(page, length))
 }
 
 // Reads a batch with the first numbers of the table lent.
@@ -81,17 +83,18 @@ fn read(edition: usize, bytes: &[u8], table: &mut [usize], numbers: usize) -> An
 
 // Judges a batch in one edition.
 fn judge(
+    rt: &impl Print,
     edition: usize,
     bytes: &[u8],
     table: &mut [usize; NUMBERS],
     numbers: usize,
     page: &mut [u8; PAGE],
-) {
+) -> io::Result<()> {
     prepare(table);
     let found = read(edition, bytes, table, numbers);
     let at = write_answers(page, found, editions::reader::accept(edition, bytes));
     let end = write_table(page, at, table, found.count);
-    print(page, end);
+    print(rt, page, end)
 }
 
 // How many numbers of the table a line has lent.
@@ -104,32 +107,39 @@ fn lent(line: Line) -> usize {
 }
 
 // Judges a case in the edition that its line names, or in both.
-fn judge_line(room: &[u8; ROOM], line: Line, table: &mut [usize; NUMBERS], page: &mut [u8; PAGE]) {
+fn judge_line(
+    rt: &impl Print,
+    room: &[u8; ROOM],
+    line: Line,
+    table: &mut [usize; NUMBERS],
+    page: &mut [u8; PAGE],
+) -> io::Result<()> {
     let bytes = octets(room, line.case.octets);
     if line.heading.named {
-        judge(line.heading.edition, bytes, table, lent(line), page);
-        return;
+        return judge(rt, line.heading.edition, bytes, table, lent(line), page);
     }
-    judge(RFC2511, bytes, table, lent(line), page);
-    judge(RFC4211, bytes, table, lent(line), page);
+    judge(rt, RFC2511, bytes, table, lent(line), page)?;
+    judge(rt, RFC4211, bytes, table, lent(line), page)
 }
 
-fn main() {
+fn main(rt: HostRuntime) -> io::Result<()> {
     let mut text = [0u8; TEXT];
     let mut room = [0u8; ROOM];
     let mut table = [0usize; NUMBERS];
     let mut page = [0u8; PAGE];
+    let mut reader = rt.stdin();
     let mut input = cases::input::open();
     let mut line = lines::line::start();
     for turn in 0..usize::MAX {
-        input = cases::input::next(input, &mut text);
+        input = cases::input::next(input, &mut text, &mut reader)?;
         if input.ended {
-            return;
+            return Ok(());
         }
         line = lines::line::read(line, input.character, &mut room, &mut table);
         if input.character == b'\n' {
-            judge_line(&room, line, &mut table, &mut page);
+            judge_line(&rt, &room, line, &mut table, &mut page)?;
             line = lines::line::start();
         }
     }
+    Ok(())
 }

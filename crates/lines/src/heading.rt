@@ -15,7 +15,7 @@ const LIST: usize = 2;
 pub const OCTETS: usize = 3;
 
 // A heading as far as it has been read.
-#[derive(Drop)]
+#[derive(Clone, Copy)]
 pub struct Heading {
     // The part that is being read.
     pub part: usize,
@@ -59,6 +59,7 @@ pub fn read(heading: Heading, c: u8, list: &mut [usize]) -> Heading
 }
 
 // Begins the part that a mark announces.
+#[tactic(auto, unfolding(crate::specs::Heading::with_mark))]
 fn begin_part(heading: Heading, mark: u8) -> Heading
     ensures { result ≡ with_mark heading mark }
 {

@@ -7,7 +7,7 @@ use cases::case::{Case, ROOM};
 use cases::table::NUMBERS;
 
 // A line as far as it has been read.
-#[derive(Drop)]
+#[derive(Clone, Copy)]
 pub struct Line {
     pub heading: Heading,
     pub case: Case,

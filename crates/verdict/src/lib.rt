@@ -1,3 +1,5 @@
 // The proof verdict and the duplicate search over a batch's messages.
+#![tactic(auto)]
+
 pub mod duplicates;
 pub mod verdict;

@@ -9,14 +9,16 @@
 //     NUMBER PLACE VERDICT FROM LENGTH / NUMBER PLACE FOUND EARLIER LATER
 //
 // followed by `, part of N` if the signed part that is handed back has another length.
+#![tactic(auto)]
+
 use cases::case::{ROOM, octets};
 use cases::input::TEXT;
 use cases::table::NUMBERS;
 use crmf::messages::Position;
 use editions::edition::{RFC2511, RFC4211};
 use format::page::{character, number, text};
-use libc::STDOUT_FILENO;
 use lines::line::Line;
+use std::io;
 use verdict::duplicates::Duplicates;
 use verdict::verdict::Verdict;
 
@@ -60,46 +62,58 @@ fn write_answers(page: &mut [u8; PAGE], found: Verdict, part: usize, pair: Dupli
 }
 
 // Prints the page's first octets.
-fn print(page: &[u8; PAGE], length: usize) {
-    io::write_all(STDOUT_FILENO, octets(page, length));
+fn print(rt: &impl Print, page: &[u8; PAGE], length: usize) -> io::Result<()> {
+    rt.write_all(octets(page, length))
 }
 
 // Judges a batch in one edition.
-fn judge(edition: usize, bytes: &[u8], position: usize, page: &mut [u8; PAGE]) {
+fn judge(
+    rt: &impl Print,
+    edition: usize,
+    bytes: &[u8],
+    position: usize,
+    page: &mut [u8; PAGE],
+) -> io::Result<()> {
     let found = verdict::verdict::judge(edition, bytes, Position(position));
     let part = verdict::verdict::signed_part(edition, bytes, Position(position)).len();
     let pair = verdict::duplicates::search(edition, bytes);
     let end = write_answers(page, found, part, pair);
-    print(page, end);
+    print(rt, page, end)
 }
 
 // Judges a case in the edition that its line names, or in both.
-fn judge_line(room: &[u8; ROOM], line: Line, page: &mut [u8; PAGE]) {
+fn judge_line(
+    rt: &impl Print,
+    room: &[u8; ROOM],
+    line: Line,
+    page: &mut [u8; PAGE],
+) -> io::Result<()> {
     let bytes = octets(room, line.case.octets);
     if line.heading.named {
-        judge(line.heading.edition, bytes, line.heading.number, page);
-        return;
+        return judge(rt, line.heading.edition, bytes, line.heading.number, page);
     }
-    judge(RFC2511, bytes, line.heading.number, page);
-    judge(RFC4211, bytes, line.heading.number, page);
+    judge(rt, RFC2511, bytes, line.heading.number, page)?;
+    judge(rt, RFC4211, bytes, line.heading.number, page)
 }
 
-fn main() {
+fn main(rt: HostRuntime) -> io::Result<()> {
     let mut text = [0u8; TEXT];
     let mut room = [0u8; ROOM];
     let mut list = [0usize; NUMBERS];
     let mut page = [0u8; PAGE];
+    let mut reader = rt.stdin();
     let mut input = cases::input::open();
     let mut line = lines::line::start();
     for turn in 0..usize::MAX {
-        input = cases::input::next(input, &mut text);
+        input = cases::input::next(input, &mut text, &mut reader)?;
         if input.ended {
-            return;
+            return Ok(());
         }
         line = lines::line::read(line, input.character, &mut room, &mut list);
         if input.character == b'\n' {
-            judge_line(&room, line, &mut page);
+            judge_line(&rt, &room, line, &mut page)?;
             line = lines::line::start();
         }
     }
+    Ok(())
 }

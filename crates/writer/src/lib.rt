@@ -1,4 +1,6 @@
 // Writing batches: the batch that a draft describes (`writer`), the join of two batches (`join`), and the batch of one message (`cut`).
+#![tactic(auto)]
+
 mod answers;
 mod around;
 mod assemble;

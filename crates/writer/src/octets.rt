@@ -109,5 +109,5 @@ pub(crate) fn copy(octets: &[u8], at: usize, to: &mut [u8])
     ensures { to.new ≡ over to.old at octets.now }
 {
     let end = at + octets.len();
-    bytes::copy(octets, &mut to[at..end]);
+    to[at..end].copy_from_slice(octets);
 }

@@ -11,6 +11,8 @@
 //
 // with `and not 0 but N` if the third number, the place of an acceptance or the count of a refusal, isn't 0. `, changed` follows if an octet
 // of the output has changed that shouldn't: any at a refusal, and one after the batch at an acceptance.
+#![tactic(auto)]
+
 use cases::case::{ROOM, octets};
 use cases::input::TEXT;
 use cases::table::NUMBERS;
@@ -20,8 +22,8 @@ use editions::edition::{RFC2511, RFC4211};
 use editions::reader::Answer;
 use format::answer::answer;
 use format::page::{character, number, text};
-use libc::STDOUT_FILENO;
 use lines::line::Line;
+use std::io;
 
 // The rows that a draft can have.
 const ROWS: usize = NUMBERS / WIDTH;
@@ -89,9 +91,9 @@ fn write_answer(page: &mut [u8; PAGE], written: Answer, output: &[u8; OUTPUT]) -
 }
 
 // Prints the page's first octets as a line.
-fn print(page: &mut [u8; PAGE], length: usize) {
+fn print(rt: &impl Print, page: &mut [u8; PAGE], length: usize) -> io::Result<()> {
     let end = character(page, length, b'\n');
-    io::write_all(STDOUT_FILENO, octets(page, end));
+    rt.write_all(octets(page, end))
 }
 
 // Writes a draft with the first octets of the output lent.
@@ -104,6 +106,7 @@ fn write(edition: usize, draft: &[usize], bytes: &[u8], output: &mut [u8], lent:
 
 // Judges the first numbers of a draft in one edition.
 fn judge(
+    rt: &impl Print,
     edition: usize,
     draft: &[usize],
     numbers: usize,
@@ -111,34 +114,36 @@ fn judge(
     output: &mut [u8; OUTPUT],
     lent: usize,
     page: &mut [u8; PAGE],
-) {
+) -> io::Result<()> {
     if numbers <= draft.len() {
         prepare(output);
         let written = write(edition, &draft[..numbers], bytes, output, lent);
         let end = write_answer(page, written, output);
-        print(page, end);
+        return print(rt, page, end);
     }
+    Ok(())
 }
 
 // Reads a batch in one edition, and judges the rows that it shows; or prints the reading's refusal.
 fn judge_again(
+    rt: &impl Print,
     edition: usize,
     draft: &mut [usize; NUMBERS],
     bytes: &[u8],
     output: &mut [u8; OUTPUT],
     lent: usize,
     page: &mut [u8; PAGE],
-) {
+) -> io::Result<()> {
     let read = editions::reader::read(edition, bytes, draft);
     let count = read.count;
     if read.number != ACCEPTED {
         let end = answer(page, 0, read.number, read.place, count);
-        print(page, end);
-        return;
+        return print(rt, page, end);
     }
     if count <= ROWS {
-        judge(edition, draft, WIDTH * count, bytes, output, lent, page);
+        return judge(rt, edition, draft, WIDTH * count, bytes, output, lent, page);
     }
+    Ok(())
 }
 
 // How many octets of the output a line has lent.
@@ -152,15 +157,17 @@ fn lent(line: Line) -> usize {
 
 // Judges a line in one edition.
 fn judge_in(
+    rt: &impl Print,
     edition: usize,
     line: Line,
     draft: &mut [usize; NUMBERS],
     bytes: &[u8],
     output: &mut [u8; OUTPUT],
     page: &mut [u8; PAGE],
-) {
+) -> io::Result<()> {
     if line.heading.listed {
-        judge(
+        return judge(
+            rt,
             edition,
             draft,
             line.heading.count,
@@ -169,45 +176,46 @@ fn judge_in(
             lent(line),
             page,
         );
-        return;
     }
-    judge_again(edition, draft, bytes, output, lent(line), page);
+    judge_again(rt, edition, draft, bytes, output, lent(line), page)
 }
 
 // Judges a line in the edition that it names, or in both.
 fn judge_line(
+    rt: &impl Print,
     room: &[u8; ROOM],
     line: Line,
     draft: &mut [usize; NUMBERS],
     output: &mut [u8; OUTPUT],
     page: &mut [u8; PAGE],
-) {
+) -> io::Result<()> {
     let bytes = octets(room, line.case.octets);
     if line.heading.named {
-        judge_in(line.heading.edition, line, draft, bytes, output, page);
-        return;
+        return judge_in(rt, line.heading.edition, line, draft, bytes, output, page);
     }
-    judge_in(RFC2511, line, draft, bytes, output, page);
-    judge_in(RFC4211, line, draft, bytes, output, page);
+    judge_in(rt, RFC2511, line, draft, bytes, output, page)?;
+    judge_in(rt, RFC4211, line, draft, bytes, output, page)
 }
 
-fn main() {
+fn main(rt: HostRuntime) -> io::Result<()> {
     let mut text = [0u8; TEXT];
     let mut room = [0u8; ROOM];
     let mut output = [0u8; OUTPUT];
     let mut draft = [0usize; NUMBERS];
     let mut page = [0u8; PAGE];
+    let mut reader = rt.stdin();
     let mut input = cases::input::open();
     let mut line = lines::line::start();
     for turn in 0..usize::MAX {
-        input = cases::input::next(input, &mut text);
+        input = cases::input::next(input, &mut text, &mut reader)?;
         if input.ended {
-            return;
+            return Ok(());
         }
         line = lines::line::read(line, input.character, &mut room, &mut draft);
         if input.character == b'\n' {
-            judge_line(&room, line, &mut draft, &mut output, &mut page);
+            judge_line(&rt, &room, line, &mut draft, &mut output, &mut page)?;
             line = lines::line::start();
         }
     }
+    Ok(())
 }

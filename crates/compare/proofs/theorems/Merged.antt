@@ -4,10 +4,9 @@ use native.Mathlib.Decide.{dec_le}
 use native.Mathlib.Omega.{arith}
 use mathlib.Core.Path.{◌≡◌, refl, sym, ap, subst, ◌∙◌}
 use mathlib.Core.Logic.{◌⊎◌, inl, inr}
-use mathlib.Core.Bool.{true, false, false≢true}
+use mathlib.Core.Bool.{false≢true}
 use mathlib.Core.List.{List, ◌∷◌, ◌++◌, Memᴰ}
 use Rattle.crmf.specs.meaning.Rows.{Row, container}
-use Rattle.compare.specs.meaning.Counterparts.{row_at}
 use Rattle.compare.specs.meaning.Changes.{Change, only_first, only_second, leaves_differ, Changed, in_first, in_second, in_both, Accounted, matched, is_alone, differs, below, FirstAccounted, SecondAccounted}
 use Rattle.compare.specs.steps.Arranged.{Arranged}
 use Rattle.compare.specs.steps.Merging.{Merge, over, first, second, unlike, same, differing, within}
@@ -38,6 +37,7 @@ module _ {s t : List ℕ} {A B : List Row} (a : Arranged s A) (b : Arranged t B)
   merged_only x (differing e leaf octets more) c (Memᴰ.head f) =
       subst (Changed s t A B) (sym f) (in_both (alike_pair a b x e) leaf octets)
   merged_only x (differing e leaf octets more) c (Memᴰ.tail m) = merged_only (at_leaves a b x e leaf) more c m
+  merged_only x (over {p = p} {q = q} {i = i} {j = j} _ _) c m = elim m [ ]
   merged_only x (within {cs = cs} {ds = ds} e box inside more) c m =
       go (either cs ds m) (λ y. merged_only (at_inside a b x e) inside c y) (λ y. merged_only (at_after a b x e inside) more c y)
     where

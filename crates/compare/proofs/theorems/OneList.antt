@@ -30,12 +30,20 @@ not_both_sooner x y (inl a) (inr b) = absurd (omega (arith, b.0))
 not_both_sooner x y (inr a) (inl b) = absurd (omega (arith, a.0))
 not_both_sooner x y (inr a) (inr b) = absurd (omega (arith, a.1, b.1))
 
+-- so it is of spots that are equal to them
+not_both_sooner_spots : (x y v w : Spot) → y ≡ v → w ≡ x → Sooner x y → Sooner v w → ⊥
+not_both_sooner_spots x y v w there here a b =
+    not_both_sooner x y a (subst (λ (s : Spot). Sooner y s) here (subst (λ (s : Spot). Sooner s w) (sym there) b))
+
 -- of two ways at most one leads to an earlier spot
+not_both_ways : {xs ys vs ws : List Spot} → Earlier xs ys → Earlier vs ws → ys ≡ vs → ws ≡ xs → ⊥
+not_both_ways (parts {x = x} {y = y} a) (parts {x = v} {y = w} b) there here = not_both_sooner_spots x y v w (cc) (cc) a b
+not_both_ways (parts {x = x} {y = y} a) (along {x = z} b) there here = not_both_sooner_spots x y x y (cc) (cc) a a
+not_both_ways (along {x = z} a) (parts {x = v} {y = w} b) there here = not_both_sooner_spots v w v w (cc) (cc) b b
+not_both_ways (along a) (along b) there here = not_both_ways a b (cc) (cc)
+
 not_both_earlier : {xs ys : List Spot} → Earlier xs ys → Earlier ys xs → ⊥
-not_both_earlier (parts {x = x} {y = y} a) (parts b) = not_both_sooner x y a b
-not_both_earlier (parts {x = x} {y = y} a) (along b) = not_both_sooner x x a a
-not_both_earlier (along {x = x} a) (parts b) = not_both_sooner x x b b
-not_both_earlier (along a) (along b) = not_both_earlier a b
+not_both_earlier a b = not_both_ways a b refl refl
 
 not_back : {xs ys vs ws : List Spot} → vs ≡ ys → ws ≡ xs → Earlier xs ys → Earlier vs ws → ⊥
 not_back {xs} {ys} {vs} {ws} this that e f =

@@ -85,6 +85,7 @@ module _ {s t : List ℕ} {A B : List Row} (a : Arranged s A) (b : Arranged t B)
       record { top = spot A i; rest = []; leads = subst (λ (d : Change). Way A B d (way ++ (spot A i ∷ []))) (sym f) (both (child one e.one)); whose = inl (i, omega arith, e.one, refl) }
   under_all way x one two (differing e leaf octets more) c (Memᴰ.tail m) =
       under_from way (omega arith) (omega arith) (under_all way (at_leaves a b x e leaf) one two more c m)
+  under_all way x one two (over {p = p} {q = q} {i = i} {j = j} _ _) c m = elim m [ ]
   under_all {p = p} {q = q} {i = i} {j = j} way x one two (within {m = m'} {n = n'} {cs = cs} {ds = ds} e box inside more) c m =
       go (either cs ds m) (λ y. under_all (way ++ (spot A i ∷ [])) (at_inside a b x e) (way_one x e way one) (way_two x e way two) inside c y)
       (λ y. under_all way (at_after a b x e inside) one two more c y)

@@ -8,7 +8,6 @@ use mathlib.Core.Option.{some}
 use native.Mathlib.Omega.{arith}
 use lib.IntN.{pos, ◌-ℤ◌}
 use Rattle.time.specs.meaning.Validity.{shown_moment}
-use Rattle.crmf.specs.meaning.Kinds as kinds
 use Rattle.crmf.specs.meaning.Rows.{Row}
 use Rattle.editions.specs.meaning.TwoBatches.{Accepted}
 use Rattle.editions.proofs.Laws.{times_shown}

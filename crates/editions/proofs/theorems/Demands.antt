@@ -27,10 +27,10 @@ use Rattle.editions.proofs.theorems.ReadsExactly.{reading_related, related_readi
 abbrev answered : ℕ → ℕ → ℕ → Answer
 answered number place count = record { number = number; place = place; count = count }
 
--- Demand 1: "A refused call leaves every lent table and output unchanged", and its count is 0.
-pub table_stays : {e number place count : ℕ} {s old new : List ℕ} → Octets s → Reads e s old number place count new → (number ≡ accepted → ⊥)
-    → (count ≡ 0) × (new ≡ old)
-table_stays {e} {s = s} octets (refused {number = n} {place = p} {count = c} related some) again = (no_count related some, refl)
+-- a refused call's count and table
+refused_stays : {e number place : ℕ} {s : List ℕ} {count : ℕ} {old new : List ℕ} → Octets s → Reads e s old number place count new
+    → (number ≡ accepted → ⊥) → (count ≡ 0) × (new ≡ old)
+refused_stays {e} {s = s} octets (refused {number = n} {place = p} {count = c} related some) again = (no_count related some, refl)
   where
     no_count : {n p c : ℕ} → Answers e s n p c → (n ≡ accepted → ⊥) → c ≡ 0
     no_count (Answers.unknown none) some = refl
@@ -41,8 +41,13 @@ table_stays {e} {s = s} octets (refused {number = n} {place = p} {count = c} rel
     no_count (Answers.other ed outside first) some = refl
     no_count (Answers.long_id ed g first) some = refl
     no_count (Answers.accept ed g none) some = absurd (some refl)
-table_stays octets (too_short related few) some = (refl, refl)
-table_stays octets (shown g related room) some = absurd (some refl)
+refused_stays octets (too_short related few) some = (refl, refl)
+refused_stays octets (shown g related room) some = absurd (some refl)
+
+-- Demand 1: "A refused call leaves every lent table and output unchanged", and its count is 0.
+pub table_stays : {e number place count : ℕ} {s old new : List ℕ} → Octets s → Reads e s old number place count new → (number ≡ accepted → ⊥)
+    → (count ≡ 0) × (new ≡ old)
+table_stays = refused_stays
 
 -- Demand 2, without a table: "accepted exactly when it is the DER encoding of CertReqMessages in the chosen edition".
 pub accepted_exactly : {e : ℕ} → Edition e → (s : List ℕ) → Octets s → ((count : ℕ) × Answers e s accepted 0 count) ↔ ((g : InGrammar e s) × ShortIds g)

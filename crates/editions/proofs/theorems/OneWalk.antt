@@ -17,7 +17,6 @@ use Rattle.crmf.specs.declared.explain.Walked.TheVariants.{Passed, Broken}
 use Rattle.crmf.specs.meaning.Notation.{Top}
 use Rattle.crmf.specs.steps.grammar.Lines.{start}
 use Rattle.crmf.specs.steps.explain.Walk.{walk, every, empty_tally, count_of}
-use Rattle.crmf.specs.steps.explain.Walk as lines
 use Rattle.crmf.specs.steps.explain.LongIds.{first_long}
 use Rattle.crmf.specs.steps.rows.Fill.{rows_of_input}
 use Rattle.crmf.proofs.Laws.{Edition, first_edition, second_edition, is_passed, foreign, own_alike, own_stops, own_passes, walk_passes_lem, seen_of, count_whole, whole_count, whole_long, none_met}

@@ -9,7 +9,6 @@ use Rattle.crmf.specs.meaning.Fields.{Field}
 use Rattle.crmf.specs.meaning.Messages.{Message}
 use Rattle.verdict.specs.meaning.Judges.{Judges}
 use Rattle.verdict.specs.meaning.Verdict.{no_proof, ra_verified, misplaced_dh_mac, has, has_subject_and_key, signature_verdict, encipherment_verdict, agreement_verdict, proof_verdict, verdict_of}
-use Rattle.verdict.specs.steps.JudgeAnswer.{refused}
 
 signature_small : (input both : Bool) → signature_verdict input both ≤ misplaced_dh_mac
 signature_small true true = omega arith

@@ -1,0 +1,13 @@
+-- `cases::case::push_part` meets its contract: each turn adds the next octet that is left. Assumes nothing.
+use Rattle.std.proofs.Common.{sym, ◌∙◌}
+use Rattle.cases.specs.Reading.{filled}
+use Rattle.cases.proofs.Steps.{part_next, part_done}
+use Rattle.cases.proofs.case.push_part.Goals as goal
+
+pub loop-i-preserved : goal.loop-i-preserved
+loop-i-preserved c =
+    let loop = c.loop-i in
+    part_next _ _ (filled loop.room loop.end) c.loop-i-test.true c.push_again-end.ensures ∙ loop.invariant
+
+pub returns : goal.returns
+returns c = sym (part_done _ _ _ c.loop-i-test.false) ∙ c.loop-i.invariant

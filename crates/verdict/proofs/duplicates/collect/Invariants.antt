@@ -1,0 +1,12 @@
+-- `verdict::duplicates::collect` meets its contract: each turn of the loop is a step of the walk over the messages. Assumes nothing.
+use Prim.Native.Nat.{◌-◌}
+use mathlib.Core.Path.{◌≡◌}
+use lib.ListN.{length}
+use Rattle.verdict.proofs.theorems.duplicates.Collecting.{Walk}
+use Rattle.verdict.proofs.duplicates.collect.Given as goal
+
+abbrev pub invariant-loop-at : goal.invariant-loop-at
+invariant-loop-at l = (length l.slots ≡ length l.initial.slots) × Walk l.bytes l.slots l.at l.count
+
+abbrev pub decreases-loop-at : goal.decreases-loop-at
+decreases-loop-at l = length l.bytes - l.at

@@ -1,0 +1,24 @@
+-- `writer::build::small` meets its contract: the sums and the scratch are zeros, with room for the draft's rows. Assumes nothing.
+use Prim.Native.Nat.{ℕ}
+use lib.ListN.{replicate}
+use native.Mathlib.Omega.{arith}
+use mathlib.Core.Path.{refl}
+use Rattle.writer.proofs.theorems.Answering.{zeros_room, tried}
+use Rattle.writer.proofs.build.small.Goals as goal
+use Rattle.writer.proofs.build.small.Goals.{After-build, Else-rows-gt-SMALL_ROWS, Start}
+
+pub returns-then-rows-gt-SMALL_ROWS : goal.returns-then-rows-gt-SMALL_ROWS
+returns-then-rows-gt-SMALL_ROWS c = (refl, omega arith)
+
+pub build-requires : goal.build-requires
+build-requires c =
+    let counted = (goal.at.build-requires c).Else-rows-gt-SMALL_ROWS in
+    let start = (goal.at.Else-rows-gt-SMALL_ROWS counted).Start in
+    zeros_room start.args.edition start.args.draft.now 2048 4096 start.requires (omega (arith, counted.rows.ensures, counted.if-rows-gt-SMALL_ROWS.false)) (omega arith)
+
+pub returns : goal.returns
+returns c =
+    let built = (goal.at.returns c).After-build in
+    let a = built.args in
+    tried 1 a.edition a.draft.now a.bytes.now a.output.now (replicate {A = ℕ} 4096 0) built.build.result built.build.new.output
+    (λ shorter. omega arith) built.build.ensures
