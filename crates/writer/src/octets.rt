@@ -108,6 +108,7 @@ pub(crate) fn copy(octets: &[u8], at: usize, to: &mut [u8])
     requires { at + length octets.now ≤ length to.old }
     ensures { to.new ≡ over to.old at octets.now }
 {
-    let end = at + octets.len();
-    to[at..end].copy_from_slice(octets);
+    for i in 0..octets.len() {
+        to[at + i] = octets[i];
+    }
 }
