@@ -5,18 +5,23 @@ use native.Mathlib.Numerals.{add-one}
 use native.Mathlib.Omega.{arith}
 use mathlib.Core.Path.{◌≡◌, refl, sym, ap, ap₂, ◌∙◌}
 use mathlib.Core.List.{List, [], ◌∷◌, ◌++◌, append_assoc, append-nil}
-use lib.ListN.{length, take, drop, set, length-append, take-append-drop}
-use lib.Seq.{take_at, drop_at, drop-drop, take-suc-set, length-take-le, set_split, append_snoc}
+use lib.ListN.{length, take, drop, set, length-append, length-take, drop_of_length-le, take-append-drop}
+use lib.Seq.{take_all, take_at, drop_at, drop-drop, take-suc-set, length-take-le, set_split, append_snoc}
 use borrow.Rule.Slice.PartMut.{put_mid, Post-is}
 use Rattle.crmf.specs.meaning.Lists.{over}
 use Rattle.crmf.proofs.Laws.{over_parts}
 use Rattle.writer.specs.steps.Inner.{Appended}
 
 -- a part that is a copy, put back into its place
-pub copied : (old : List ℕ) (at : ℕ) (octets part : List ℕ) → at + length octets ≤ length old → part ≡ octets
+pub copied : (old : List ℕ) (at : ℕ) (octets part : List ℕ) → at + length octets ≤ length old
+    → part ≡ take (length octets) octets ++ drop (length octets) (take (at + length octets - at) (drop at old))
     → put_mid at (at + length octets - at) old part ≡ over old at octets
-copied old at octets part fits whole =
+copied old at octets part fits is =
     let n = length octets in
+    let lent = take (at + n - at) (drop at old) in
+    let short : length lent ≤ n = rw length-take (omega arith) in
+    let whole : part ≡ octets =
+    is ∙ ap₂ (λ (x y : List ℕ). x ++ y) (take_all n octets (omega arith)) (drop_of_length-le lent short) ∙ append-nil octets in
     ap₂ (λ (x y : List ℕ). take at old ++ (x ++ y)) whole (Post-is at (at + n) old (omega arith)) ∙ sym (over_parts old at octets)
 
 module _ (old : List ℕ) (at : ℕ) where
