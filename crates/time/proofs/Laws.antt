@@ -1,15 +1,15 @@
 -- The laws of the crate that the layers above cite, gathered. Assumes nothing.
---     time-utc, time-generalized    what an element shows that has the identifier of a Time
---     told_at, told-missing    what the answer of a time's check says of the moment
---     utc-through-2049    A12: what a UTCTime shows is from 1950-01-01 on and before 2050-01-01
---     generalized-from-2050    what a GeneralizedTime shows is from 2050-01-01 on
---     shown-kind          the kind of the Time in notBefore or notAfter by the moment that it shows
---     shown-range         what notBefore or notAfter shows is from 1950-01-01 on, up to the last second of 9999
---     time-few            a Time has at most 15 content octets
---     shown-parts         the element of notBefore or notAfter around a Time shows the Time's moment
---     forwards-none, forwards-alone, forwards-two    the order of no times, of one, and of two
---     within-year         a moment lies within its year
---     moments-counted, februaries-counted    moments that are known from elsewhere
+--     time_utc, time_generalized    what an element shows that has the identifier of a Time
+--     told_at, told_missing    what the answer of a time's check says of the moment
+--     utc_through_2049    A12: what a UTCTime shows is from 1950-01-01 on and before 2050-01-01
+--     generalized_from_2050    what a GeneralizedTime shows is from 2050-01-01 on
+--     shown_kind          the kind of the Time in notBefore or notAfter by the moment that it shows
+--     shown_range         what notBefore or notAfter shows is from 1950-01-01 on, up to the last second of 9999
+--     time_few            a Time has at most 15 content octets
+--     shown_parts         the element of notBefore or notAfter around a Time shows the Time's moment
+--     forwards_none, forwards_alone, forwards_two    the order of no times, of one, and of two
+--     within_year         a moment lies within its year
+--     moments_counted, februaries_counted    moments that are known from elsewhere
 pub use Rattle.time.proofs.theorems.Telling.{told_at, told_missing}
 pub use Rattle.time.proofs.theorems.Times.{time_utc, time_generalized}
 pub use Rattle.time.proofs.theorems.Ranges.{within_year, utc_through_2049, generalized_from_2050, shown_kind, shown_range}
