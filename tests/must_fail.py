@@ -26,11 +26,16 @@ ERROR = re.compile(r"^(?:\./)?(proofs/\S+?):[\d:]+: error: `([^`]*)`: (.*(?:\n .
 # The files of a function's proof.
 FILES = ("Answers.antt", "Invariants.antt")
 
-# The items of a source file, each from its first line to its last; `rt fmt` begins them, and nothing else, at the margin.
+# The items of a source file, each from its first line to its last; `rt fmt` begins them, and nothing else, at the margin, and the functions
+# of an `impl` four characters after it. A function that a trait declares has no body, and is none of them.
 FUNCTION = re.compile(
-    r"^(?:#\[cycle\((?P<cycle>\w+)\)\]\n)?"
-    r'(?:pub(?:\(crate\))? )?(?:extern "C" )?fn (?P<name>\w+)(?:<[^>]*>)?\(.*?^}$',
+    r"^(?P<margin>(?:    )?)(?:#\[cycle\((?P<cycle>\w+)\)\]\n *)?"
+    r'(?:pub(?:\(crate\))? )?(?:extern "C" )?fn (?P<name>\w+)(?:<[^{}]*?>)?'
+    r"(?!\([^{}]*\)[^{};\n]*(?:\n +(?:requires|ensures|decreases) [^\n]*)*;$)\(.*?^(?P=margin)}$",
     re.MULTILINE | re.DOTALL,
+)
+IMPL = re.compile(
+    r"^impl(?:<[^{}]*?>)? (?:(?P<trait>[\w:]+)(?P<given><[^{}]*?>)? for )?(?P<type>\w+)\b[^{}]*\{$.*?^}$", re.MULTILINE | re.DOTALL
 )
 CONSTANT = re.compile(r"^(?:pub(?:\(crate\))? )?const (\w+): .*?;$", re.MULTILINE | re.DOTALL)
 TYPE = re.compile(r"^(?:pub(?:\(crate\))? )?(?:struct|enum) \w+.*?(?:^}|;)$", re.MULTILINE | re.DOTALL)
@@ -101,7 +106,7 @@ def parted(proof):
 def refusal(log, proof):
     """What a proof says to refuse a wrong program for a fact, or None."""
     if proof.startswith("fn "):
-        said = re.search(rf"^{re.escape(proof)}: no proof: (.*`search` did not prove .*`(?:\w+-)?returns[^`]*`.*)", log, re.MULTILINE)
+        said = re.search(rf"^{re.escape(proof)}: no proof: (.*`search` did not prove .*`(?:\w+-)?(?:returns|loop-\w+-(?:init|preserved))[^`]*`.*)", log, re.MULTILINE)
         return said and said[1]
     file, declared = parted(proof)
     return next((f"`{by}`: {words}" for where, by, words in facts(log) if where == file and declared in ("", by)), None)
@@ -130,24 +135,48 @@ def unrefused():
     return found
 
 
-def proof_of(crate, source, function):
+def modules(crate, source):
+    """The names of a source file's module, from the crate's root down."""
+    parts = source.relative_to(crate / "src").with_suffix("").parts
+    return [] if parts in (("lib",), ("main",)) else list(parts)
+
+
+def around(crate, source, function):
+    """The names above a function of a source file: its module's, and its type's, wherever the `impl` stands."""
+    for item in IMPL.finditer(function.string):
+        if not item.start() <= function.start() < item.end():
+            continue
+        if item["trait"]:
+            given = "".join(word[0].upper() + word[1:] for word in re.findall(r"\w+", (item["given"] or "").replace("[", "Array ")))
+            return [*modules(crate, source), item["type"] + item["trait"].rpartition("::")[2] + given]
+        declared = re.compile(rf"^(?:pub(?:\(crate\))? )?(?:struct|enum) {item['type']}\b", re.MULTILINE)
+        files = (path for path in sorted((crate / "src").rglob("*.rt")) if declared.search(path.read_text()))
+        return [*modules(crate, next(files, source)), item["type"]]
+    return modules(crate, source)
+
+
+def folder(crate, above, function, cycle):
     """Where the proof of a function stands, if it has any file: its folder, or that of its cycle."""
-    module = source.relative_to(crate / "src").with_suffix("").parts
-    folder = "/".join(["proofs", *(() if module in (("lib",), ("main",)) else module)])
-    cycle = next((item["cycle"] for item in FUNCTION.finditer(source.read_text()) if item["name"] == function), None)
-    around = f"{folder}/+{cycle or function}"
-    return around if cycle or (crate / around).exists() else f"{folder}/{function}"
+    whole = "/".join(["proofs", *above])
+    cyclic = f"{whole}/+{cycle or function}"
+    return cyclic if cycle or (crate / cyclic).exists() else f"{whole}/{function}"
+
+
+def proof_of(crate, source, item):
+    """Where the proof of a function of a source file stands."""
+    return folder(crate, around(crate, source, item), item["name"], item["cycle"])
 
 
 def place(crate, proof):
     """Where the proof stands that a line `refused:` names: a function's folder, or a file of lemmas."""
     if proof.startswith("fn "):
-        *modules, function = proof.split("::")[1:]
-        sources = ["/".join(modules) + ".rt"] if modules else ["lib.rt", "main.rt"]
-        return next(proof_of(crate, crate / "src" / source, function) for source in sources if (crate / "src" / source).exists())
+        *above, function = proof.split("::")[1:]
+        every = ((source, item) for source in sorted((crate / "src").rglob("*.rt")) for item in FUNCTION.finditer(source.read_text()))
+        own = (item for source, item in every if item["name"] == function and around(crate, source, item) == above)
+        return folder(crate, above, function, next(own)["cycle"])
     file = parted(proof)[0]
-    folder, _, name = file.rpartition("/")
-    return folder if name in FILES else file
+    where, _, name = file.rpartition("/")
+    return where if name in FILES else file
 
 
 def users(crate, constant):
@@ -158,7 +187,7 @@ def users(crate, constant):
         named = re.compile(rf"\b{constant}\b")
         if any(named.search(item[0]) for item in TYPE.finditer(text)):
             return None
-        found |= {proof_of(crate, source, item["name"]) for item in FUNCTION.finditer(text) if named.search(item[0])}
+        found |= {proof_of(crate, source, item) for item in FUNCTION.finditer(text) if named.search(item[0])}
         for other in (item[1] for item in CONSTANT.finditer(text) if named.search(item[0].partition("=")[2])):
             more = users(crate, other)
             if more is None:
@@ -169,21 +198,22 @@ def users(crate, constant):
 
 def body(function):
     """Where the body of a function begins: after the contract, if it has one."""
-    contract = re.search(r"^    (?:requires|ensures|decreases) ", function[0], re.MULTILINE)
-    return function.start() + re.search(r"^\{$" if contract else r"\{$", function[0], re.MULTILINE).end()
+    margin = function["margin"]
+    contract = re.search(rf"^{margin}    (?:requires|ensures|decreases) ", function[0], re.MULTILINE)
+    return function.start() + re.search(rf"^{margin}\{{$" if contract else r"\{$", function[0], re.MULTILINE).end()
 
 
 def reach(crate, change, text):
     """The proofs that a change of this text can break; None if any could be."""
-    folder, _, name = change.file.rpartition("/")
-    if folder.startswith("proofs/") and name in FILES:
-        return {folder}
+    where, _, name = change.file.rpartition("/")
+    if where.startswith("proofs/") and name in FILES:
+        return {where}
     if not change.file.startswith("src/"):
         return None
     at = text.index(change.old)
     for function in FUNCTION.finditer(text):
         if body(function) <= at < function.end():
-            return {proof_of(crate, crate / change.file, function["name"])}
+            return {proof_of(crate, crate / change.file, function)}
     for constant in CONSTANT.finditer(text):
         if constant.start() <= at < constant.end():
             return users(crate, constant[1])

@@ -9,7 +9,7 @@ TEXT = CRATES.parent / "docs" / "THEOREMS.md"
 TOKEN = re.compile(r"`([^`]+)`")
 PATH = re.compile(r"[\w./-]+/[\w./-]+\.(?:antt|rt)")
 HEADING = re.compile(r"^## .*?(?:`crates/(\w+)`)?$", re.MULTILINE)
-PUBLIC = re.compile(r'^pub (?:extern "C" )?fn (\w+)', re.MULTILINE)
+PUBLIC = re.compile(r'^(?:    )?pub (?:extern "C" )?fn (\w+)', re.MULTILINE)
 NAME = r"(?<![\w-])%s(?![\w-])"
 
 

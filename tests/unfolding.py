@@ -22,6 +22,7 @@ ABBREVIATION = re.compile(r"^ *(?:unfoldable )?abbrev pub (?P<name>\S+)", re.MUL
 OPEN = {
     "der.meaning.Bounds": "document 01's bounds, which arithmetic compares with and counts down from",
     "der.meaning.Refusal": "document 01's numbers",
+    "der.steps.Refusal.refusal_number": "document 01's numbers, of the code's refusals",
     "editions.meaning.Edition": "document 01's numbers",
     "editions.meaning.TwoBatches": "the numbers that say whose refusal or part it is",
     "crmf.meaning.Kinds": "document 01's numbers",
@@ -34,13 +35,20 @@ OPEN = {
     "der.meaning.Fault.First": "a type's name: the relation of the first fault",
     "der.meaning.Fault.Any": "a type's name: the relation of any fault",
     "crmf.steps.explain.Walk.every": "the test that is always true",
+    "crmf.steps.explain.Tally": "the names of numbers: what the code's tally notes, in numbers",
+    "crmf.steps.explain.Walk.walked_of": "a walk's name: what the code's result answers",
     "crmf.meaning.Fields.StandsAt": "a type's name: an equation",
     "crmf.meaning.Pieces.piece_of": "a record's name: its fields are read",
     "editions.steps.Reading.accepted": "a record's name: its fields are read",
     "editions.steps.Reading.refusal": "a record's name: its fields are read",
+    "editions.steps.Results": "the names of numbers and records: what the code's results and enums are in document 01's numbers",
+    "compare.steps.Judging.part_answer_of": "a record's name: what the code's result answers, in document 01's numbers",
+    "der.steps.Span.found_span": "a test's name: a span of no octets is none",
+    "der.steps.Nest.nest_of": "an answer told in document 01's numbers, case by case",
+    "verdict.steps.Results.judge_answer_of": "an answer told in document 01's numbers, case by case",
+    "verdict.steps.Results.search_answer_of": "an answer told in document 01's numbers, case by case",
     "verdict.meaning.Verdict.misplaced_dh_mac": "document 01's number, the largest verdict",
     "cases.Reading.largest": "the largest `usize`, which arithmetic compares with and counts down from",
-    "cases.Reading.token_at": "a record's name: its fields are read",
 }
 
 

@@ -1,6 +1,10 @@
 // The C calls; their manual is include/phagundro.h. A slice comes as a pointer and a length.
 #![tactic(auto)]
 
+mod answers;
+mod parts;
+mod verdicts;
+
 ghost use Rattle.std.specs.Prelude.{◌≡◌};
 ghost use Rattle.time.specs.meaning.Validity.{shown_moment};
 ghost use Rattle.editions.specs.meaning.Reads.{Reads};
@@ -13,14 +17,10 @@ ghost use Rattle.compare.specs.meaning.Compares.{Compares};
 ghost use Rattle.compare.specs.meaning.Parts.{Finds};
 ghost use Rattle.capi.specs.OneNumber.{AcceptsBy, JudgesBy, moment_number};
 
-use compare::part::Part;
+use crate::answers::{Answer, PairAnswer};
+use crate::parts::Part;
+use crate::verdicts::{Duplicates, Verdict};
 use crmf::messages::Position;
-use der::refusal::ACCEPTED;
-use editions::pair::PairAnswer;
-use editions::reader::Answer;
-use time::moment::Moment;
-use verdict::duplicates::Duplicates;
-use verdict::verdict::Verdict;
 
 // What is added to a refusal's number if a verdict may come back in the same number. Verdicts are at most 7 (`number_tells`).
 const REFUSED: usize = 256;
@@ -30,7 +30,7 @@ const REFUSED: usize = 256;
 pub extern "C" fn phagundro_accept(edition: usize, bytes: &[u8]) -> usize
     ensures { AcceptsBy edition bytes.now result }
 {
-    editions::reader::accept(edition, bytes).number
+    Answer::from(editions::reader::accept(edition, bytes)).number
 }
 
 // Reads a batch in an edition and answers the count of its rows, with the rows in the table; or answers the refusal, and leaves the table as
@@ -39,7 +39,7 @@ pub extern "C" fn phagundro_accept(edition: usize, bytes: &[u8]) -> usize
 pub extern "C" fn phagundro_read(edition: usize, bytes: &[u8], table: &mut [usize]) -> Answer
     ensures { Reads edition bytes.now table.old result.number result.place result.count table.new }
 {
-    editions::reader::read(edition, bytes, table)
+    editions::reader::read(edition, bytes, table).into()
 }
 
 // Writes the batch that a draft over a slice describes in an edition and answers its length as the count; or answers the refusal, and leaves
@@ -53,7 +53,7 @@ pub extern "C" fn phagundro_write(
 ) -> Answer
     ensures { Writes edition draft.now slice.now output.old result.number result.place result.count output.new }
 {
-    writer::writer::write(edition, draft, slice, output)
+    writer::writer::write(edition, draft, slice, output).into()
 }
 
 // Judges the proof of the message at a position and answers the verdict and the signed part's place and length; or answers the refusal.
@@ -61,7 +61,7 @@ pub extern "C" fn phagundro_write(
 pub extern "C" fn phagundro_verdict(edition: usize, bytes: &[u8], position: usize) -> Verdict
     ensures { Judges edition bytes.now position result.number result.place result.verdict result.from result.length }
 {
-    verdict::verdict::judge(edition, bytes, Position(position))
+    verdict::verdict::judge(edition, bytes, Position(position)).into()
 }
 
 // The same in one number: the verdict, or 256 plus the refusal's number.
@@ -69,11 +69,9 @@ pub extern "C" fn phagundro_verdict(edition: usize, bytes: &[u8], position: usiz
 pub extern "C" fn phagundro_verdict_number(edition: usize, bytes: &[u8], position: usize) -> usize
     ensures { JudgesBy edition bytes.now position result }
 {
-    let found = verdict::verdict::judge(edition, bytes, Position(position));
-    if found.number == ACCEPTED {
-        found.verdict
-    } else {
-        REFUSED + found.number
+    match verdict::verdict::judge(edition, bytes, Position(position)) {
+        Ok(found) => found.verdict.number(),
+        Err(refused) => REFUSED + refused.refusal.number(),
     }
 }
 
@@ -82,7 +80,7 @@ pub extern "C" fn phagundro_verdict_number(edition: usize, bytes: &[u8], positio
 pub extern "C" fn phagundro_duplicates(edition: usize, bytes: &[u8]) -> Duplicates
     ensures { Searches edition bytes.now result.number result.place result.found result.earlier.0 result.later.0 }
 {
-    verdict::duplicates::search(edition, bytes)
+    verdict::duplicates::search(edition, bytes).into()
 }
 
 // Joins two batches of an edition and answers the join's length as the count; or answers the refusal and whose it is, and leaves the output as
@@ -96,7 +94,7 @@ pub extern "C" fn phagundro_join(
 ) -> PairAnswer
     ensures { Joins edition first.now second.now output.old result.number result.place result.file result.count output.new }
 {
-    writer::join::join(edition, first, second, output)
+    writer::join::join(edition, first, second, output).into()
 }
 
 // Cuts the message at a position out of a batch and answers the length of its batch as the count; or answers the refusal, and leaves the output
@@ -110,7 +108,7 @@ pub extern "C" fn phagundro_cut(
 ) -> Answer
     ensures { Cuts edition bytes.now position output.old result.number result.place result.count output.new }
 {
-    writer::cut::cut(edition, bytes, Position(position), output)
+    writer::cut::cut(edition, bytes, Position(position), output).into()
 }
 
 // Compares two batches of an edition and answers the number of entries, with all of them in the list; or answers the refusal and whose it is, and
@@ -124,7 +122,7 @@ pub extern "C" fn phagundro_compare(
 ) -> PairAnswer
     ensures { Compares edition first.now second.now entries.old result.number result.place result.file result.count entries.new }
 {
-    compare::compare::compare(edition, first, second, entries)
+    compare::compare::compare(edition, first, second, entries).into()
 }
 
 // Finds the part of one of two batches that an entry speaks of and answers whose it is, its place and its length; or answers the refusal and whose
@@ -138,7 +136,7 @@ pub extern "C" fn phagundro_compare_part(
 ) -> Part
     ensures { Finds edition first.now second.now entry result.number result.place result.file result.from result.length }
 {
-    compare::part::find_part(edition, first, second, entry)
+    compare::part::find_part(edition, first, second, entry).into()
 }
 
 // Answers the moment that the element of a notBefore or notAfter shows, in whole seconds from 0000-01-01 00:00:00 on; or -1 if it shows none.
@@ -147,7 +145,7 @@ pub extern "C" fn phagundro_moment(bytes: &[u8]) -> i64
     ensures { result ≡ moment_number (shown_moment bytes.now) }
 {
     match time::validity::shown_moment(bytes) {
-        Moment::At(seconds) => seconds as i64,
-        Moment::Missing => -1,
+        Some(seconds) => seconds as i64,
+        None => -1,
     }
 }

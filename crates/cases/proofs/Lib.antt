@@ -1,3 +1,4 @@
 -- The laws of the crate.
 pub mod Steps
 pub mod Characters
+pub mod Lines

@@ -2,3 +2,4 @@
 pub mod Reading
 pub mod Input
 pub mod Table
+pub mod Lines

@@ -1,5 +1,7 @@
--- A case as far as it has been read, and the room with its octets, after the next character. Assumes nothing.
-use Rattle.std.specs.Prelude.{ℕ, zero, suc, ◌+◌, ◌-◌, ◌*◌, ◌%◌, Bool, true, false, ◌&&◌, ◌||◌, List, eqb, ltb, leb, get_or, set}
+-- A case as far as it has been read, with the room and its octets, after the next character. Assumes nothing.
+use Rattle.std.specs.Prelude.{ℕ, zero, suc, ◌+◌, ◌-◌, ◌*◌, ◌%◌, true, false, ◌&&◌, ◌||◌, Option, Some, None, List, eqb, ltb, leb, get_or, set, replicate}
+use Rattle.std.specs.Option.{unwrap_or}
+use Rattle.cases.specs.declared.case.Filled.{Filled}
 use Rattle.cases.specs.declared.case.Case.{Case}
 
 -- how many octets the room holds
@@ -7,10 +9,6 @@ abbrev pub size : ℕ
 size = 70000
 
 -- The room, and how many octets of a case it has.
-pub record Filled : Type 0 where
-  pub room : List ℕ
-  pub octets : ℕ
-
 abbrev pub filled : List ℕ → ℕ → Filled
 filled room n = record { room = room; octets = n }
 
@@ -32,13 +30,20 @@ unfoldable pub repeated : ℕ → ℕ → ℕ → Filled → Filled
 repeated zero i n k = k
 repeated (suc times) i n k = repeated times i n (pushed_part n i k)
 
--- a case whose next token begins after n octets
-abbrev pub token_at : ℕ → Case
-token_at n = record { octets = n; token = n; high = 16; counting = false; times = 1 }
+-- a case whose next token begins after the octets that the room has
+abbrev pub token_at : Filled → Case
+token_at k = record { filled = k; token = k.octets; high = None; times = None }
 
--- "`0500*3` stands for the token's octets three times": the room after a token
-unfoldable pub token_ended : Case → List ℕ → Filled
-token_ended c room = repeated (c.times - 1) c.token (c.octets - c.token) (filled room c.octets)
+-- a case of which nothing is read yet, and one that begins anew in the room of another
+unfoldable pub started : Case
+started = token_at (filled (replicate size 0) 0)
+
+unfoldable pub restarted : Case → Case
+restarted c = token_at (filled c.filled.room 0)
+
+-- "`0500*3` stands for the token's octets three times": the room after a token, whose octets stand once if it has no count
+unfoldable pub token_ended : Case → Filled
+token_ended c = repeated (unwrap_or c.times 1 - 1) c.token (c.filled.octets - c.token) c.filled
 
 -- the value of a hex digit; 0 for any other character
 unfoldable pub digit_of : ℕ → ℕ
@@ -53,33 +58,31 @@ abbrev pub largest : ℕ
 largest = 18446744073709551615
 
 -- a case with other octets and another digit that waits for a second; and one with another count
-abbrev pub with_octets : Case → ℕ → ℕ → Case
-with_octets c n high = record { octets = n; token = c.token; high = high; counting = c.counting; times = c.times }
+abbrev pub with_octets : Case → Filled → Option ℕ → Case
+with_octets c k high = record { filled = k; token = c.token; high = high; times = c.times }
 
-abbrev pub with_count : Case → Bool → ℕ → Case
-with_count c b n = record { octets = c.octets; token = c.token; high = c.high; counting = b; times = n }
+abbrev pub with_count : Case → ℕ → Case
+with_count c n = record { filled = c.filled; token = c.token; high = c.high; times = Some n }
 
 -- a digit of the token's count, which stays once it is too large
-unfoldable pub with_count_digit : Case → ℕ → Case
-with_count_digit c d = elim (leb c.times size) [ true ↦ with_count c c.counting (c.times * 10 + d) | false ↦ c ]
+unfoldable pub with_count_digit : ℕ → ℕ → ℕ
+with_count_digit n d = elim (leb n size) [ true ↦ n * 10 + d | false ↦ n ]
 
 -- a digit of the token's octets: the first of two, or the second
-unfoldable pub with_octet_digit : Case → ℕ → List ℕ → Case × List ℕ
-with_octet_digit c d room =
-    elim (eqb c.high 16) [
-      | true ↦ (with_octets c c.octets d, room)
-      | false ↦
-          let k = pushed (filled room c.octets) (c.high % 16 * 16 + d % 16) in
-          (with_octets c k.octets 16, k.room)
+unfoldable pub with_octet_digit : Case → ℕ → Case
+with_octet_digit c d =
+    elim c.high [
+      | None ↦ with_octets c c.filled (Some d)
+      | Some high ↦ with_octets c (pushed c.filled (high % 16 * 16 + d % 16)) None
     ]
 
 -- the next character: a space and a line's end end a token, `*` begins the count, and any other is a digit
-unfoldable pub read_next : Case → ℕ → List ℕ → Case × List ℕ
-read_next c x room =
+unfoldable pub read_next : Case → ℕ → Case
+read_next c x =
     elim (eqb x 0x20 || eqb x 0x0A) [
-      | true ↦ (token_at (token_ended c room).octets, (token_ended c room).room)
+      | true ↦ token_at (token_ended c)
       | false ↦ elim (eqb x 0x2A) [
-        | true ↦ (with_count c true 0, room)
-        | false ↦ elim c.counting [ true ↦ (with_count_digit c (digit_of x), room) | false ↦ with_octet_digit c (digit_of x) room ]
+        | true ↦ with_count c 0
+        | false ↦ elim c.times [ Some n ↦ with_count c (with_count_digit n (digit_of x)) | None ↦ with_octet_digit c (digit_of x) ]
       ]
     ]

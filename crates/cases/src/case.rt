@@ -3,100 +3,168 @@
 // Octets are written in hex (upper case), in tokens separated by a space; `0500*3` stands for the token's octets three times. They go into a
 // room. If a case is longer than the room, its first octets are kept.
 ghost use Rattle.std.specs.Prelude.{◌≡◌, ◌-◌, take};
-ghost use Rattle.cases.specs.Reading.{filled, pushed, pushed_again, pushed_part, token_at, token_ended, digit_of, with_count_digit, with_octet_digit, read_next};
+ghost use Rattle.cases.specs.Reading.{pushed, pushed_again, pushed_part, token_at, started, restarted, token_ended, digit_of, with_count_digit, with_octet_digit, read_next};
+
+use crate::input::Reading;
 
 // How many octets the room holds.
 pub const ROOM: usize = 70000;
 
-// A case as far as it has been read.
-#[derive(Clone, Copy)]
-pub struct Case {
-    // How many octets the room has so far.
+// The room, and how many octets of a case it has.
+// No Vec: to add an octet could then fail, and reading a character can't.
+#[derive(Drop)]
+pub struct Filled {
+    pub room: [u8; ROOM],
     pub octets: usize,
-    // Where the present token's octets begin.
-    token: usize,
-    // The first digit of an octet whose second is still to come; 16 if there is none.
-    high: u8,
-    // Whether the token's count is being read, and the count.
-    counting: bool,
-    times: usize,
 }
 
-// A case of which nothing is read yet.
-pub fn start() -> Case
-    ensures { result ≡ token_at 0 }
-{
-    token_at(0)
+impl Filled {
+    // Adds an octet; a full room stays as it is.
+    #[tactic(auto, unfolding(crate::specs::Reading::pushed))]
+    fn push(&mut self, octet: u8)
+        ensures { self.new ≡ pushed self.old octet }
+    {
+        if self.octets >= ROOM {
+            return;
+        }
+        self.room[self.octets] = octet;
+        self.octets += 1;
+    }
+
+    // Adds the octet at place `i` of the room once more, if the room has that place.
+    #[tactic(auto, unfolding(crate::specs::Reading::pushed_again))]
+    fn push_again(&mut self, i: usize)
+        ensures { self.new ≡ pushed_again i self.old }
+    {
+        if i >= ROOM {
+            return;
+        }
+        self.push(self.room[i]);
+    }
+
+    // Adds the octets from place `from` up to place `to` of the room once more.
+    fn push_part(&mut self, from: usize, to: usize)
+        ensures { self.new ≡ pushed_part (to - from) from self.old }
+    {
+        // By index: the octets that are read stand in the room that they are added to.
+        for i in from..to {
+            self.push_again(i);
+        }
+    }
+}
+
+// A case as far as it has been read.
+#[derive(Drop)]
+pub struct Case {
+    filled: Filled,
+    // Where the present token's octets begin.
+    token: usize,
+    // The first digit of an octet whose second is still to come.
+    high: Option<u8>,
+    // The token's count as far as it is read, if it is being read.
+    times: Option<usize>,
 }
 
 // The first `n` octets of a room or a page, or all of them if it has fewer.
 pub fn octets(room: &[u8], n: usize) -> &[u8]
     ensures { result.now ≡ take n room.now }
 {
-    if room.len() <= n {
-        return room;
-    }
-    &room[..n]
+    &room[..n.min(room.len())]
 }
 
-// A case whose next token begins after `octets` octets.
-fn token_at(octets: usize) -> Case
-    ensures { result ≡ token_at octets }
-{
-    Case {
-        octets: octets,
-        token: octets,
-        high: 16,
-        counting: false,
-        times: 1,
+impl Case {
+    // A case of which nothing is read yet.
+    #[tactic(auto, unfolding(crate::specs::Reading::started))]
+    pub fn start() -> Case
+        ensures { result ≡ started }
+    {
+        Case {
+            filled: Filled {
+                room: [0; ROOM],
+                octets: 0,
+            },
+            token: 0,
+            high: None,
+            times: None,
+        }
+    }
+
+    // The octets that the case has so far.
+    pub fn octets(&self) -> &[u8]
+        ensures { result.now ≡ take self.now.filled.octets self.now.filled.room }
+    {
+        octets(&self.filled.room, self.filled.octets)
+    }
+
+    // Begins a token after the octets that the room has.
+    fn begin_token(&mut self)
+        ensures { self.new ≡ token_at self.old.filled }
+    {
+        self.token = self.filled.octets;
+        self.high = None;
+        self.times = None;
+    }
+
+    // Ends a token: its octets are repeated as often as its count says.
+    fn end_token(&mut self)
+        ensures { self.new ≡ token_at (token_ended self.old) }
+    {
+        let (from, to) = (self.token, self.filled.octets);
+        for turn in 1..self.times.unwrap_or(1) {
+            self.filled.push_part(from, to);
+        }
+        self.begin_token();
+    }
+
+    // Reads a digit of the token's octets.
+    #[tactic(auto, unfolding(crate::specs::Reading::with_octet_digit))]
+    fn octet_digit(&mut self, digit: u8)
+        ensures { self.new ≡ with_octet_digit self.old digit }
+    {
+        match self.high {
+            None => self.high = Some(digit),
+            Some(high) => {
+                self.filled.push(high % 16 * 16 + digit % 16);
+                self.high = None;
+            }
+        }
     }
 }
 
-// Adds an octet after the `octets` first of the room and answers how many there are then; a full room stays as it is.
-fn push(room: &mut [u8; ROOM], octets: usize, octet: u8) -> usize
-    ensures { filled room.new result ≡ pushed (filled room.old octets) octet }
-{
-    if octets >= ROOM {
-        return octets;
-    }
-    room[octets] = octet;
-    octets + 1
-}
+impl Reading for Case {
+    ghost anew = { restarted };
 
-// Adds the octet at place `i` of the room once more, if the room has that place.
-fn push_again(room: &mut [u8; ROOM], i: usize, octets: usize) -> usize
-    ensures { filled room.new result ≡ pushed_again i (filled room.old octets) }
-{
-    if i >= ROOM {
-        return octets;
-    }
-    let octet = room[i];
-    push(room, octets, octet)
-}
+    ghost after = { read_next };
 
-// Adds the octets from place `from` up to place `to` of the room once more.
-fn push_part(room: &mut [u8; ROOM], from: usize, to: usize, octets: usize) -> usize
-    ensures { filled room.new result ≡ pushed_part (to - from) from (filled room.old octets) }
-{
-    let mut end = octets;
-    for i in from..to {
-        end = push_again(room, i, end);
+    // Begins a case anew: its room stays as it is, and has no octet of the case.
+    #[tactic(auto, unfolding(crate::specs::Reading::restarted))]
+    fn restart(&mut self)
+        ensures { self.new ≡ restarted self.old }
+    {
+        self.filled.octets = 0;
+        self.begin_token();
     }
-    end
-}
 
-// Ends a token: its octets are repeated as often as its count says.
-fn end_token(case: Case, room: &mut [u8; ROOM]) -> Case
-    ensures { (result ≡ token_at (token_ended case room.old).octets) × (room.new ≡ (token_ended case room.old).room) }
-{
-    let mut end = case.octets;
-    for turn in 1..case.times {
-        end = push_part(room, case.token, case.octets, end);
+    // Reads the next character of a case: a space and a line's end end a token, `*` begins its count, and any other is a digit. The caller
+    // starts a new case after a line's end.
+    #[tactic(auto, unfolding(crate::specs::Reading::read_next))]
+    fn read(&mut self, c: u8)
+        ensures { self.new ≡ read_next self.old c }
+    {
+        match c {
+            b' ' | b'\n' => self.end_token(),
+            b'*' => self.times = Some(0),
+            _ => match self.times {
+                Some(times) => self.times = Some(count_digit(times, digit(c))),
+                None => self.octet_digit(digit(c)),
+            },
+        }
     }
-    token_at(end)
 }
 
 // The value of a hex digit; 0 for any other character.
+// No Option: `digit_of` says 0, and a line with another character is read as before.
+#[tactic(auto, unfolding(crate::specs::Reading::digit_of))]
 pub fn digit(c: u8) -> u8
     ensures { result ≡ digit_of c }
 {
@@ -107,48 +175,13 @@ pub fn digit(c: u8) -> u8
     }
 }
 
-// Reads a digit of the token's count.
-fn count_digit(case: Case, digit: u8) -> Case
-    ensures { result ≡ with_count_digit case digit }
+// A token's count with a digit more; a count that is too large stays as it is.
+#[tactic(auto, unfolding(crate::specs::Reading::with_count_digit))]
+fn count_digit(times: usize, digit: u8) -> usize
+    ensures { result ≡ with_count_digit times digit }
 {
-    let mut next = case;
-    if next.times <= ROOM {
-        next.times = next.times * 10 + digit as usize;
+    if times > ROOM {
+        return times;
     }
-    next
-}
-
-// Reads a digit of the token's octets.
-fn octet_digit(case: Case, digit: u8, room: &mut [u8; ROOM]) -> Case
-    ensures { (result ≡ (with_octet_digit case digit room.old).0) × (room.new ≡ (with_octet_digit case digit room.old).1) }
-{
-    let mut next = case;
-    if next.high == 16 {
-        next.high = digit;
-    } else {
-        next.octets = push(room, next.octets, next.high % 16 * 16 + digit % 16);
-        next.high = 16;
-    }
-    next
-}
-
-// Reads the next character of a case: a space and a line's end end a token, `*` begins its count, and any other is a digit. The caller starts a
-// new case after a line's end.
-pub fn read(case: Case, c: u8, room: &mut [u8; ROOM]) -> Case
-    ensures { (result ≡ (read_next case c room.old).0) × (room.new ≡ (read_next case c room.old).1) }
-{
-    if (c == b' ') | (c == b'\n') {
-        return end_token(case, room);
-    }
-    if c == b'*' {
-        let mut next = case;
-        next.counting = true;
-        next.times = 0;
-        return next;
-    }
-    let value = digit(c);
-    if case.counting {
-        return count_digit(case, value);
-    }
-    octet_digit(case, value, room)
+    times * 10 + digit as usize
 }

@@ -1,7 +1,8 @@
 // The characters of a program's standard input, one after the other.
-ghost use Rattle.std.specs.Prelude.{◌≡◌, IfOk, OnErr};
+ghost use Rattle.std.specs.Prelude.{ℕ, ◌≡◌, true, IfOk, OnErr, OnOk};
 ghost use Rattle.std.specs.Io.KnownBytes.{Keeps};
-ghost use Rattle.cases.specs.Input.{opened, begun, Left, Next};
+ghost use Rattle.cases.specs.Input.{opened, taken, Found, Left, Next, AtEnd};
+ghost use Rattle.cases.specs.Lines.{ReadsLine, JudgesLines};
 
 use std::io;
 use std::io::Read;
@@ -9,67 +10,105 @@ use std::io::Read;
 // How many characters of the input are read at a time.
 pub const TEXT: usize = 65536;
 
-// How far the input has been read.
-#[derive(Clone, Copy)]
+// What a line is read into, one character after the other.
+pub trait Reading {
+    ghost anew: { Self → Self };
+
+    ghost after: { Self → ℕ → Self };
+
+    // Begins anew, before a line's first character.
+    fn restart(&mut self)
+        ensures { self.new ≡ anew self.old };
+
+    // Reads the next character; the line's end is one too.
+    fn read(&mut self, c: u8)
+        ensures { self.new ≡ after self.old c };
+}
+
+// The text that was read last, and how far it has been read.
+// No Vec or BufReader: their memory is asked for, and `open` can't fail.
+#[derive(Drop)]
 pub struct Input {
+    text: [u8; TEXT],
     // How many characters the text has, and the place of the next one.
     read: usize,
     at: usize,
-    // Whether the input has ended, and the last character read if it hasn't.
-    pub ended: bool,
-    pub character: u8,
 }
 
-// An input of which nothing is read yet.
-pub fn open() -> Input
-    ensures { result ≡ opened }
-{
-    Input {
-        read: 0,
-        at: 0,
-        ended: false,
-        character: 0,
-    }
-}
-
-// Reads the next character: of the text, or of more text if none is left. An error is the reader's own, and comes only where no character is
-// left; the reader has then given nothing.
-pub fn next<R: Read>(input: Input, text: &mut [u8; TEXT], reader: &mut R) -> io::Result<Input>
-    ensures read { IfOk result (λ after. Next input text.old after text.new) }
-    ensures failed { OnErr result (Left input → ⊥) }
-    ensures kept { OnErr result (Keeps (R.remaining reader.old) (R.remaining reader.new)) }
-{
-    let at = input.at;
-    if at < input.read {
-        if at < TEXT {
-            return Ok(Input {
-                read: input.read,
-                at: at + 1,
-                ended: false,
-                character: text[at],
-            });
-        }
-    }
-    let read = reader.read(text)?;
-    Ok(begin(read, text))
-}
-
-// The first character of a text of which some characters were read; if there are none, the input has ended.
-fn begin(read: usize, text: &[u8; TEXT]) -> Input
-    ensures { result ≡ begun read text.now }
-{
-    if read == 0 {
-        return Input {
+impl Input {
+    // An input of which nothing is read yet.
+    pub fn open() -> Input
+        ensures { result ≡ opened }
+    {
+        Input {
+            text: [0; TEXT],
             read: 0,
             at: 0,
-            ended: true,
-            character: 0,
-        };
+        }
     }
-    Input {
-        read,
-        at: 1,
-        ended: false,
-        character: text[0],
+
+    // The next character: of the text, or of more text if none is left; none if the input has ended. An error is the reader's own, and
+    // comes only where no character is left; the reader has then given nothing.
+    pub fn next<R: Read>(&mut self, reader: &mut R) -> io::Result<Option<u8>>
+        ensures read { IfOk result (λ c. Next self.old self.new c) }
+        ensures failed { OnErr result (AtEnd self.old self.new) }
+        ensures kept { OnErr result (Keeps (R.remaining reader.old) (R.remaining reader.new)) }
+    {
+        if let Some(c) = self.take() {
+            return Ok(Some(c));
+        }
+        self.read = reader.read(&mut self.text)?;
+        self.at = 0;
+        Ok(self.take())
     }
+
+    // Reads the next line, and answers whether there was one; a line that has no end is none.
+    pub fn line<R: Read, T: Reading>(&mut self, reader: &mut R, line: &mut T) -> io::Result<bool>
+        ensures { IfOk result (λ whole. whole ≡ true → ReadsLine T.after (T.anew line.old) line.new) }
+    {
+        line.restart();
+        // A count bounds this loop and the one below, since every loop is proved to end; no input has as many characters.
+        for turn in 0..usize::MAX {
+            let Some(c) = self.next(reader)? else {
+                return Ok(false);
+            };
+            line.read(c);
+            if c == b'\n' {
+                return Ok(true);
+            }
+        }
+        Ok(false)
+    }
+
+    // The next character of the text, if one is left.
+    fn take(&mut self) -> Option<u8>
+        ensures left { Left self.old → Found self.new result (taken self.old.read self.old.text self.old.at) }
+        ensures none { (Left self.old → ⊥) → Found self.new result (self.old, None) }
+    {
+        if self.at >= self.read || self.at >= TEXT {
+            return None;
+        }
+        let c = self.text[self.at];
+        self.at += 1;
+        Some(c)
+    }
+}
+
+// Reads an input line by line, and gives each line to `judge`, until the input ends. An error is the reader's or the judge's, and ends it too.
+pub fn for_each_line<R: Read, T: Reading, F: FnMut(&T) -> io::Result<()>>(
+    reader: &mut R,
+    line: &mut T,
+    mut judge: F,
+) -> io::Result<()>
+    requires { F.IsAlwaysCallable judge }
+    ensures { OnOk result ((last : F) × JudgesLines F.FnMut T.anew T.after judge last) }
+{
+    let mut input = Input::open();
+    for turn in 0..usize::MAX {
+        if !input.line(reader, line)? {
+            return Ok(());
+        }
+        judge(line)?;
+    }
+    Ok(())
 }

@@ -1,7 +1,7 @@
 // What the test programs share: reading the characters of standard input and the octets of a case, and the table that a program lends.
 //
-// A program asks `input::next` for one character after the other and gives it to `case::read`, or to the crate `lines` if its lines have a
-// heading. At a line's end it judges the octets that `case::octets` gives.
+// A program gives `input::for_each_line` what a line is read into, a `case::Case`, or a `Line` of the crate `lines` if its lines have a heading;
+// and what judges the line then.
 #![tactic(auto)]
 
 pub mod case;

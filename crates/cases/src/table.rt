@@ -1,5 +1,5 @@
 // The table that a program lends to a reading: what it holds beforehand, and whether that has changed.
-ghost use Rattle.std.specs.Prelude.{◌≡◌, true, length};
+ghost use Rattle.std.specs.Prelude.{◌≡◌, true};
 ghost use Rattle.cases.specs.Table.{numbers, Untouched};
 
 // How many numbers the table holds: room for 30,000 rows.
@@ -12,16 +12,8 @@ const UNTOUCHED: usize = 1000000000;
 pub fn prepare(table: &mut [usize; NUMBERS])
     ensures { Untouched table.new 0 numbers }
 {
-    fill(table);
-}
-
-// The same for the table as a slice, whose length a contract can name.
-fn fill(table: &mut [usize])
-    requires { length table.old ≡ numbers }
-    ensures { Untouched table.new 0 numbers }
-{
-    for i in 0..NUMBERS {
-        table[i] = UNTOUCHED + i;
+    for (i, number) in table.iter_mut().enumerate() {
+        *number = UNTOUCHED + i;
     }
 }
 
@@ -29,10 +21,6 @@ fn fill(table: &mut [usize])
 pub fn is_untouched(table: &[usize; NUMBERS], from: usize) -> bool
     ensures { (result ≡ true → Untouched table.now from numbers) × (Untouched table.now from numbers → result ≡ true) }
 {
-    for i in from..NUMBERS {
-        if table[i] != UNTOUCHED + i {
-            return false;
-        }
-    }
-    true
+    let mut numbers = table.iter().enumerate().skip(from);
+    numbers.all(|(i, number)| *number == UNTOUCHED + i)
 }

@@ -1,5 +1,6 @@
 -- The theorems and laws about the definitions.
 pub mod Counting
+pub mod Octets
 pub mod RowOrder
 pub mod Aligning
 pub mod OneCounterpart
@@ -19,6 +20,7 @@ pub mod WalkSteps
 pub mod Gathering
 pub mod ReadNumbers
 pub mod Comparing
+pub mod Judging
 pub mod Bounded
 pub mod TheList
 pub mod OneAnswer

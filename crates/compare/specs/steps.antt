@@ -3,5 +3,7 @@ pub mod Arranged
 pub mod Merging
 pub mod Tables
 pub mod Lists
+pub mod Told
 pub mod Walking
 pub mod Finding
+pub mod Judging

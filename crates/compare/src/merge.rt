@@ -5,9 +5,9 @@ ghost use Rattle.compare.specs.steps.Lists.{Added};
 ghost use Rattle.compare.specs.steps.Tables.{child_at, Ended};
 ghost use Rattle.compare.specs.steps.Walking.{Standing, Facing, Stepped, Gone};
 
-use crate::entries::{LEAVES_DIFFER, ONLY_FIRST, ONLY_SECOND, put};
+use crate::entries::{Change, put};
 use crate::octets::equal;
-use crate::rows::{after, by_position, element, is_child, kind_at};
+use crate::rows::{Batch, by_position};
 use crate::times::seconds_later;
 use crmf::kinds;
 
@@ -27,24 +27,24 @@ pub(crate) struct Cursor {
 }
 
 // Merges the children of two rows, from the rows of a cursor on, and answers the cursor after them. Entries are listed from number `from` on, as
-// far as there is room for them. `one` and `two` are the rows of the batches.
+// far as there is room for them. That number and the list stay two parameters: of a struct around both, each contract would say that its number
+// stays.
 #[cycle(both_children_spot)]
 pub(crate) fn children(
-    first: &[u8],
-    second: &[u8],
-    one: &[usize],
-    two: &[usize],
+    first: Batch,
+    second: Batch,
     above: Pair,
     start: Cursor,
     from: usize,
     list: &mut [i64],
 ) -> Cursor
-    requires { Standing first.now second.now one.now two.now above start }
-    ensures { Gone first.now second.now above start from list.old result list.new }
+    requires { Standing first.bytes.now second.bytes.now first.rows.now second.rows.now above start }
+    ensures { Gone first.entry.bytes.now second.entry.bytes.now above start from list.old result list.new }
 {
     let mut at = start;
-    while is_child(one, above.first, at.first) | is_child(two, above.second, at.second) {
-        at = spot(first, second, one, two, above, at, from, list);
+    // Gone through by a cursor, and not by `for`: each step says itself how far it goes in either batch.
+    while first.is_child(above.first, at.first) | second.is_child(above.second, at.second) {
+        at = spot(first, second, above, at, from, list);
     }
     at
 }
@@ -52,115 +52,107 @@ pub(crate) fn children(
 // Merges what stands at the next spot.
 #[cycle(both_children_spot)]
 fn spot(
-    first: &[u8],
-    second: &[u8],
-    one: &[usize],
-    two: &[usize],
+    first: Batch,
+    second: Batch,
     above: Pair,
     at: Cursor,
     from: usize,
     list: &mut [i64],
 ) -> Cursor
-    requires { Standing first.now second.now one.now two.now above at
-        × ((child_at one.now above.first at.first || child_at two.now above.second at.second) ≡ true) }
-    ensures { Stepped first.now second.now above at from list.old result list.new }
+    requires { Standing first.bytes.now second.bytes.now first.rows.now second.rows.now above at
+        × ((child_at first.rows.now above.first at.first || child_at second.rows.now above.second at.second) ≡ true) }
+    ensures { Stepped first.entry.bytes.now second.entry.bytes.now above at from list.old result list.new }
 {
-    if !is_child(two, above.second, at.second) {
-        return pass_first(one, at, from, list);
+    if !second.is_child(above.second, at.second) {
+        return pass_first(first, at, from, list);
     }
-    if !is_child(one, above.first, at.first) {
-        return pass_second(two, at, from, list);
+    if !first.is_child(above.first, at.first) {
+        return pass_second(second, at, from, list);
     }
-    let kind = kind_at(one, at.first);
-    let other = kind_at(two, at.second);
+    let kind = first.kind(at.first);
+    let other = second.kind(at.second);
     if kind == other {
-        return both(first, second, one, two, above, at, from, list);
+        return both(first, second, above, at, from, list);
     }
-    if by_position(kind_at(one, above.first)) {
-        let half = pass_first(one, at, from, list);
-        return pass_second(two, half, from, list);
+    if by_position(first.kind(above.first)) {
+        let half = pass_first(first, at, from, list);
+        return pass_second(second, half, from, list);
     }
     if kind < other {
-        return pass_first(one, at, from, list);
+        return pass_first(first, at, from, list);
     }
-    pass_second(two, at, from, list)
+    pass_second(second, at, from, list)
 }
 
 // Merges two children at one spot that are of one kind: two leaves, or what is below two containers.
 #[cycle(both_children_spot)]
 fn both(
-    first: &[u8],
-    second: &[u8],
-    one: &[usize],
-    two: &[usize],
+    first: Batch,
+    second: Batch,
     above: Pair,
     at: Cursor,
     from: usize,
     list: &mut [i64],
 ) -> Cursor
-    requires { Standing first.now second.now one.now two.now above at
-        × Facing first.now second.now above at }
-    ensures { Stepped first.now second.now above at from list.old result list.new }
+    requires { Standing first.bytes.now second.bytes.now first.rows.now second.rows.now above at
+        × Facing first.bytes.now second.bytes.now above at }
+    ensures { Stepped first.entry.bytes.now second.entry.bytes.now above at from list.old result list.new }
 {
     let next = Cursor {
         first: at.first + 1,
         second: at.second + 1,
         count: at.count,
     };
-    let kind = kind_at(one, at.first);
+    let kind = first.kind(at.first);
     if kinds::container(kind) {
         let below = Pair {
             first: at.first,
             second: at.second,
         };
-        return children(first, second, one, two, below, next, from, list);
+        return children(first, second, below, next, from, list);
     }
-    let here = element(first, one, at.first);
-    let there = element(second, two, at.second);
+    let here = first.element(at.first);
+    let there = second.element(at.second);
     if equal(here, there) {
         return next;
     }
     let seconds = seconds_later(kind, here, there);
-    put(
-        LEAVES_DIFFER,
-        at.first,
-        at.second,
+    let change = Change::LeavesDiffer {
+        first: at.first,
+        second: at.second,
         seconds,
-        at.count,
-        from,
-        list,
-    );
+    };
+    put(change, at.count, from, list);
     Cursor {
-        first: next.first,
-        second: next.second,
         count: at.count + 1,
+        ..next
     }
 }
 
 // Lists the next row of the first batch as one that is only there, and passes it with all below it.
-fn pass_first(one: &[usize], at: Cursor, from: usize, list: &mut [i64]) -> Cursor
-    requires { (at.first < length one.now) × (length one.now ≤ 32767) × (at.second ≤ 32767) × (at.count ≤ at.first + at.second) }
-    ensures { Ended one.now at.first result.first × (result.second ≡ at.second) × (result.count ≡ suc at.count)
+fn pass_first(first: Batch, at: Cursor, from: usize, list: &mut [i64]) -> Cursor
+    requires { (at.first < length first.rows.now) × (at.second ≤ 32767) × (at.count ≤ at.first + at.second) }
+    ensures { Ended first.entry.rows.now at.first result.first × (result.second ≡ at.second) × (result.count ≡ suc at.count)
         × ((later : Later) → Added later from at.count (only_first at.first ∷ []) list.old list.new) }
 {
-    put(ONLY_FIRST, at.first, 0, 0, at.count, from, list);
+    put(Change::OnlyFirst { row: at.first }, at.count, from, list);
     Cursor {
-        first: after(one, at.first),
-        second: at.second,
+        first: first.after(at.first),
         count: at.count + 1,
+        ..at
     }
 }
 
-// The same of the second batch.
-fn pass_second(two: &[usize], at: Cursor, from: usize, list: &mut [i64]) -> Cursor
-    requires { (at.second < length two.now) × (length two.now ≤ 32767) × (at.first ≤ 32767) × (at.count ≤ at.first + at.second) }
-    ensures { (result.first ≡ at.first) × Ended two.now at.second result.second × (result.count ≡ suc at.count)
+// The same of the second batch. One function for both would be a match with these two bodies in its arms.
+fn pass_second(second: Batch, at: Cursor, from: usize, list: &mut [i64]) -> Cursor
+    requires { (at.second < length second.rows.now) × (at.first ≤ 32767) × (at.count ≤ at.first + at.second) }
+    ensures { (result.first ≡ at.first) × Ended second.entry.rows.now at.second result.second × (result.count ≡ suc at.count)
         × ((later : Later) → Added later from at.count (only_second at.second ∷ []) list.old list.new) }
 {
-    put(ONLY_SECOND, 0, at.second, 0, at.count, from, list);
+    put(Change::OnlySecond { row: at.second }, at.count, from, list);
     Cursor {
-        first: at.first,
-        second: after(two, at.second),
+        second: second.after(at.second),
         count: at.count + 1,
+        ..at
     }
 }

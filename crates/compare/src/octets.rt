@@ -2,6 +2,7 @@
 ghost use Rattle.compare.specs.steps.Lists.{Tells};
 
 // Whether two slices have the same octets. All are looked at, without a way out at the first that differs, so that many are compared at once.
+// `==` of slices calls `memcmp`, which the archive may not.
 pub(crate) fn equal(one: &[u8], two: &[u8]) -> bool
     ensures { Tells result one.now two.now }
 {
@@ -9,10 +10,8 @@ pub(crate) fn equal(one: &[u8], two: &[u8]) -> bool
         return false;
     }
     let mut differs = false;
-    let mut i = 0;
-    while i < one.len() {
-        differs = differs | (one[i] != two[i]);
-        i += 1;
+    for (a, b) in one.iter().zip(two) {
+        differs |= a != b;
     }
     !differs
 }

@@ -1,4 +1,5 @@
 // The exact walk over the elements of a batch, by the grammar's lines: a loop over siblings, and a call for each inside.
+pub mod first;
 pub mod tally;
 
 ghost use Rattle.std.specs.Prelude.{ℕ, ◌≤◌, ◌<◌, ◌≡◌, length, get_or};
@@ -6,32 +7,28 @@ ghost use Rattle.std.proofs.Math.Seq.{slice};
 ghost use Rattle.der.specs.meaning.Bounds.{longest};
 ghost use Rattle.der.specs.steps.Reading.{tree};
 ghost use Rattle.crmf.specs.steps.grammar.Packed.{packed};
-ghost use Rattle.crmf.specs.steps.explain.Walk.{line, judged, count_of};
+ghost use Rattle.crmf.specs.steps.explain.Tally.{tally_of};
+ghost use Rattle.crmf.specs.steps.explain.Walk.{line, judged, walked_of, count_of};
 ghost use Rattle.crmf.specs.steps.explain.Inner.{Lent, inside_walk, Tried, Passing, walk_from, stepped, Stepped};
 
 use crate::explain::tally::Tally;
-use crate::grammar::element::{Fit, Fitting, line_for};
-use crate::grammar::judge::Onward;
-use crate::grammar::lines::{LINES, TOP};
-use crate::grammar::{codes, judge, table};
+use crate::grammar::element::{Fit, line_for};
+use crate::grammar::lines::TOP;
+use crate::grammar::{codes, details, judge, table};
 use crate::{kinds, recognise};
 use der::bounds::DEPTH;
 use der::element::reading::read_at;
 
-// What the walk over a container answers.
+// The first break of a walk: its place, request A9's detail (`details`), and the tally before it.
 #[derive(Clone, Copy)]
-pub enum Walked {
-    // All of it is in the grammar.
-    Passed(Tally),
-    // The place of the first break, request A9's detail, and the tally before it.
-    Broken {
-        place: usize,
-        detail: usize,
-        tally: Tally,
-    },
+pub struct Break {
+    pub place: usize,
+    pub detail: usize,
+    pub tally: Tally,
 }
 
 // The line and the place that the walk goes on with, and the tally before them.
+// Apart from `rows::Spot`, which has a row's number in the tally's place: one generic type would lose both names.
 #[derive(Clone, Copy)]
 struct Cursor {
     state: usize,
@@ -39,168 +36,131 @@ struct Cursor {
     tally: Tally,
 }
 
-// What the walk over one element answers: where to go on, or the break.
-#[derive(Clone, Copy)]
-enum WalkStep {
-    On(Cursor),
-    Stop {
-        place: usize,
-        detail: usize,
-        tally: Tally,
-    },
-}
-
-// Walks over the bytes as one batch, and reads the forms of both editions. Answers the tally, or the first break and the tally before it. Bytes
-// that are too long break at 0.
-pub fn count(bytes: &[u8]) -> Walked
-    ensures { result ≡ count_of bytes.now }
+// Walks over the bytes as one batch, and reads the forms of both editions. Answers the tally, or the first break. Bytes that are too long break
+// at 0.
+pub fn count(bytes: &[u8]) -> Result<Tally, Break>
+    ensures { walked_of result ≡ count_of bytes.now }
 {
     let tally = tally::empty();
     if der::bounds::LONGEST < bytes.len() {
-        return Walked::Broken {
+        return Err(Break {
             place: 0,
-            detail: 1,
+            detail: details::FITS_NO_PART,
             tally,
-        };
+        });
     }
-    let table = table::words();
     let start = Cursor {
         state: TOP,
         at: 0,
         tally,
     };
-    list(bytes, start, bytes.len(), 0, &table)
+    list(bytes, start, bytes.len(), 0)
 }
 
 // Walks over the elements from the cursor to `end`, in a container at the place `around`.
+// Bytes, cursor and end stay apart: at a sibling the cursor alone changes, and `Lent` is what holds of the three.
 #[cycle(element_inside_list)]
-fn list(bytes: &[u8], start: Cursor, end: usize, around: usize, table: &[usize; LINES]) -> Walked
-    requires { Lent bytes.now start.at end start.tally.count table.now }
-    ensures { (result ≡ walk_from bytes.now start end around) × Passing end result }
+fn list(bytes: &[u8], start: Cursor, end: usize, around: usize) -> Result<Tally, Break>
+    requires { Lent bytes.now start.at end start.tally.count }
+    ensures { (walked_of result ≡ walk_from bytes.now start end around) × Passing end result }
 {
     let mut cursor = start;
+    // No index is counted: each turn goes on where the element before it ended.
     while cursor.at < end {
-        match element(bytes, cursor, end, table) {
-            WalkStep::On(next) => {
-                cursor = next;
-            }
-            WalkStep::Stop {
-                place: broken,
-                detail,
-                tally,
-            } => {
-                return Walked::Broken {
-                    place: broken,
-                    detail,
-                    tally,
-                };
-            }
-        }
+        cursor = element(bytes, cursor, end)?;
     }
     let tally = cursor.tally;
-    if table::closed(table, cursor.state) {
-        return Walked::Passed(tally);
+    if table::closed(cursor.state) {
+        return Ok(tally);
     }
-    Walked::Broken {
+    Err(Break {
         place: around,
-        detail: 2,
+        detail: details::PART_MISSING,
         tally,
-    }
+    })
 }
 
 // Walks over the element at the cursor, before `end`: finds its line by the identifier alone, walks over its inside, then judges its value.
+// Answers where to go on, or the break.
 #[cycle(element_inside_list)]
-fn element(bytes: &[u8], cursor: Cursor, end: usize, table: &[usize; LINES]) -> WalkStep
-    requires { Lent bytes.now cursor.at end cursor.tally.count table.now × (cursor.at < end) }
+fn element(bytes: &[u8], cursor: Cursor, end: usize) -> Result<Cursor, Break>
+    requires { Lent bytes.now cursor.at end cursor.tally.count × (cursor.at < end) }
     ensures { Stepped bytes.now cursor end result }
 {
     let tally = cursor.tally;
     let element = read_at(bytes, cursor.at, end);
-    let fitting = line_for(element, cursor.at, cursor.state, table);
-    let Fitting::Fits(fit) = fitting else {
-        return WalkStep::Stop {
+    let Some(fit) = line_for(element, cursor.at, cursor.state) else {
+        return Err(Break {
             place: cursor.at,
-            detail: 1,
+            detail: details::FITS_NO_PART,
             tally,
-        };
+        });
     };
-    match inside(bytes, fit, tally::with_element(bytes, fit, tally), table) {
-        Walked::Broken {
-            place,
-            detail,
-            tally: before,
-        } => WalkStep::Stop {
-            place,
-            detail,
-            tally: before,
-        },
-        Walked::Passed(more) => after_inside(bytes, fit, more, table),
-    }
+    let more = inside(bytes, fit, tally::with_element(bytes, fit, tally))?;
+    after_inside(bytes, fit, more)
 }
 
 // Walks over the inside of an element, if its line has one. The inside of a message's part is tried with the recogniser first: most have
 // neither a fault nor a form of one edition alone.
 #[cycle(element_inside_list)]
-fn inside(bytes: &[u8], fit: Fit, tally: Tally, table: &[usize; LINES]) -> Walked
-    requires { Lent bytes.now fit.content fit.end tally.count table.now }
-    ensures { ((k : ℕ) → fit.word ≡ get_or packed k 0 → result ≡ inside_walk k tally fit.first (tree fit.content (slice fit.content fit.end bytes.now))) × Passing fit.end result }
+fn inside(bytes: &[u8], fit: Fit, tally: Tally) -> Result<Tally, Break>
+    requires { Lent bytes.now fit.content fit.end tally.count }
+    ensures { ((k : ℕ) → fit.word ≡ get_or packed k 0 → walked_of result ≡ inside_walk k (tally_of tally) fit.first (tree fit.content (slice fit.content fit.end bytes.now))) × Passing fit.end result }
 {
     let state = table::inside_of(fit.word);
     if state == codes::FREE {
-        return Walked::Passed(tally);
+        return Ok(tally);
     }
-    let counted = count_part(bytes, fit, state, table);
-    if counted != 0 {
-        return Walked::Passed(tally::with_rows(counted - 1, tally));
+    if let Some(rows) = count_part(bytes, fit, state) {
+        return Ok(tally::with_rows(rows, tally));
     }
     let start = Cursor {
         state,
         at: fit.content,
         tally,
     };
-    list(bytes, start, fit.end, fit.first, table)
+    list(bytes, start, fit.end, fit.first)
 }
 
-// Tries the inside of an element, from the line `state` on, if the element is a part of a message. Answers one more than its rows if all of it is
-// recognised and none is in a form of one edition alone, otherwise 0.
-fn count_part(bytes: &[u8], fit: Fit, state: usize, table: &[usize; LINES]) -> usize
-    requires { (fit.content ≤ fit.end) × (fit.end ≤ length bytes.now) × (length bytes.now ≤ longest) × (table.now ≡ packed) }
+// Tries the inside of an element, from the line `state` on, if the element is a part of a message. Answers its rows if all of it is recognised
+// and none is in a form of one edition alone.
+fn count_part(bytes: &[u8], fit: Fit, state: usize) -> Option<usize>
+    requires { (fit.content ≤ fit.end) × (fit.end ≤ length bytes.now) × (length bytes.now ≤ longest) }
     ensures { Tried state fit.content (slice fit.content fit.end bytes.now) result }
 {
     if !is_part(table::kind_of(fit.word)) {
-        return 0;
+        return None;
     }
     let from = fit.content;
     let to = fit.end;
-    recognise::list(&bytes[from..to], state, DEPTH, 0, recognise::NEITHER, table)
+    recognise::list(&bytes[from..to], state, DEPTH, 0, recognise::NEITHER)
 }
 
 // Whether a kind is that of a message's part.
 fn is_part(kind: usize) -> bool {
-    (kind == kinds::CERT_REQ)
-        | (kind == kinds::SIGNATURE)
-        | (kind == kinds::KEY_ENCIPHERMENT)
-        | (kind == kinds::KEY_AGREEMENT)
-        | (kind == kinds::REG_INFO)
+    matches!(
+        kind,
+        kinds::CERT_REQ
+            | kinds::SIGNATURE
+            | kinds::KEY_ENCIPHERMENT
+            | kinds::KEY_AGREEMENT
+            | kinds::REG_INFO
+    )
 }
 
 // The step that an element's value makes, after its inside.
-fn after_inside(bytes: &[u8], fit: Fit, tally: Tally, table: &[usize; LINES]) -> WalkStep
-    requires { (fit.content ≤ fit.end) × (fit.end ≤ length bytes.now) × (table.now ≡ packed) }
+fn after_inside(bytes: &[u8], fit: Fit, tally: Tally) -> Result<Cursor, Break>
+    requires { (fit.content ≤ fit.end) × (fit.end ≤ length bytes.now) }
     ensures { (k : ℕ) → fit.word ≡ get_or packed k 0 → result ≡ stepped fit.first fit.end tally (judged (line k).judge (line k).next (slice fit.content fit.end bytes.now)) }
 {
     let from = fit.content;
-    let to = fit.end;
-    match judge::judge_value(table, fit.word, &bytes[from..to]) {
-        Onward::To(state) => WalkStep::On(Cursor {
-            state,
-            at: to,
-            tally,
-        }),
-        Onward::Breaks(detail) => WalkStep::Stop {
+    let at = fit.end;
+    match judge::judge_value(fit.word, &bytes[from..at]) {
+        Ok(state) => Ok(Cursor { state, at, tally }),
+        Err(detail) => Err(Break {
             place: fit.first,
             detail,
             tally,
-        },
+        }),
     }
 }

@@ -1,9 +1,10 @@
-// The kinds of rows: document 01's section "Rows", SPECIFICATION 5. specs/meaning/Kinds.antt has the same names.
+// The kinds of rows: document 01's section "Rows", SPECIFICATION 5. specs/meaning/Kinds.antt has the same names. They are numbers and no enum,
+// since they stand in the table of numbers that C lends.
 ghost use Rattle.std.specs.Prelude.{◌≤◌, ◌≡◌};
 ghost use Rattle.crmf.specs.meaning.Rows.{container as isContainer};
 ghost use Rattle.crmf.specs.steps.explain.Walk.{rows_of_kind};
 
-// No row.
+// No row: the number that a packed line has where it gives none.
 pub const NONE: usize = 0;
 
 pub const BATCH: usize = 1;
@@ -105,19 +106,24 @@ pub(crate) fn row_of(kind: usize) -> usize
 }
 
 // Whether a kind is a container's.
+#[tactic(auto, unfolding(crate::specs::meaning::Notation::among, crate::specs::meaning::Rows::container))]
+#[inline]
 pub fn container(kind: usize) -> bool
     ensures { result ≡ isContainer kind }
 {
-    (kind == BATCH)
-        | (kind == MESSAGE)
-        | (kind == CERT_REQ)
-        | (kind == CERT_TEMPLATE)
-        | (kind == VALIDITY)
-        | (kind == EXTENSIONS)
-        | (kind == CONTROLS)
-        | (kind == SIGNATURE)
-        | (kind == KEY_ENCIPHERMENT)
-        | (kind == KEY_AGREEMENT)
-        | (kind == REG_INFO)
-        | (kind == REG_INFO_CERT_REQ)
+    matches!(
+        kind,
+        BATCH
+            | MESSAGE
+            | CERT_REQ
+            | CERT_TEMPLATE
+            | VALIDITY
+            | EXTENSIONS
+            | CONTROLS
+            | SIGNATURE
+            | KEY_ENCIPHERMENT
+            | KEY_AGREEMENT
+            | REG_INFO
+            | REG_INFO_CERT_REQ
+    )
 }

@@ -1,7 +1,7 @@
 // The messages of a batch, by their position.
 ghost use Rattle.std.specs.Prelude.{◌≡◌, drop};
 ghost use Rattle.crmf.specs.steps.Fields.{fields_between, Places};
-ghost use Rattle.crmf.specs.steps.Positions.{first_place, message_place};
+ghost use Rattle.crmf.specs.steps.Positions.{first_place, MessageFound};
 
 use der::bounds::LONGEST;
 use der::element::reading::read_at;
@@ -11,32 +11,34 @@ use der::element::reading::read_at;
 #[derive(Clone, Copy)]
 pub struct Position(pub usize);
 
-// The first byte of the message at a position of a batch; the batch's end if it has none there. An input longer than LONGEST has none.
-pub fn message_at(bytes: &[u8], position: Position) -> usize
-    ensures { result ≡ message_place bytes.now position.0 }
+// The first byte of the message at a position of a batch, if it has one there. An input longer than LONGEST has none.
+pub fn message_at(bytes: &[u8], position: Position) -> Option<usize>
+    ensures { MessageFound bytes.now position.0 result }
 {
     let end = bytes.len();
     if LONGEST < end {
-        return end;
+        return None;
     }
     let batch = read_at(bytes, 0, end);
-    skip(bytes, batch.content, end, position.0)
+    let place = skip(bytes, batch.content, end, position.0);
+    if end <= place {
+        return None;
+    }
+    Some(place)
 }
 
 // The place of the element after the first `count` of those from `at` to `end`; the end if there is none.
+// No Option: the end is where the steps come to when no element is left, and `message_at` asks that once.
 fn skip(bytes: &[u8], at: usize, end: usize, count: usize) -> usize
     requires { Places bytes.now at end }
     ensures { result ≡ first_place end (drop count (fields_between bytes.now at end)) }
 {
     let mut place = at;
-    let mut left = count;
-    while 0 < left {
+    for passed in 0..count {
         if end <= place {
             return place;
         }
-        let x = read_at(bytes, place, end);
-        place = x.end;
-        left -= 1;
+        place = read_at(bytes, place, end).end;
     }
     place
 }

@@ -7,99 +7,60 @@ ghost use Rattle.std.specs.Prelude.{ℕ, ◌≤◌, ◌<◌, ◌≡◌, length, 
 ghost use Rattle.der.specs.meaning.Bounds.{longest};
 ghost use Rattle.crmf.specs.steps.grammar.Packed.{packed};
 ghost use Rattle.crmf.specs.steps.recognise.Count.{recognised, recognised_table, agreed};
-ghost use Rattle.crmf.specs.steps.recognise.Inner.{Countable, decode, ListCounted, ElementCounted};
+ghost use Rattle.crmf.specs.steps.recognise.Inner.{Countable, ListCounted, ElementCounted};
 
-use crate::grammar::lines::{LINES, TOP};
+use crate::grammar::lines::TOP;
 use crate::grammar::table;
-use crate::grammar::table::FoundLine;
 use crate::recognise::step::Visit;
 use crate::rows;
+use crate::rows::Spot;
 use crate::rows::agree::agree;
-use der::bounds::DEPTH;
+use der::bounds::{DEPTH, LONGEST};
 use der::element::length::measure;
 
 // Neither edition: no form of one edition alone is recognised.
+// Editions are numbers here: `count`, `read` and `agrees` are public and take every number, and one that names no edition recognises no form of
+// one alone.
 pub(crate) const NEITHER: usize = 0;
 
-// What the recogniser answers.
-#[derive(Clone, Copy)]
-pub enum Recognition {
-    // A batch of the edition with this many rows, and no certReqId of more than 8 octets.
-    Rows(usize),
-    // Anything else: `der` and `explain` find what is wrong.
-    Unrecognised,
-}
-
-// Answers how many rows the bytes have as a batch of the edition, or that they are unrecognised.
-pub fn count(edition: usize, bytes: &[u8]) -> Recognition
+// Answers how many rows the bytes have as a batch of the edition with no certReqId of more than 8 octets. Of any other bytes it answers none:
+// `der` and `explain` find what is wrong.
+pub fn count(edition: usize, bytes: &[u8]) -> Option<usize>
     ensures { result ≡ recognised edition bytes.now }
 {
-    let table = table::words();
-    count_by(edition, bytes, &table)
+    count_by(edition, bytes)
 }
 
 // Answers the same, and writes the rows into `out` if it has room for them. Otherwise, and for unrecognised bytes, `out` stays as it is.
-pub fn read(edition: usize, bytes: &[u8], out: &mut [usize]) -> Recognition
+pub fn read(edition: usize, bytes: &[u8], out: &mut [usize]) -> Option<usize>
     ensures { (result ≡ recognised edition bytes.now) × (out.new ≡ recognised_table edition bytes.now out.old) }
 {
-    let table = table::words();
-    let recognition = count_by(edition, bytes, &table);
-    if let Recognition::Rows(rows) = recognition {
-        rows::fill(bytes, rows, &table, out);
-    }
-    recognition
+    let rows = count_by(edition, bytes)?;
+    rows::fill(bytes, rows, out);
+    Some(rows)
 }
 
 // Whether the bytes are a batch of the edition and their rows agree with a draft's, in place or wherever its leaves stand (`rows::agree`).
+// A flag: the clause of this public function has it (`agreed`).
 pub fn agrees(edition: usize, bytes: &[u8], draft: &[usize], in_place: bool) -> bool
     ensures { result ≡ agreed edition bytes.now draft.now in_place }
 {
-    let table = table::words();
-    if !agree(bytes, draft, in_place, &table) {
-        return false;
-    }
-    match count_by(edition, bytes, &table) {
-        Recognition::Rows(count) => true,
-        Recognition::Unrecognised => false,
-    }
+    agree(bytes, draft, in_place) && count_by(edition, bytes).is_some()
 }
 
-// Answers as `count` does, by a table of lines that is lent.
-fn count_by(edition: usize, bytes: &[u8], table: &[usize; LINES]) -> Recognition
-    requires { table.now ≡ packed }
+// Answers as `count` does.
+// Apart from it, since must-fail edits have `count` wrong where `read` and `agrees` are right.
+fn count_by(edition: usize, bytes: &[u8]) -> Option<usize>
     ensures { result ≡ recognised edition bytes.now }
 {
-    if der::bounds::LONGEST < bytes.len() {
-        return Recognition::Unrecognised;
+    if LONGEST < bytes.len() {
+        return None;
     }
-    decoded(list(bytes, TOP, DEPTH, 0, edition, table))
+    list(bytes, TOP, DEPTH, 0, edition)
 }
 
-// The meaning of a number that `list` answers.
-fn decoded(number: usize) -> Recognition
-    ensures { result ≡ decode number }
-{
-    if number == 0 {
-        return Recognition::Unrecognised;
-    }
-    Recognition::Rows(number - 1)
-}
-
-// Where the count goes on after an element.
-#[derive(Clone, Copy)]
-enum Advance {
-    // With a line of the table, at a place of the bytes, with this many rows so far.
-    Past {
-        line: usize,
-        at: usize,
-        count: usize,
-    },
-    // Nowhere: the element isn't recognised.
-    Stop,
-}
-
-// Recognises the elements that the bytes are, from the line `state` on, after `before` rows. Answers one more than the rows up to their end,
-// or 0 if they aren't recognised. This number stays in a register; a `Recognition` would go through memory at each level.
+// Recognises the elements that the bytes are, from the line `state` on, after `before` rows. Answers the rows up to their end, if they are
+// recognised.
 #[cycle(element_list)]
 pub(crate) fn list(
     bytes: &[u8],
@@ -107,87 +68,45 @@ pub(crate) fn list(
     left: usize,
     before: usize,
     edition: usize,
-    table: &[usize; LINES],
-) -> usize
-    requires { Countable bytes.now before table.now }
+) -> Option<usize>
+    requires { Countable bytes.now before }
     ensures { ListCounted edition left state before bytes.now result }
 {
-    let mut at = 0;
-    let mut line = state;
-    let mut count = before;
-    while at < bytes.len() {
-        let advance = element(bytes, at, line, left, count, edition, table);
-        let Advance::Past {
-            line: next,
-            at: end,
-            count: total,
-        } = advance
-        else {
-            return 0;
-        };
-        line = next;
-        at = end;
-        count = total;
+    let mut spot = Spot {
+        state,
+        at: 0,
+        row: before,
+    };
+    // No index is counted: each turn goes on where the element before it ended.
+    while spot.at < bytes.len() {
+        spot = element(bytes, spot, left, edition)?;
     }
-    if table::closed(table, line) {
-        return count + 1;
-    }
-    0
+    table::closed(spot.state).then_some(spot.row)
 }
 
-// Recognises the element at the place `at` of the bytes, from a line on, after `before` rows. `left` levels of depth are left.
+// Recognises the element at a spot of the bytes. `left` levels of depth are left. Answers the spot after it.
 #[cycle(element_list)]
-fn element(
-    bytes: &[u8],
-    at: usize,
-    line: usize,
-    left: usize,
-    before: usize,
-    edition: usize,
-    table: &[usize; LINES],
-) -> Advance
-    requires { Countable (drop at bytes.now) before table.now × (at < length bytes.now) × (length bytes.now ≤ longest) }
-    ensures { ElementCounted edition left line before at bytes.now result }
+fn element(bytes: &[u8], spot: Spot, left: usize, edition: usize) -> Option<Spot>
+    requires { Countable (drop spot.at bytes.now) spot.row × (spot.at < length bytes.now) × (length bytes.now ≤ longest) }
+    ensures { ElementCounted edition left spot bytes.now result }
 {
-    let x = measure(&bytes[at..]);
-    if x.octets == 0 {
-        return Advance::Stop;
-    }
+    let x = measure(&bytes[spot.at..])?;
     if left == 0 {
-        return Advance::Stop;
+        return None;
     }
-    let from = at + x.octets;
+    let from = spot.at + x.octets;
     let to = from + x.length;
-    let found = table::find_line(table, line, bytes[at]);
-    let FoundLine::At(k) = found else {
-        return Advance::Stop;
+    let id = bytes[spot.at];
+    let k = table::find_line(spot.state, id)?;
+    let word = table::word(k);
+    let own = spot.row + table::rows_of(word);
+    let content = &bytes[from..to];
+    let (state, row) = match step::take(word, id, content, left - 1, edition)? {
+        Visit::Skip(next) => (next, own),
+        Visit::Descend(next) => (
+            next,
+            list(content, table::inside_of(word), left - 1, own, edition)?,
+        ),
     };
-    let word = table::word(table, k);
-    let count = before + table::rows_of(word);
-    match step::take(word, bytes[at], &bytes[from..to], left - 1, edition, table) {
-        Visit::Refuse => Advance::Stop,
-        Visit::Skip(next) => Advance::Past {
-            line: next,
-            at: to,
-            count,
-        },
-        Visit::Descend(next) => {
-            let inside = decoded(list(
-                &bytes[from..to],
-                table::inside_of(word),
-                left - 1,
-                count,
-                edition,
-                table,
-            ));
-            let Recognition::Rows(total) = inside else {
-                return Advance::Stop;
-            };
-            Advance::Past {
-                line: next,
-                at: to,
-                count: total,
-            }
-        }
-    }
+    Some(Spot { state, at: to, row })
 }

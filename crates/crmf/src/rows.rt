@@ -1,19 +1,22 @@
-// Writes the rows of a batch into a lent table of numbers. The batch was recognised before, so nothing is judged again.
+// The rows of a batch, handed over one after another, and written into a lent table of numbers. Where they are written the batch was recognised
+// before, so nothing is judged again.
 pub(crate) mod agree;
 pub mod packed;
 
-ghost use Rattle.std.specs.Prelude.{ℕ, ◌+◌, ◌-◌, ◌*◌, ◌≤◌, ◌<◌, ◌≡◌, length, get_or};
+ghost use Rattle.std.specs.Prelude.{ℕ, Bool, false, List, ◌+◌, ◌-◌, ◌*◌, ◌≤◌, ◌<◌, ◌≡◌, length, get_or, IfSome};
 ghost use Rattle.std.proofs.Math.Seq.{slice};
 ghost use Rattle.crmf.specs.steps.grammar.Packed.{packed};
 ghost use Rattle.crmf.specs.steps.explain.Walk.{line};
-ghost use Rattle.crmf.specs.meaning.Rows.{row_if, parent_if};
+ghost use Rattle.crmf.specs.meaning.Rows.{Row, row_if, parent_if};
 ghost use Rattle.crmf.specs.steps.rows.Fill as spec;
-ghost use Rattle.crmf.specs.steps.rows.Fill.{goes, row_of, fits, filled, around_extent, fit_extent, own_rows, row_above, place_in, written_in, rows_of_input, Room, Wrote, Shown, Listed, Inner};
+ghost use Rattle.crmf.specs.steps.rows.Fill.{goes, row_of, entry_row, fits, filled, around_extent, entry_extent, fit_extent, own_rows, row_above, rows_of_input};
+ghost use Rattle.crmf.specs.steps.rows.Take.{Took, Lent, Listed, Stepped, Inner, Writes};
 
-use crate::grammar::element::{Fit, Fitting, line_for};
-use crate::grammar::lines::{LINES, TOP};
+use crate::grammar::element::{Fit, line_for};
+use crate::grammar::lines::TOP;
 use crate::grammar::{codes, lines, table, value};
 use crate::kinds;
+use der::bounds::LONGEST;
 use der::element::reading::read_at;
 
 // How many numbers a row has.
@@ -21,11 +24,11 @@ pub const WIDTH: usize = 5;
 
 // The element around some rows: the row above them, its first byte, its whole length and its content's first byte.
 #[derive(Clone, Copy)]
-pub(crate) struct Around {
-    pub(crate) up: usize,
-    pub(crate) place: usize,
-    pub(crate) whole: usize,
-    pub(crate) content: usize,
+struct Around {
+    up: usize,
+    place: usize,
+    whole: usize,
+    content: usize,
 }
 
 // Where to go on: the line, the place and the number of the next row.
@@ -36,25 +39,31 @@ pub(crate) struct Spot {
     pub(crate) row: usize,
 }
 
-// The place at which the elements end, the number of rows that may be written, and the table's layout: whether each row is packed into one
-// number, or has its five.
-#[derive(Clone, Copy)]
-struct Bounds {
-    end: usize,
-    limit: usize,
-    packed: bool,
-}
+// The spot at which a batch begins.
+const START: Spot = Spot {
+    state: TOP,
+    at: 0,
+    row: 0,
+};
+
+// What is around a batch: nothing.
+const NOTHING: Around = Around {
+    up: 0,
+    place: 0,
+    whole: 0,
+    content: 0,
+};
 
 // The row numbers at an element: of the row above it, of the first that it gives and of the next after its own.
+// That row numbers are small is asked by each step, since the bound moves with the step.
 #[derive(Clone, Copy)]
-pub(crate) struct Numbers {
-    pub(crate) up: usize,
-    pub(crate) row: usize,
-    pub(crate) next: usize,
+struct Numbers {
+    up: usize,
+    row: usize,
+    next: usize,
 }
 
-// What a row holds: its kind (0: there is no row), its element's first byte and whole length, its parent's row, and the first byte of its
-// element's content.
+// What a row holds: its kind, its element's first byte and whole length, its parent's row, and the first byte of its element's content.
 #[derive(Clone, Copy)]
 pub(crate) struct Entry {
     pub(crate) kind: usize,
@@ -64,143 +73,182 @@ pub(crate) struct Entry {
     pub(crate) content: usize,
 }
 
+// What takes the rows of a batch, one after another. It is lent a table.
+// The table is no field of it: each contract would have to say that the taker still holds the same one.
+pub(crate) trait Taker {
+    // How the row of a number is taken, from the table before to the one after: whether the walk goes on.
+    ghost takes: { Self → ℕ → Row → List ℕ → Bool → List ℕ → Type 0 };
+
+    // Takes the row of a number. Answers whether the walk goes on.
+    fn take(&self, new: Entry, row: usize, out: &mut [usize]) -> bool
+        requires { row ≤ 131072 }
+        ensures { takes self.now row (entry_row new) out.old result out.new };
+}
+
+// Writes each row into the table as its five numbers, as far as there is room.
+struct Separate;
+
+impl Taker for Separate {
+    ghost takes = { λ s. Writes false };
+
+    fn take(&self, new: Entry, row: usize, out: &mut [usize]) -> bool {
+        let at = WIDTH * row;
+        if out.len() < at + WIDTH {
+            return true;
+        }
+        out[at] = new.kind;
+        out[at + 1] = new.first;
+        out[at + 2] = new.whole;
+        out[at + 3] = new.parent;
+        out[at + 4] = new.content;
+        true
+    }
+}
+
 // Writes the rows of the bytes into `out`, as far as their numbers are below `count`, and answers true. If `out` has no room for `count` rows,
-// it stays as it is, and the answer is false. For an accepted batch and its own count these are the batch's rows. The table of lines is lent.
-pub(crate) fn fill(bytes: &[u8], count: usize, table: &[usize; LINES], out: &mut [usize]) -> bool
-    requires { table.now ≡ packed }
+// it stays as it is, and the answer is false. For an accepted batch and its own count these are the batch's rows.
+pub(crate) fn fill(bytes: &[u8], count: usize, out: &mut [usize]) -> bool
     ensures { (result ≡ fits count out.old) × (out.new ≡ filled bytes.now count out.old) }
 {
     if out.len() / WIDTH < count {
         return false;
     }
-    walk(bytes, count, false, table, out);
+    walk(bytes, &Separate, &mut out[..WIDTH * count]);
     true
 }
 
-// Writes the rows of the bytes into a table with room for `limit` rows, as far as their numbers are below it: each packed into one number, if
-// `packing` says so, or as its five.
-fn walk(bytes: &[u8], limit: usize, packing: bool, table: &[usize; LINES], out: &mut [usize])
-    requires { (table.now ≡ packed) × (place_in packing limit ≤ length out.old) }
-    ensures { out.new ≡ written_in packing out.old 0 limit (rows_of_input bytes.now) }
+// Hands the rows of the bytes, as one batch, to a taker. Answers how many they are, or none if the taker didn't go on.
+pub(crate) fn walk<T: Taker>(bytes: &[u8], taker: &T, out: &mut [usize]) -> Option<usize>
+    ensures { Took (T.takes taker.now) 0 (rows_of_input bytes.now) out.old result out.new }
 {
-    if der::bounds::LONGEST < bytes.len() {
-        return;
+    if LONGEST < bytes.len() {
+        return Some(0);
     }
-    let start = Spot {
-        state: TOP,
-        at: 0,
-        row: 0,
-    };
-    let bounds = Bounds {
-        end: bytes.len(),
-        limit,
-        packed: packing,
-    };
-    let around = Around {
-        up: 0,
-        place: 0,
-        whole: 0,
-        content: 0,
-    };
-    list(bytes, start, bounds, around, table, out);
+    list(bytes, START, bytes.len(), NOTHING, taker, out)
 }
 
-// Writes the rows of the elements from a spot to the end. Answers the number of the next row.
+// Hands over the rows of the elements from a spot to the end. Answers the number of the next row, or none if the taker didn't go on.
+// Bytes, spot and end stay apart: at a sibling the spot alone changes, and `Lent` is what holds of the three.
 #[cycle(element_inside_list)]
-fn list(
+fn list<T: Taker>(
     bytes: &[u8],
     start: Spot,
-    bounds: Bounds,
+    end: usize,
     around: Around,
-    table: &[usize; LINES],
+    taker: &T,
     out: &mut [usize],
-) -> usize
-    requires { Room bytes.now start.at bounds.end start.row bounds.limit bounds.packed table.now out.old }
-    ensures { Listed bytes.now start bounds around out.old result out.new }
+) -> Option<usize>
+    requires { Lent bytes.now start.at end start.row }
+    ensures { Listed (T.takes taker.now) bytes.now start end around out.old result out.new }
 {
     let mut spot = start;
-    while spot.at < bounds.end {
-        spot = element(bytes, spot, bounds, around, table, out);
+    // No index is counted: each turn goes on where the element before it ended.
+    while spot.at < end {
+        spot = element(bytes, spot, end, around, taker, out)?;
     }
-    spot.row
+    Some(spot.row)
 }
 
-// Writes the rows of the element at a spot and of those inside it. Answers the spot after it.
+// Hands over the rows of the element at a spot and of those inside it. Answers the spot after it, or none if the taker didn't go on.
 #[cycle(element_inside_list)]
-fn element(
+fn element<T: Taker>(
     bytes: &[u8],
     spot: Spot,
-    bounds: Bounds,
+    end: usize,
     around: Around,
-    table: &[usize; LINES],
+    taker: &T,
     out: &mut [usize],
-) -> Spot
-    requires { Room bytes.now spot.at bounds.end spot.row bounds.limit bounds.packed table.now out.old × (spot.at < bounds.end) }
-    ensures { Shown bytes.now spot bounds around out.old result out.new }
+) -> Option<Spot>
+    requires { Lent bytes.now spot.at end spot.row × (spot.at < end) }
+    ensures { Stepped (T.takes taker.now) bytes.now spot end around out.old result out.new }
 {
-    let element = read_at(bytes, spot.at, bounds.end);
-    let fitting = line_for(element, spot.at, spot.state, table);
-    let Fitting::Fits(fit) = fitting else {
-        return Spot {
+    let element = read_at(bytes, spot.at, end);
+    let Some(fit) = line_for(element, spot.at, spot.state) else {
+        return Some(Spot {
             state: spot.state,
-            at: bounds.end,
+            at: end,
             row: spot.row,
-        };
+        });
     };
+    let next = own_rows(fit, spot.row, around, taker, out)?;
     let numbers = Numbers {
         up: around.up,
         row: spot.row,
-        next: own_rows(fit, spot.row, around, bounds, out),
+        next,
     };
-    let row = inside(bytes, fit, numbers, bounds, table, out);
-    Spot {
-        state: onward(bytes, fit, table),
+    let row = inside(bytes, fit, numbers, taker, out)?;
+    Some(Spot {
+        state: onward(bytes, fit),
         at: fit.end,
         row,
-    }
+    })
 }
 
-// Writes the rows that an element gives by itself, from the number `row` on: that of the element around it, if the line has a kind for it, and
-// its own. Answers the number of the next row.
-fn own_rows(fit: Fit, row: usize, around: Around, bounds: Bounds, out: &mut [usize]) -> usize
-    requires { (fit.first ≤ fit.end) × (row ≤ 131070) × (place_in bounds.packed bounds.limit ≤ length out.old) }
-    ensures { ((k : ℕ) → fit.word ≡ get_or packed k 0 → Wrote bounds.packed (own_rows (line k) (fit_extent fit) row around) row bounds.limit out.old result out.new) × (result ≤ row + 2) }
+// Hands over the rows that an element gives by itself, from the number `row` on: that of the element around it, if the line has a kind for it,
+// and its own. Answers as `list` does.
+fn own_rows<T: Taker>(
+    fit: Fit,
+    row: usize,
+    around: Around,
+    taker: &T,
+    out: &mut [usize],
+) -> Option<usize>
+    requires { (fit.first ≤ fit.end) × (row ≤ 131070) }
+    ensures { ((k : ℕ) → fit.word ≡ get_or packed k 0 → Took (T.takes taker.now) row (own_rows (line k) (fit_extent fit) row around) out.old result out.new) × IfSome result (λ next. next ≤ row + 2) }
 {
-    let next = put(item_entry(fit, around), row, bounds, out);
-    put(own_entry(fit, row, around), next, bounds, out)
+    let next = hand(item_entry(fit, around), row, taker, out)?;
+    hand(own_entry(fit, row, around), next, taker, out)
+}
+
+// Hands over a row, if there is one. Answers as `list` does.
+fn hand<T: Taker>(entry: Option<Entry>, row: usize, taker: &T, out: &mut [usize]) -> Option<usize>
+    requires { row ≤ 131072 }
+    ensures { Took (T.takes taker.now) row (row_of entry) out.old result out.new }
+{
+    let Some(new) = entry else {
+        return Some(row);
+    };
+    taker.take(new, row, out).then_some(row + 1)
 }
 
 // What the element around another has as its row, if the other's line has a kind for it.
-pub(crate) fn item_entry(fit: Fit, around: Around) -> Entry
+fn item_entry(fit: Fit, around: Around) -> Option<Entry>
     ensures { (k : ℕ) → fit.word ≡ get_or packed k 0 → row_of result ≡ row_if (line k).item (around_extent around) around.up }
 {
-    Entry {
+    if_any(Entry {
         kind: table::item_of(fit.word),
         first: around.place,
         whole: around.whole,
         parent: around.up,
         content: around.content,
-    }
+    })
 }
 
 // What an element has as its own row, if its line has a kind. `row` is the number of the first row that it gives.
-pub(crate) fn own_entry(fit: Fit, row: usize, around: Around) -> Entry
+fn own_entry(fit: Fit, row: usize, around: Around) -> Option<Entry>
     requires { fit.first ≤ fit.end }
     ensures { (k : ℕ) → fit.word ≡ get_or packed k 0 → row_of result ≡ row_if (line k).kind (fit_extent fit) (parent_if (line k).item row around.up) }
 {
     let length = fit.end - fit.first;
     let parent = parent_if(table::item_of(fit.word), row, around.up);
-    Entry {
+    if_any(Entry {
         kind: table::kind_of(fit.word),
         first: fit.first,
         whole: length,
         parent,
         content: fit.content,
-    }
+    })
+}
+
+// An entry, if its kind is any.
+fn if_any(new: Entry) -> Option<Entry>
+    ensures { row_of result ≡ row_if new.kind (entry_extent new) new.parent }
+{
+    (new.kind != kinds::NONE).then_some(new)
 }
 
 // The number of the row above what is inside an element in a line's form.
-pub(crate) fn row_above(word: usize, row: usize, up: usize) -> usize
+fn row_above(word: usize, row: usize, up: usize) -> usize
     requires { row ≤ 131070 }
     ensures { (k : ℕ) → word ≡ get_or packed k 0 → result ≡ row_above (line k) row up }
 {
@@ -210,43 +258,35 @@ pub(crate) fn row_above(word: usize, row: usize, up: usize) -> usize
 }
 
 // Whether no row comes from the lines of an inside: there are none, or they are Time's, AlgId's, Spki's, OneName's or Extension's.
-pub(crate) fn rowless(start: usize) -> bool
+fn rowless(start: usize) -> bool
     ensures { result ≡ spec.rowless start }
 {
-    (start == codes::FREE)
-        | (start == lines::TIME)
-        | (start == lines::ALG_ID)
-        | (start == lines::SPKI)
-        | (start == lines::ONE_NAME)
-        | (start == lines::EXTENSION)
+    matches!(
+        start,
+        codes::FREE | lines::TIME | lines::ALG_ID | lines::SPKI | lines::ONE_NAME | lines::EXTENSION
+    )
 }
 
-// Writes the rows inside an element, if its line has an inside with rows: `bounds` are the element's. Answers the number of the next row.
+// Hands over the rows inside an element, if its line has an inside with rows. Answers as `list` does.
 #[cycle(element_inside_list)]
-fn inside(
+fn inside<T: Taker>(
     bytes: &[u8],
     fit: Fit,
     numbers: Numbers,
-    bounds: Bounds,
-    table: &[usize; LINES],
+    taker: &T,
     out: &mut [usize],
-) -> usize
-    requires { Room bytes.now fit.content fit.end numbers.next bounds.limit bounds.packed table.now out.old × (fit.first ≤ fit.end) × (numbers.row ≤ 131070) }
-    ensures { ((k : ℕ) → fit.word ≡ get_or packed k 0 → Inner bounds.packed k bytes.now fit numbers bounds.limit out.old result out.new) × (result ≤ 2 * fit.end) }
+) -> Option<usize>
+    requires { Lent bytes.now fit.content fit.end numbers.next × (fit.first ≤ fit.end) × (numbers.row ≤ 131070) }
+    ensures { ((k : ℕ) → fit.word ≡ get_or packed k 0 → Inner (T.takes taker.now) k bytes.now fit numbers out.old result out.new) × IfSome result (λ next. next ≤ 2 * fit.end) }
 {
     let state = table::inside_of(fit.word);
     if rowless(state) {
-        return numbers.next;
+        return Some(numbers.next);
     }
     let start = Spot {
         state,
         at: fit.content,
         row: numbers.next,
-    };
-    let within = Bounds {
-        end: fit.end,
-        limit: bounds.limit,
-        packed: bounds.packed,
     };
     let whole = fit.end - fit.first;
     let around = Around {
@@ -255,12 +295,12 @@ fn inside(
         whole,
         content: start.at,
     };
-    list(bytes, start, within, around, table, out)
+    list(bytes, start, fit.end, around, taker, out)
 }
 
 // The line to go on with after an element whose value keeps its rule.
-pub(crate) fn onward(bytes: &[u8], fit: Fit, table: &[usize; LINES]) -> usize
-    requires { (table.now ≡ packed) × (fit.content ≤ fit.end) × (fit.end ≤ length bytes.now) }
+fn onward(bytes: &[u8], fit: Fit) -> usize
+    requires { (fit.content ≤ fit.end) × (fit.end ≤ length bytes.now) }
     ensures { (k : ℕ) → fit.word ≡ get_or packed k 0 → result ≡ goes (line k).judge (line k).next (slice fit.content fit.end bytes.now) }
 {
     let code = table::judge_of(fit.word);
@@ -270,31 +310,9 @@ pub(crate) fn onward(bytes: &[u8], fit: Fit, table: &[usize; LINES]) -> usize
     }
     let from = fit.content;
     let to = fit.end;
-    table::next_of(table::word(table, next + value::selected(code, &bytes[from..to])))
-}
-
-// Writes a row if it has a kind and its number is below the limit. Answers the number of the next row.
-fn put(new: Entry, row: usize, bounds: Bounds, out: &mut [usize]) -> usize
-    requires { (row ≤ 131072) × (place_in bounds.packed bounds.limit ≤ length out.old) }
-    ensures { Wrote bounds.packed (row_of new) row bounds.limit out.old result out.new }
-{
-    if new.kind == kinds::NONE {
-        return row;
-    }
-    if bounds.limit <= row {
-        return row + 1;
-    }
-    if bounds.packed {
-        out[row] = packed::number(new);
-        return row + 1;
-    }
-    let at = WIDTH * row;
-    out[at] = new.kind;
-    out[at + 1] = new.first;
-    out[at + 2] = new.whole;
-    out[at + 3] = new.parent;
-    out[at + 4] = new.content;
-    row + 1
+    // What selects no way goes to the line after the last way, as `goes` says; an accepted batch has no such value.
+    let way = value::selected(code, &bytes[from..to]).unwrap_or(value::ways(code));
+    table::next_of(table::word(next + way))
 }
 
 // The number of the row above what is inside an element: its own, `row`, if it has a kind, else `up`.

@@ -63,6 +63,8 @@
 --     span_small          a content of fewer than 128 octets has two octets before it
 --     span_stands, span_broken    after an identifier that is allowed a span is the header; without a span the header is broken
 --     span_tree           the tree of octets that begin with a span, after an identifier that is allowed
+--     found_none          the code's answer of a span (`found_span`) is none if the octets have none
+--     found_some, found_one, found_fits    otherwise it is theirs, which has octets before its content, and fits
 --     is_list_none, is_list_deep, is_list_lost    no octets are a list; others are none without a level of depth left or a span at the start
 --     is_list_exact       octets are a list exactly if they are not too many and the encoding of a well-formed tree (`ListEncoded`)
 --     is_element_exact    an identifier and a content are an element exactly if that is well-formed (`OneFormed`)
@@ -74,6 +76,7 @@
 --                         the list inside it, or its content, has none, and it keeps the rule at its end
 --     sets_ascend         in well-formed elements every SET ascends, at any depth (`EverySetAscends`)
 --     walk_soonest        the walk over an input answers a fault exactly if it is decided first of all
+--     some_refusal        no refusal has the number of an acceptance
 --     closes_free         only a SET has a rule at its end, and a SEQUENCE has none (`sequence_closing`)
 --     closes_one          one element alone keeps it
 --     holds_integer, holds_bit_string, holds_object_identifier, holds_utf8    the rule that an identifier asks of its content
@@ -102,10 +105,11 @@ pub use Rattle.der.proofs.theorems.explain.Explained.{walk_explained, explained_
 pub use Rattle.der.proofs.theorems.explain.AnyPlace.{EncodedAt, walk_end_at, walk_fault_at}
 pub use Rattle.der.proofs.theorems.reading.ReadElements.{Standing, ReadAs, read_exact, read_tree}
 pub use Rattle.der.proofs.theorems.element.MeasuredElements.{Begins, Measures, span_exact}
-pub use Rattle.der.proofs.theorems.element.Spans.{span_fits, span_small, span_stands, span_broken, span_tree}
+pub use Rattle.der.proofs.theorems.element.Spans.{span_fits, span_small, span_stands, span_broken, span_tree, found_none, found_some, found_one, found_fits}
 pub use Rattle.der.proofs.theorems.recognise.Recognising.{is_list_none, is_list_short, is_list_deep, is_list_lost, is_list_step, is_list_single, single_is_list, is_element_refused, is_element_inside, is_element_value}
 pub use Rattle.der.proofs.theorems.recognise.Recognising.{holds_integer, holds_bit_string, holds_object_identifier, holds_utf8, ruled, holds_free}
 pub use Rattle.der.proofs.theorems.closing.Closing.{sequence_closing, closes_free, closes_one}
 pub use Rattle.der.proofs.theorems.closing.SetsAscend.{EverySetAscends, sets_ascend}
 pub use Rattle.der.proofs.theorems.explain.SoonestFault.{walk_soonest}
+pub use Rattle.der.proofs.theorems.explain.Refusals.{some_refusal}
 pub use Rattle.der.proofs.theorems.recognise.RecognisedTrees.{ListEncoded, is_list_exact, OneFormed, is_element_exact}

@@ -1,6 +1,9 @@
-// Why an element is refused, by name. This is the one place that gives document 01's number and request A9's detail of each cause.
+// Why an element is refused, by name. This is the one place that gives the refusal and request A9's detail of each cause.
 ghost use Rattle.std.specs.Prelude.{◌≡◌};
 ghost use Rattle.der.specs.steps.Cause.{cause_number, cause_detail};
+ghost use Rattle.der.specs.steps.Refusal.{refusal_number};
+
+use crate::refusal::Refusal;
 
 // The causes, in the order in which an element is judged after the input's length.
 #[derive(Clone, Copy)]
@@ -23,34 +26,34 @@ pub enum Cause {
     WrongContent(usize),
 }
 
-// Document 01's number of a cause.
-pub(crate) fn number(cause: Cause) -> usize
-    ensures { result ≡ cause_number cause }
-{
-    match cause {
-        Cause::TooLong => 1,
-        Cause::TooDeep => 6,
-        Cause::NoIdentifier => 2,
-        Cause::WrongIdentifier => 3,
-        Cause::NoLength => 2,
-        Cause::WrongLength => 4,
-        Cause::PastEnd => 2,
-        Cause::WrongContent(_) => 5,
+impl Cause {
+    // The refusal of an element for the cause.
+    pub(crate) fn refusal(self) -> Refusal
+        ensures { refusal_number result ≡ cause_number self }
+    {
+        match self {
+            Cause::TooLong => Refusal::TooLong,
+            Cause::TooDeep => Refusal::TooDeep,
+            Cause::NoIdentifier => Refusal::Truncated,
+            Cause::WrongIdentifier => Refusal::BadIdentifier,
+            Cause::NoLength => Refusal::Truncated,
+            Cause::WrongLength => Refusal::BadLength,
+            Cause::PastEnd => Refusal::Truncated,
+            Cause::WrongContent(_) => Refusal::BadContent,
+        }
     }
-}
 
-// Request A9's detail of a cause: for 2 what is missing, for 5 the tag number.
-pub(crate) fn detail(cause: Cause) -> usize
-    ensures { result ≡ cause_detail cause }
-{
-    match cause {
-        Cause::TooLong => 0,
-        Cause::TooDeep => 0,
-        Cause::NoIdentifier => 1,
-        Cause::WrongIdentifier => 0,
-        Cause::NoLength => 2,
-        Cause::WrongLength => 0,
-        Cause::PastEnd => 3,
-        Cause::WrongContent(tag) => tag,
+    // Request A9's detail of the cause: for 2 what is missing, for 5 the tag number.
+    // A number, and no enum or Option: the definitions say the detail as A9's number, 0 where a rule has one detail alone (`cause_detail`).
+    pub(crate) fn detail(self) -> usize
+        ensures { result ≡ cause_detail self }
+    {
+        match self {
+            Cause::NoIdentifier => 1,
+            Cause::NoLength => 2,
+            Cause::PastEnd => 3,
+            Cause::WrongContent(tag) => tag,
+            Cause::TooLong | Cause::TooDeep | Cause::WrongIdentifier | Cause::WrongLength => 0,
+        }
     }
 }

@@ -17,20 +17,19 @@ pub fn closes(id: u8, content: &[u8]) -> bool
 fn ascends(content: &[u8]) -> bool
     ensures { result ≡ order.ascends content.now }
 {
-    // The element before the one at `at`; at first there is none.
-    let mut before = 0;
-    let mut at = 0;
-    while at < content.len() {
-        let x = measure(&content[at..]);
-        if x.octets == 0 {
+    // The element before the rest; at first there is none.
+    let mut before = &content[..0];
+    let mut rest = content;
+    while !rest.is_empty() {
+        let Some(span) = measure(rest) else {
+            return false;
+        };
+        let (member, after) = rest.split_at(span.octets + span.length);
+        if descends(before, member) {
             return false;
         }
-        let end = at + x.octets + x.length;
-        if descends(&content[before..at], &content[at..end]) {
-            return false;
-        }
-        before = at;
-        at = end;
+        before = member;
+        rest = after;
     }
     true
 }
@@ -40,14 +39,10 @@ fn ascends(content: &[u8]) -> bool
 pub(crate) fn descends(first: &[u8], second: &[u8]) -> bool
     ensures { result ≡ order.descends first.now second.now }
 {
-    let mut i = 0;
-    while (i < first.len()) & (i < second.len()) {
-        let a = first[i];
-        let b = second[i];
+    for (a, b) in first.iter().zip(second) {
         if a != b {
             return b < a;
         }
-        i += 1;
     }
     false
 }

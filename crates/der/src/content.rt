@@ -2,7 +2,7 @@
 mod octet_class;
 pub mod utf8;
 
-ghost use Rattle.std.specs.Prelude.{ℕ, ◌<◌, true, ◌≡◌, length, get_or};
+ghost use Rattle.std.specs.Prelude.{◌<◌, ◌≡◌, length};
 ghost use Rattle.der.specs.meaning.Content as rule;
 ghost use Rattle.der.specs.steps.ContentTest as test;
 
@@ -12,11 +12,10 @@ use crate::element::identifier;
 pub fn boolean(content: &[u8]) -> bool
     ensures { result ≡ rule.boolean content.now }
 {
-    if content.len() != 1 {
+    let [octet] = content else {
         return false;
-    }
-    let octet = content[0];
-    (octet == 0x00) | (octet == 0xFF)
+    };
+    (*octet == 0x00) | (*octet == 0xFF)
 }
 
 // Answers whether the octets are the content of an INTEGER (X.690 8.3) or ENUMERATED (8.4): at least one octet, and no more than the number
@@ -24,12 +23,10 @@ pub fn boolean(content: &[u8]) -> bool
 pub fn integer(content: &[u8]) -> bool
     ensures { result ≡ rule.integer content.now }
 {
-    if content.len() < 2 {
+    let [first, second, ..] = content else {
         return content.len() == 1;
-    }
-    let first = content[0];
-    let second = content[1];
-    !((first == 0x00) & (second < 0x80) | (first == 0xFF) & (0x80 <= second))
+    };
+    !((*first == 0x00) & (*second < 0x80) | (*first == 0xFF) & (0x80 <= *second))
 }
 
 // Answers whether the octets are the content of a BIT STRING (X.690 8.6, 11.2): the count of unused bits, at most 7, and the bits, of
@@ -37,43 +34,25 @@ pub fn integer(content: &[u8]) -> bool
 pub fn bit_string(content: &[u8]) -> bool
     ensures { result ≡ rule.bit_string content.now }
 {
-    let count = content.len();
-    if count == 0 {
-        return false;
+    match content {
+        [] => false,
+        [unused] => *unused == 0,
+        [unused, .., last] => (*unused <= 7) & ((*unused as u32) <= last.trailing_zeros()),
     }
-    let unused = content[0];
-    if count == 1 {
-        return unused == 0;
-    }
-    let last = content[count - 1];
-    (unused <= 7) & ((unused as u32) <= u8::trailing_zeros(last))
 }
 
 // Answers whether the octets are the content of an OBJECT IDENTIFIER (X.690 8.19): at least one subidentifier, each in the shortest form.
 pub fn object_identifier(content: &[u8]) -> bool
     ensures { result ≡ rule.object_identifier content.now }
 {
-    if content.len() == 0 {
+    let Some(last) = content.last() else {
         return false;
-    }
-    if lacks_80(content) {
-        return content[content.len() - 1] < 0x80;
+    };
+    // Without an octet 80 no subidentifier is padded.
+    if !content.contains(&0x80) {
+        return *last < 0x80;
     }
     are_subidentifiers(content)
-}
-
-// Whether no octet is 80, with which a padded subidentifier would start.
-fn lacks_80(content: &[u8]) -> bool
-    ensures { result ≡ true → (i : ℕ) → i < length content.now → get_or content.now i 0 ≡ 0x80 → ⊥ }
-{
-    let mut i = 0;
-    while i < content.len() {
-        if content[i] == 0x80 {
-            return false;
-        }
-        i += 1;
-    }
-    true
 }
 
 // Whether the octets, at least one, are subidentifiers in the shortest form, the last of them complete.
@@ -83,14 +62,11 @@ fn are_subidentifiers(content: &[u8]) -> bool
 {
     // The octet before; at first one that ends a subidentifier.
     let mut before: u8 = 0x00;
-    let mut i = 0;
-    while i < content.len() {
-        let octet = content[i];
-        if (before < 0x80) & (octet == 0x80) {
+    for octet in content {
+        if (before < 0x80) & (*octet == 0x80) {
             return false;
         }
-        before = octet;
-        i += 1;
+        before = *octet;
     }
     before < 0x80
 }
@@ -104,7 +80,7 @@ pub fn holds(id: u8, content: &[u8]) -> bool
         identifier::BOOLEAN => boolean(content),
         identifier::INTEGER | identifier::ENUMERATED => integer(content),
         identifier::BIT_STRING => bit_string(content),
-        identifier::NULL => content.len() == 0,
+        identifier::NULL => content.is_empty(),
         identifier::OBJECT_IDENTIFIER => object_identifier(content),
         identifier::UTF8_STRING => utf8::is_text(content),
         _ => true,

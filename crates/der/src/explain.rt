@@ -1,130 +1,96 @@
 // The walk that explains a refusal: it answers the first fault of an element and of the elements inside it, with its place.
 ghost use Rattle.std.specs.Prelude.{◌≡◌, length};
 ghost use Rattle.der.specs.meaning.Explains.{Explains};
-ghost use Rattle.der.specs.steps.Explain.{Lent, number_of, place_of, detail_of, end_of, fault_at, list_of, by_rule, after_inside, element_of};
+ghost use Rattle.der.specs.steps.Nest.{nest_of};
+ghost use Rattle.der.specs.steps.Explain.{Lent, number_of, place_of, detail_of, end_of, fault_at, list_of, by_rule, element_of};
 
 use crate::bounds::{DEPTH, LONGEST};
 use crate::cause::Cause;
 use crate::element::between::between;
 use crate::element::header;
-use crate::element::header::Head;
 use crate::element::identifier::is_constructed;
-use crate::{cause, closing, content};
+use crate::refusal::Refusal;
+use crate::{closing, content};
 
-// What the walk over an element answers.
+// The first fault in the order of SPECIFICATION 2.4: why the element is refused, the place of its first byte, and request A9's detail.
 #[derive(Clone, Copy)]
-pub enum Nest {
-    // No fault: the place after the element.
-    End(usize),
-    // The first fault in the order of SPECIFICATION 2.4: its number and place, and request A9's detail.
-    Fault {
-        number: usize,
-        place: usize,
-        detail: usize,
-    },
+pub struct Fault {
+    pub refusal: Refusal,
+    pub place: usize,
+    pub detail: usize,
+}
+
+impl Fault {
+    // The fault of an element at `place`, by its cause.
+    fn new(cause: Cause, place: usize) -> Fault
+        ensures { nest_of (Err result) ≡ fault_at cause place }
+    {
+        Fault {
+            refusal: cause.refusal(),
+            place,
+            detail: cause.detail(),
+        }
+    }
 }
 
 // Explains the first element from `at` on, whose parent ends at `end`: its first fault, or the place after it. Refuses an input longer than
 // LONGEST.
-pub fn explain(bytes: &[u8], at: usize, end: usize) -> Nest
-    ensures { Explains bytes.now at end (number_of result) (place_of result) (detail_of result) (end_of result) }
+pub fn explain(bytes: &[u8], at: usize, end: usize) -> Result<usize, Fault>
+    ensures { let nest = nest_of result in Explains bytes.now at end (number_of nest) (place_of nest) (detail_of nest) (end_of nest) }
 {
     if LONGEST < bytes.len() {
-        return fault(Cause::TooLong, 0);
+        return Err(Fault::new(Cause::TooLong, 0));
     }
     element(between(bytes, at, end), at, DEPTH)
 }
 
-// The element at `place`, over the bytes from there to its parent's end, with `left` levels of depth left.
+// The element at `place`, over the bytes from there to its parent's end, with `left` levels of depth left: its first fault, or the place after
+// it.
 #[cycle(element_list)]
-fn element(bytes: &[u8], place: usize, left: usize) -> Nest
+fn element(bytes: &[u8], place: usize, left: usize) -> Result<usize, Fault>
     requires { Lent bytes.now place }
-    ensures { result ≡ element_of left place bytes.now }
+    ensures { nest_of result ≡ element_of left place bytes.now }
 {
     if left == 0 {
-        return fault(Cause::TooDeep, place);
+        return Err(Fault::new(Cause::TooDeep, place));
     }
-    match header::read(bytes) {
-        Head::Broken(cause) => fault(cause, place),
-        Head::Stands {
-            identifier,
-            octets,
-            length,
-        } => {
-            let end = octets + length;
-            let inside = &bytes[octets..end];
-            if is_constructed(identifier) {
-                let answer = list(inside, place + octets, left - 1);
-                after_inside(identifier, inside, place, answer)
-            } else {
-                let kept = content::holds(identifier, inside);
-                by_rule(kept, identifier, place, place + end)
-            }
-        }
+    let header = match header::read(bytes) {
+        Ok(header) => header,
+        Err(cause) => return Err(Fault::new(cause, place)),
+    };
+    let id = header.identifier;
+    let size = header.octets + header.length;
+    let inside = &bytes[header.octets..size];
+    if is_constructed(id) {
+        let end = list(inside, place + header.octets, left - 1)?;
+        by_rule(closing::closes(id, inside), id, place, end)
+    } else {
+        by_rule(content::holds(id, inside), id, place, place + size)
     }
 }
 
-// The elements from `place` on, one after the other, up to the first fault.
+// The elements from `place` on, one after the other: the first fault, or the place after the last.
 #[cycle(element_list)]
-fn list(bytes: &[u8], place: usize, left: usize) -> Nest
+fn list(bytes: &[u8], place: usize, left: usize) -> Result<usize, Fault>
     requires { Lent bytes.now place }
-    ensures { result ≡ list_of (element_of left) (length bytes.now) place bytes.now }
+    ensures { nest_of result ≡ list_of (element_of left) (length bytes.now) place bytes.now }
 {
-    let mut at = 0;
-    while at < bytes.len() {
-        match element(&bytes[at..], place + at, left) {
-            Nest::End(end) => at = end - place,
-            Nest::Fault {
-                number,
-                place: fault,
-                detail,
-            } => {
-                return Nest::Fault {
-                    number,
-                    place: fault,
-                    detail,
-                };
-            }
-        }
+    let mut rest = bytes;
+    let mut at = place;
+    while !rest.is_empty() {
+        let end = element(rest, at, left)?;
+        rest = &rest[end - at..];
+        at = end;
     }
-    Nest::End(place + at)
-}
-
-// A constructed element at `place`, by the answer for its inside.
-fn after_inside(id: u8, content: &[u8], place: usize, answer: Nest) -> Nest
-    ensures { result ≡ after_inside place id content.now answer }
-{
-    match answer {
-        Nest::End(end) => by_rule(closing::closes(id, content), id, place, end),
-        Nest::Fault {
-            number,
-            place: fault,
-            detail,
-        } => Nest::Fault {
-            number,
-            place: fault,
-            detail,
-        },
-    }
+    Ok(at)
 }
 
 // An element at `place` and up to `end`, by whether it keeps the rule of its identifier.
-fn by_rule(kept: bool, id: u8, place: usize, end: usize) -> Nest
-    ensures { result ≡ by_rule kept place end id }
+fn by_rule(kept: bool, id: u8, place: usize, end: usize) -> Result<usize, Fault>
+    ensures { nest_of result ≡ by_rule kept place end id }
 {
     if kept {
-        return Nest::End(end);
+        return Ok(end);
     }
-    fault(Cause::WrongContent((id % 32) as usize), place)
-}
-
-// The fault of an element at `place`, by its cause.
-fn fault(cause: Cause, place: usize) -> Nest
-    ensures { result ≡ fault_at cause place }
-{
-    Nest::Fault {
-        number: cause::number(cause),
-        place,
-        detail: cause::detail(cause),
-    }
+    Err(Fault::new(Cause::WrongContent((id % 32) as usize), place))
 }

@@ -18,27 +18,25 @@ fn is_list(bytes: &[u8], left: usize, in_set: bool) -> bool
     if LONGEST < bytes.len() {
         return false;
     }
-    // The element before the one at `at`; at first there is none.
-    let mut before = 0;
-    let mut at = 0;
-    while at < bytes.len() {
-        let x = measure(&bytes[at..]);
-        if x.octets == 0 {
+    // The element before the rest; at first there is none.
+    let mut before = &bytes[..0];
+    let mut rest = bytes;
+    while !rest.is_empty() {
+        let Some(span) = measure(rest) else {
             return false;
-        }
+        };
         if left == 0 {
             return false;
         }
-        let from = at + x.octets;
-        let to = from + x.length;
-        if !is_element(bytes[at], &bytes[from..to], left - 1) {
+        let (member, after) = rest.split_at(span.octets + span.length);
+        if !is_element(member[0], &member[span.octets..], left - 1) {
             return false;
         }
-        if in_set & (before < at) && descends(&bytes[before..at], &bytes[at..to]) {
+        if in_set && descends(before, member) {
             return false;
         }
-        before = at;
-        at = to;
+        before = member;
+        rest = after;
     }
     true
 }

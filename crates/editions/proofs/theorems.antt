@@ -15,5 +15,6 @@ pub mod ReadsExactly
 pub mod RecognisedAnswer
 pub mod RefusalNumbers
 pub mod RefusalVectors
+pub mod Results
 pub mod ShownTimes
 pub mod Tables

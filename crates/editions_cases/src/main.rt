@@ -9,20 +9,17 @@
 //                     first byte
 //     NUMBER@PLACE    refused
 //
-// with `and not 0 but N` if the third number, the place of an acceptance or the count of a refusal, isn't 0. `, accept` and the answer of
-// `accept` follow if that is another, and `, changed` if a number of the table has changed that shouldn't: any at a refusal, and one after
-// the rows at an acceptance.
+// `, accept` and the answer of `accept` follow if that is another, and `, changed` if a number of the table has changed that shouldn't: any at a
+// refusal, and one after the rows at an acceptance.
 #![tactic(auto)]
 
-use cases::case::{ROOM, octets};
-use cases::input::TEXT;
+use cases::input::for_each_line;
 use cases::table::{NUMBERS, is_untouched, prepare};
 use crmf::rows::WIDTH;
+use der::refusal::Refused;
 use editions::edition::{RFC2511, RFC4211};
-use editions::reader::Answer;
-use format::answer::answer;
-use format::page::{character, text};
-use format::rows::rows;
+use editions::reader::{accept, read};
+use format::page::Page;
 use lines::line::Line;
 use std::io;
 
@@ -35,111 +32,53 @@ const ROWS: usize = NUMBERS / WIDTH;
 // The octets of the page on which an answer and its rows are written.
 const PAGE: usize = 8192;
 
-// Writes an answer.
-fn write_answer(page: &mut [u8; PAGE], at: usize, read: Answer) -> usize {
-    answer(page, at, read.number, read.place, read.count)
-}
-
-// Whether two answers are the same.
-fn same(a: Answer, b: Answer) -> bool {
-    a.number == b.number && a.place == b.place && a.count == b.count
-}
-
 // Writes what was answered, and how `accept` answers if that is another.
-fn write_answers(page: &mut [u8; PAGE], read: Answer, accepted: Answer) -> usize {
-    let mut at = write_answer(page, 0, read);
-    if !same(read, accepted) {
-        at = text(page, at, b", accept ");
-        at = write_answer(page, at, accepted);
+fn write_answers(page: &mut Page, found: Result<usize, Refused>, accepted: Result<usize, Refused>) {
+    page.outcome(found);
+    if found != accepted {
+        page.text(b", accept ");
+        page.outcome(accepted);
     }
-    at
 }
 
 // Writes whether the table has changed after its rows, and the rows.
-fn write_table(page: &mut [u8; PAGE], at: usize, table: &[usize; NUMBERS], count: usize) -> usize {
-    let mut next = at;
+fn write_table(page: &mut Page, table: &[usize; NUMBERS], count: usize) {
     if count > ROWS || !is_untouched(table, WIDTH * count) {
-        next = text(page, next, b", changed");
+        page.text(b", changed");
     }
-    next = character(page, next, b'\n');
+    page.character(b'\n');
     if count <= SHOWN {
-        next = rows(page, next, WIDTH, table, WIDTH * count);
+        page.rows(WIDTH, table, WIDTH * count);
     }
-    next
 }
 
-// Prints the page's first octets.
-fn print(rt: &impl Print, page: &[u8; PAGE], length: usize) -> io::Result<()> {
-    rt.write_all(octets(page, length))
-}
-
-// Reads a batch with the first numbers of the table lent.
-fn read(edition: usize, bytes: &[u8], table: &mut [usize], numbers: usize) -> Answer {
-    if numbers < table.len() {
-        return editions::reader::read(edition, bytes, &mut table[..numbers]);
-    }
-    editions::reader::read(edition, bytes, table)
-}
-
-// Judges a batch in one edition.
-fn judge(
-    rt: &impl Print,
-    edition: usize,
-    bytes: &[u8],
-    table: &mut [usize; NUMBERS],
-    numbers: usize,
-    page: &mut [u8; PAGE],
-) -> io::Result<()> {
+// Judges a line in one edition, with as many numbers of the table lent as the line says, or all of them.
+fn judge(page: &mut Page, edition: usize, line: &Line, table: &mut [usize; NUMBERS]) {
     prepare(table);
-    let found = read(edition, bytes, table, numbers);
-    let at = write_answers(page, found, editions::reader::accept(edition, bytes));
-    let end = write_table(page, at, table, found.count);
-    print(rt, page, end)
+    let lent = line.heading.number.unwrap_or(NUMBERS).min(NUMBERS);
+    let found = read(edition, line.octets(), &mut table[..lent]);
+    write_answers(page, found, accept(edition, line.octets()));
+    write_table(page, table, found.unwrap_or(0));
 }
 
-// How many numbers of the table a line has lent.
-fn lent(line: Line) -> usize {
-    if line.heading.numbered {
-        line.heading.number
-    } else {
-        NUMBERS
-    }
-}
-
-// Judges a case in the edition that its line names, or in both.
+// Judges a line in the edition that it names, or in both.
 fn judge_line(
     rt: &impl Print,
-    room: &[u8; ROOM],
-    line: Line,
+    line: &Line,
     table: &mut [usize; NUMBERS],
-    page: &mut [u8; PAGE],
+    octets: &mut [u8; PAGE],
 ) -> io::Result<()> {
-    let bytes = octets(room, line.case.octets);
-    if line.heading.named {
-        return judge(rt, line.heading.edition, bytes, table, lent(line), page);
-    }
-    judge(rt, RFC2511, bytes, table, lent(line), page)?;
-    judge(rt, RFC4211, bytes, table, lent(line), page)
+    line.heading.in_editions(RFC2511, RFC4211, |edition| {
+        let mut page = Page::new(octets);
+        judge(&mut page, edition, line, table);
+        rt.write_all(page.written())
+    })
 }
 
 fn main(rt: HostRuntime) -> io::Result<()> {
-    let mut text = [0u8; TEXT];
-    let mut room = [0u8; ROOM];
     let mut table = [0usize; NUMBERS];
     let mut page = [0u8; PAGE];
-    let mut reader = rt.stdin();
-    let mut input = cases::input::open();
-    let mut line = lines::line::start();
-    for turn in 0..usize::MAX {
-        input = cases::input::next(input, &mut text, &mut reader)?;
-        if input.ended {
-            return Ok(());
-        }
-        line = lines::line::read(line, input.character, &mut room, &mut table);
-        if input.character == b'\n' {
-            judge_line(&rt, &room, line, &mut table, &mut page)?;
-            line = lines::line::start();
-        }
-    }
-    Ok(())
+    for_each_line(&mut rt.stdin(), &mut Line::start(), |line| {
+        judge_line(&rt, line, &mut table, &mut page)
+    })
 }

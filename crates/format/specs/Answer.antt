@@ -1,5 +1,7 @@
 -- Refusals, faults and answers as text. Assumes nothing.
-use Rattle.std.specs.Prelude.{ℕ, true, false, List, [], ◌∷◌, ◌++◌, eqb}
+use Rattle.std.specs.Prelude.{ℕ, true, false, Result, Ok, Err, List, [], ◌∷◌, ◌++◌, eqb}
+use Rattle.der.specs.declared.refusal.Refused.{Refused}
+use Rattle.der.specs.steps.Refusal.{refusal_number}
 use Rattle.format.specs.Decimal.{decimal}
 
 -- NUMBER@PLACE
@@ -26,3 +28,8 @@ answer_text number place count =
       | true ↦ (0x30 ∷ 0x20 ∷ decimal count) ++ remark place
       | false ↦ refusal_text number place ++ remark count
     ]
+
+-- the same of what a call answers, which has no third number
+unfoldable pub outcome_text : Result ℕ Refused → List ℕ
+outcome_text (Ok count) = answer_text 0 0 count
+outcome_text (Err refused) = answer_text (refusal_number refused.refusal) refused.place 0

@@ -1,24 +1,14 @@
 -- A heading as far as it has been read, and the list with its numbers, after the next character. Assumes nothing.
-use Rattle.std.specs.Prelude.{ℕ, ◌+◌, ◌-◌, ◌*◌, ◌%◌, ◌≡◌, Bool, true, false, ◌||◌, List, eqb, ltb, leb, length, get_or, set}
+use Rattle.std.specs.Prelude.{ℕ, ◌+◌, ◌-◌, ◌*◌, ◌%◌, ◌≡◌, Bool, true, false, ◌||◌, Option, Some, None, List, eqb, ltb, leb, length, get_or, set}
+use Rattle.std.specs.Option.{unwrap_or}
 use Rattle.cases.specs.Reading.{digit_of, largest}
+use Rattle.lines.specs.declared.heading.Part.{Part}
+use Rattle.lines.specs.declared.heading.Part.TheVariants.{Edition, Number, List as ListPart, Octets}
 use Rattle.lines.specs.declared.heading.Heading.{Heading}
-
--- the parts of a line
-abbrev pub edition_part : ℕ
-edition_part = 0
-
-abbrev pub number_part : ℕ
-number_part = 1
-
-abbrev pub list_part : ℕ
-list_part = 2
-
-abbrev pub octets_part : ℕ
-octets_part = 3
 
 -- a heading of which nothing is read yet
 abbrev pub blank : Heading
-blank = record { part = edition_part; named = false; edition = 0; numbered = false; number = 0; listed = false; count = 0 }
+blank = record { part = Edition; edition = None; number = None; listed = false; count = 0 }
 
 -- a heading and the list with its numbers are as a pair says
 abbrev pub Written : Heading → List ℕ → Heading × List ℕ → Type 0
@@ -32,22 +22,23 @@ with_digit n d = elim (leb (n * 10 + d) largest) [ true ↦ n * 10 + d | false �
 abbrev pub with_character : ℕ → ℕ → ℕ
 with_character n c = with_digit n (digit_of c % 10)
 
--- the part that a mark announces: `:` the octets, `/` the number, and `=` the list
-abbrev pub with_part : Heading → ℕ → Bool → Bool → Heading
-with_part h part numbered listed =
-    record { part = part; named = h.named; edition = h.edition; numbered = numbered; number = h.number; listed = listed; count = h.count }
+-- the part that a mark announces: `:` the octets, `/` the number, which is 0 if none was given before, and `=` the list
+abbrev pub with_part : Heading → Part → Option ℕ → Bool → Heading
+with_part h part number listed = record { part = part; edition = h.edition; number = number; listed = listed; count = h.count }
 
 unfoldable pub with_mark : Heading → ℕ → Heading
 with_mark h c =
     elim (eqb c 0x3A) [
-      | true ↦ with_part h octets_part h.numbered h.listed
-      | false ↦ elim (eqb c 0x2F) [ true ↦ with_part h number_part true h.listed | false ↦ with_part h list_part h.numbered true ]
+      | true ↦ with_part h Octets h.number h.listed
+      | false ↦ elim (eqb c 0x2F) [
+        | true ↦ with_part h Number (Some (unwrap_or h.number 0)) h.listed
+        | false ↦ with_part h ListPart h.number true
+      ]
     ]
 
 -- a number more in the list, which begins as 0; a full list stays as it is
 abbrev pub with_count : Heading → ℕ → Heading
-with_count h n =
-    record { part = h.part; named = h.named; edition = h.edition; numbered = h.numbered; number = h.number; listed = h.listed; count = n }
+with_count h n = record { part = h.part; edition = h.edition; number = h.number; listed = h.listed; count = n }
 
 unfoldable pub with_number : Heading → List ℕ → Heading × List ℕ
 with_number h list = elim (ltb h.count (length list)) [ true ↦ (with_count h (h.count + 1), set list h.count 0) | false ↦ (h, list) ]
@@ -56,23 +47,20 @@ with_number h list = elim (ltb h.count (length list)) [ true ↦ (with_count h (
 unfoldable pub with_last : List ℕ → ℕ → ℕ → List ℕ
 with_last list count c = elim (eqb count 0) [ true ↦ list | false ↦ set list (count - 1) (with_character (get_or list (count - 1) 0) c) ]
 
--- a digit of the edition, of the number or of the list's last number
+-- a digit of the edition, of the number or of the list's last number; the first digit of the edition names it
 abbrev pub with_edition : Heading → ℕ → Heading
-with_edition h n =
-    record { part = h.part; named = true; edition = n; numbered = h.numbered; number = h.number; listed = h.listed; count = h.count }
+with_edition h n = record { part = h.part; edition = Some n; number = h.number; listed = h.listed; count = h.count }
 
 abbrev pub with_its_number : Heading → ℕ → Heading
-with_its_number h n =
-    record { part = h.part; named = h.named; edition = h.edition; numbered = h.numbered; number = n; listed = h.listed; count = h.count }
+with_its_number h n = record { part = h.part; edition = h.edition; number = Some n; listed = h.listed; count = h.count }
 
 unfoldable pub with_digit_at : Heading → ℕ → List ℕ → Heading × List ℕ
 with_digit_at h c list =
-    elim (eqb h.part edition_part) [
-      | true ↦ (with_edition h (with_character h.edition c), list)
-      | false ↦ elim (eqb h.part number_part) [
-        | true ↦ (with_its_number h (with_character h.number c), list)
-        | false ↦ (h, with_last list h.count c)
-      ]
+    elim h.part [
+      | Edition ↦ (with_edition h (with_character (unwrap_or h.edition 0) c), list)
+      | Number ↦ (with_its_number h (with_character (unwrap_or h.number 0) c), list)
+      | ListPart ↦ (h, with_last list h.count c)
+      | Octets ↦ (h, with_last list h.count c)
     ]
 
 -- the next character

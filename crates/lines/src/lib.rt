@@ -2,9 +2,10 @@
 //
 //     EDITION/NUMBER=LIST:OCTETS
 //
-// Each part of the heading may be left out with the mark before it. Numbers are decimal; each number of the list follows a `;`, and goes
-// into an array that the program lends. What the number and the list mean, each program says. The octets are those of a case (`cases::case`).
+// Each part of the heading may be left out with the mark before it. Numbers are decimal, and each number of the list follows a `;`. What the
+// number and the list mean, each program says. The octets are those of a case (`cases::case`).
 #![tactic(auto)]
 
+pub mod editions;
 pub mod heading;
 pub mod line;

@@ -1,36 +1,69 @@
-// A line: a heading and the octets of a case.
-ghost use Rattle.std.specs.Prelude.{◌≡◌};
-ghost use Rattle.lines.specs.Line.{blank_line, LineRead};
+// A line: a heading, the numbers of its list, and the octets of a case.
+ghost use Rattle.std.specs.Prelude.{◌≡◌, take};
+ghost use Rattle.lines.specs.Line.{blank_line, fresh_line, line_next};
 
-use crate::heading::{Heading, OCTETS};
-use cases::case::{Case, ROOM};
+use crate::heading::{Heading, Part};
+use cases::case::Case;
+use cases::input::Reading;
 use cases::table::NUMBERS;
 
 // A line as far as it has been read.
-#[derive(Clone, Copy)]
+#[derive(Drop)]
 pub struct Line {
     pub heading: Heading,
-    pub case: Case,
+    // No Vec: reading a character can't fail.
+    list: [usize; NUMBERS],
+    case: Case,
 }
 
-// A line of which nothing is read yet.
-pub fn start() -> Line
-    ensures { result ≡ blank_line }
-{
-    let heading = crate::heading::start();
-    let case = cases::case::start();
-    Line { heading, case }
-}
-
-// Reads the next character of a line.
-pub fn read(line: Line, c: u8, room: &mut [u8; ROOM], list: &mut [usize; NUMBERS]) -> Line
-    ensures { LineRead line c room.old list.old result room.new list.new }
-{
-    let mut next = line;
-    if line.heading.part == OCTETS {
-        next.case = cases::case::read(line.case, c, room);
-        return next;
+impl Line {
+    // A line of which nothing is read yet.
+    pub fn start() -> Line
+        ensures { result ≡ blank_line result.list }
+    {
+        Line {
+            heading: Heading::start(),
+            list: [0; NUMBERS],
+            case: Case::start(),
+        }
     }
-    next.heading = crate::heading::read(line.heading, c, list);
-    next
+
+    // The numbers of the list.
+    pub fn numbers(&self) -> &[usize]
+        ensures { result.now ≡ take self.now.heading.count self.now.list }
+    {
+        &self.list[..self.heading.count.min(NUMBERS)]
+    }
+
+    // The octets of the case.
+    pub fn octets(&self) -> &[u8]
+        ensures { result.now ≡ take self.now.case.filled.octets self.now.case.filled.room }
+    {
+        self.case.octets()
+    }
+}
+
+impl Reading for Line {
+    ghost anew = { fresh_line };
+
+    ghost after = { line_next };
+
+    // Begins a line anew; the room and the list stay as they are.
+    fn restart(&mut self)
+        ensures { self.new ≡ fresh_line self.old }
+    {
+        self.heading = Heading::start();
+        self.case.restart();
+    }
+
+    // Reads the next character of a line.
+    #[tactic(auto, unfolding(crate::specs::Line::line_next))]
+    fn read(&mut self, c: u8)
+        ensures { self.new ≡ line_next self.old c }
+    {
+        if self.heading.part == Part::Octets {
+            return self.case.read(c);
+        }
+        self.heading.read(c, &mut self.list);
+    }
 }

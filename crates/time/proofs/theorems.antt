@@ -3,6 +3,7 @@ pub mod Tables
 pub mod Days
 pub mod Digits
 pub mod Dates
+pub mod CodedDates
 pub mod Times
 pub mod Validities
 pub mod Telling

@@ -1,7 +1,8 @@
 // The Gregorian calendar from the year 0 on.
+// A date stays its numbers: each bound is asked where it is added up, and `moment_at` alone tests them.
 ghost use Rattle.std.specs.Prelude.{◌+◌, ◌-◌, ◌*◌, ◌≤◌, ◌≡◌};
-ghost use Rattle.std.proofs.Math.Option.{get_or};
 ghost use Rattle.time.specs.meaning.Calendar as calendar;
+ghost use Rattle.time.specs.steps.Moments.{as_option};
 
 // Whether a year is a leap year.
 fn leap(year: usize) -> bool
@@ -10,21 +11,18 @@ fn leap(year: usize) -> bool
     (year % 4 == 0) & ((year % 100 != 0) | (year % 400 == 0))
 }
 
-// The days of each month of a common year, January at 1.
-const MONTH_DAYS: [u8; 13] = [0, 31, 28, 31, 30, 31, 30, 31, 31, 30, 31, 30, 31];
+// The days of each month of a common year, from January on.
+const MONTH_DAYS: [u8; 12] = [31, 28, 31, 30, 31, 30, 31, 31, 30, 31, 30, 31];
 
-// The days of a month of a year; 0 if the number is no month's.
-pub(crate) fn days_in(year: usize, month: usize) -> usize
-    ensures { result ≡ get_or (calendar.days_in year month) 0 }
+// The days of a month of a year, if the number is a month's.
+pub(crate) fn days_in(year: usize, month: usize) -> Option<usize>
+    ensures { result ≡ as_option (calendar.days_in year month) }
 {
-    if 12 < month {
-        return 0;
-    }
-    let days = MONTH_DAYS[month] as usize;
+    let days = usize::from(*MONTH_DAYS.get(month.checked_sub(1)?)?);
     if leap(year) & (month == 2) {
-        return days + 1;
+        return Some(days + 1);
     }
-    days
+    Some(days)
 }
 
 // The days of all years before a year: 365 each, and one more for each leap year.
@@ -43,7 +41,7 @@ fn days_before_month(year: usize, month: usize) -> usize
     requires { month ≤ 12 }
     ensures { result ≡ calendar.days_before_month year month }
 {
-    let days = DAYS_BEFORE[month] as usize;
+    let days = usize::from(DAYS_BEFORE[month]);
     if leap(year) & (2 < month) {
         return days + 1;
     }

@@ -2,6 +2,5 @@
 #![tactic(auto)]
 
 mod calendar;
-pub mod moment;
 pub mod time;
 pub mod validity;

@@ -1,52 +1,44 @@
 // UTCTime and GeneralizedTime by their content octets: the one check of times, which answers the moment.
 ghost use Rattle.std.specs.Prelude.{◌+◌, ◌≤◌, ◌<◌, ◌≡◌, length};
-ghost use Rattle.std.proofs.Math.Option.{get_or, bind};
+ghost use Rattle.std.proofs.Math.Option.{bind};
 ghost use Rattle.time.specs.meaning.Calendar.{moment};
 ghost use Rattle.time.specs.meaning.Time as time;
-ghost use Rattle.time.specs.steps.Moments.{as_moment};
+ghost use Rattle.time.specs.steps.Moments.{as_option};
 
 use crate::calendar;
-use crate::moment::Moment;
 
 // The first year that stands as GeneralizedTime.
 const FIRST_GENERALIZED_YEAR: usize = 2050;
 
-// Whether an octet is a decimal digit.
-fn is_digit(octet: u8) -> bool
-    ensures { result ≡ time.digit octet }
-{
-    (0x30 <= octet) & (octet <= 0x39)
-}
-
-// The number that the two decimal digits at i make; 100 if they are not both digits.
-fn pair_at(content: &[u8], i: usize) -> usize
+// The number that the two decimal digits at i make, if both are digits.
+fn pair_at(content: &[u8], i: usize) -> Option<usize>
     requires { i + 1 < length content.now }
-    ensures { result ≡ get_or (time.pair_at content.now i) 100 }
+    ensures { result ≡ as_option (time.pair_at content.now i) }
 {
     let tens = content[i];
     let ones = content[i + 1];
-    if is_digit(tens) & is_digit(ones) {
-        return ((tens - 0x30) as usize) * 10 + ((ones - 0x30) as usize);
+    if tens.is_ascii_digit() & ones.is_ascii_digit() {
+        return Some(usize::from(tens - b'0') * 10 + usize::from(ones - b'0'));
     }
-    100
+    None
 }
 
 // The moment of a year whose month, day, hour, minute and second are written from i on, with Z after them.
-fn moment_at(year: usize, content: &[u8], i: usize) -> Moment
+fn moment_at(year: usize, content: &[u8], i: usize) -> Option<usize>
     requires { (year ≤ 9999) × (i + 10 < length content.now) }
-    ensures { result ≡ as_moment (bind (time.date_at year content.now i) moment) }
+    ensures { result ≡ as_option (bind (time.date_at year content.now i) moment) }
 {
-    let month = pair_at(content, i);
-    let day = pair_at(content, i + 2);
-    let hour = pair_at(content, i + 4);
-    let minute = pair_at(content, i + 6);
-    let second = pair_at(content, i + 8);
-    let is_day = (1 <= day) & (day <= calendar::days_in(year, month));
-    if is_day & (hour <= 23) & (minute <= 59) & (second <= 59) & (content[i + 10] == 0x5A) {
+    let month = pair_at(content, i)?;
+    let day = pair_at(content, i + 2)?;
+    let hour = pair_at(content, i + 4)?;
+    let minute = pair_at(content, i + 6)?;
+    let second = pair_at(content, i + 8)?;
+    let is_day = (1 <= day) & (day <= calendar::days_in(year, month)?);
+    if is_day & (hour <= 23) & (minute <= 59) & (second <= 59) & (content[i + 10] == b'Z') {
         let days = calendar::days_before(year, month, day);
-        return Moment::At(calendar::seconds(days, hour, minute, second));
+        return Some(calendar::seconds(days, hour, minute, second));
     }
-    Moment::Missing
+    None
 }
 
 // The full year that a two-digit year means: 50 to 99 are 19xx, others 20xx.
@@ -61,37 +53,26 @@ fn century(year: usize) -> usize
 }
 
 // The moment that the content octets of a UTCTime show.
-pub fn utc_time(content: &[u8]) -> Moment
-    ensures { result ≡ as_moment (time.utc_moment content.now) }
+pub fn utc_time(content: &[u8]) -> Option<usize>
+    ensures { result ≡ as_option (time.utc_moment content.now) }
 {
     if content.len() != 13 {
-        return Moment::Missing;
+        return None;
     }
-    let year = pair_at(content, 0);
-    if 99 < year {
-        return Moment::Missing;
-    }
+    let year = pair_at(content, 0)?;
     moment_at(century(year), content, 2)
 }
 
 // The moment that the content octets of a GeneralizedTime show.
-pub fn generalized_time(content: &[u8]) -> Moment
-    ensures { result ≡ as_moment (time.generalized_moment content.now) }
+pub fn generalized_time(content: &[u8]) -> Option<usize>
+    ensures { result ≡ as_option (time.generalized_moment content.now) }
 {
     if content.len() != 15 {
-        return Moment::Missing;
+        return None;
     }
-    let hundreds = pair_at(content, 0);
-    if 99 < hundreds {
-        return Moment::Missing;
-    }
-    let rest = pair_at(content, 2);
-    if 99 < rest {
-        return Moment::Missing;
-    }
-    let year = hundreds * 100 + rest;
+    let year = pair_at(content, 0)? * 100 + pair_at(content, 2)?;
     if year < FIRST_GENERALIZED_YEAR {
-        return Moment::Missing;
+        return None;
     }
     moment_at(year, content, 4)
 }

@@ -1,72 +1,79 @@
 // The times of a validity: the moments of notBefore and notAfter, and their order.
-ghost use Rattle.std.specs.Prelude.{◌≡◌};
+ghost use Rattle.std.specs.Prelude.{◌≡◌, true, false, MatchOption, drop, get_or};
 ghost use Rattle.time.specs.meaning.Time.{time_moment};
 ghost use Rattle.time.specs.meaning.Validity as validity;
-ghost use Rattle.time.specs.steps.Moments.{as_moment};
+ghost use Rattle.time.specs.steps.Moments.{as_option};
 
-use crate::moment::Moment;
 use crate::time;
 
-// Whether the octets are an element with one length octet.
-fn is_short(element: &[u8]) -> bool
-    ensures { result ≡ validity.is_short element.now }
+// The identifiers of the two times, and of the fields that hold one.
+// Octets, and no enum: an input may have any octet in their place.
+const UTC_TIME: u8 = 0x17;
+
+const GENERALIZED_TIME: u8 = 0x18;
+
+const NOT_BEFORE: u8 = 0xA0;
+
+const NOT_AFTER: u8 = 0xA1;
+
+// The identifier and the content of an element with one length octet, if the octets are one.
+fn short_element<'a>(element: &'a [u8]) -> Option<(u8, &'a [u8])>
+    ensures { MatchOption result (validity.is_short element.now ≡ false)
+        (λ parts. (validity.is_short element.now ≡ true) × (parts.0 ≡ get_or element.now 0 0) × (parts.1.now ≡ drop 2 element.now)) }
 {
-    if element.len() < 2 {
-        return false;
+    let [identifier, length, content @ ..] = element else {
+        return None;
+    };
+    if usize::from(*length) != content.len() {
+        return None;
     }
-    (element[1] as usize) == element.len() - 2
+    Some((*identifier, content))
 }
 
 // The moment that an element with the identifier and the content shows.
-fn time_moment(identifier: u8, content: &[u8]) -> Moment
-    ensures { result ≡ as_moment (time_moment identifier content.now) }
+fn time_moment(identifier: u8, content: &[u8]) -> Option<usize>
+    ensures { result ≡ as_option (time_moment identifier content.now) }
 {
     match identifier {
-        0x17 => time::utc_time(content),
-        0x18 => time::generalized_time(content),
-        _ => Moment::Missing,
+        UTC_TIME => time::utc_time(content),
+        GENERALIZED_TIME => time::generalized_time(content),
+        _ => None,
     }
 }
 
 // The moment that the element of a Time shows.
-fn element_moment(element: &[u8]) -> Moment
-    ensures { result ≡ as_moment (validity.element_moment element.now) }
+fn element_moment(element: &[u8]) -> Option<usize>
+    ensures { result ≡ as_option (validity.element_moment element.now) }
 {
-    if !is_short(element) {
-        return Moment::Missing;
-    }
-    time_moment(element[0], &element[2..])
+    let (identifier, content) = short_element(element)?;
+    time_moment(identifier, content)
 }
 
 // The moment that the element of notBefore or notAfter shows, with its identifier and its length.
-pub fn shown_moment(field: &[u8]) -> Moment
-    ensures { result ≡ as_moment (validity.shown_moment field.now) }
+pub fn shown_moment(field: &[u8]) -> Option<usize>
+    ensures { result ≡ as_option (validity.shown_moment field.now) }
 {
-    if !is_short(field) {
-        return Moment::Missing;
+    let (identifier, element) = short_element(field)?;
+    if (identifier != NOT_BEFORE) & (identifier != NOT_AFTER) {
+        return None;
     }
-    let identifier = field[0];
-    if (identifier != 0xA0) & (identifier != 0xA1) {
-        return Moment::Missing;
-    }
-    element_moment(&field[2..])
+    element_moment(element)
 }
 
 // Whether the times of a validity with the content don't run backwards: notAfter isn't earlier than notBefore, if both are there.
 pub fn forwards(content: &[u8]) -> bool
     ensures { result ≡ validity.forwards content.now }
 {
-    if content.len() < 2 {
-        return true;
-    }
-    let end = 2 + (content[1] as usize);
-    if content.len() <= end {
-        return true;
-    }
-    let Moment::At(not_before) = shown_moment(&content[..end]) else {
+    let [_, length, ..] = content else {
         return true;
     };
-    let Moment::At(not_after) = shown_moment(&content[end..]) else {
+    let Some((first, second)) = content.split_at_checked(2 + usize::from(*length)) else {
+        return true;
+    };
+    let Some(not_before) = shown_moment(first) else {
+        return true;
+    };
+    let Some(not_after) = shown_moment(second) else {
         return true;
     };
     not_before <= not_after

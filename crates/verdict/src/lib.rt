@@ -2,4 +2,5 @@
 #![tactic(auto)]
 
 pub mod duplicates;
+mod elements;
 pub mod verdict;

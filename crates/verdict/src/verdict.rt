@@ -1,239 +1,202 @@
 // The verdict on a message's proof, and the part that its signature covers (SPECIFICATION 7).
-ghost use Rattle.std.specs.Prelude.{◌≡◌, List, [], ◌∷◌};
+ghost use Rattle.std.specs.Prelude.{◌≡◌, List, ◌∷◌};
 ghost use Rattle.std.proofs.Math.Option.{Option};
-ghost use Rattle.crmf.specs.meaning.Fields.{Field, first_with};
-ghost use Rattle.crmf.specs.steps.Fields.{fields_between, Places};
+ghost use Rattle.crmf.specs.meaning.Fields.{Field};
+ghost use Rattle.crmf.specs.steps.Fields.{fields_between};
 ghost use Rattle.crmf.specs.meaning.Messages.{Message};
 ghost use Rattle.crmf.proofs.Laws.{MessageParts};
 ghost use Rattle.verdict.specs.meaning.Verdict.{has_subject_and_key, encipherment_verdict, agreement_verdict};
 ghost use Rattle.verdict.specs.meaning.Judges.{Judges, SignedPart};
-ghost use Rattle.verdict.specs.steps.JudgeAnswer.{refused, verdict_on};
-ghost use Rattle.verdict.specs.steps.Judging.{holds, FieldFound, told, bare, signature_answer, proof_answer};
+ghost use Rattle.verdict.specs.steps.JudgeAnswer.{verdict_on};
+ghost use Rattle.verdict.specs.steps.Judging.{part_found, signature_answer, proof_answer};
+ghost use Rattle.verdict.specs.steps.Results.{judge_answer_of, number_of, verdict_told};
 
+use crate::elements::Elements;
 use crmf::messages::{Position, message_at};
-use der::element::reading::{Element, read_at};
-use der::refusal::{ACCEPTED, NO_SUCH_MESSAGE};
+use der::refusal::{Refusal, Refused};
 use editions::reader::accept;
 
-// The verdicts.
+// The verdicts, with document 01's numbers.
+#[derive(Clone, Copy, PartialEq, Eq)]
+pub enum ProofVerdict {
+    // The message has no proof.
+    NoProof = 0,
+    // raVerified.
+    RaVerified = 1,
+    // A signature over the certReq: no poposkInput, and subject and publicKey both in the template.
+    SignedCertReq = 2,
+    // A signature over poposkInput: it is present, and subject or publicKey is missing.
+    SignedPoposkInput = 3,
+    // Any other signature.
+    OtherSignature = 4,
+    // Any other keyEncipherment.
+    KeyEncipherment = 5,
+    // Any other keyAgreement.
+    KeyAgreement = 6,
+    // Choice 82 under keyEncipherment, or without both subject and publicKey.
+    MisplacedDhMac = 7,
+}
 
-// The message has no proof.
-pub const NO_PROOF: usize = 0;
+impl ProofVerdict {
+    // Document 01's number of the verdict.
+    pub fn number(self) -> usize
+        ensures { result ≡ number_of self }
+    {
+        self as usize
+    }
+}
 
-// raVerified.
-pub const RA_VERIFIED: usize = 1;
+// The identifiers of a message's proof, by its kind.
+// Octets, and no enum: an input may have any octet in their place.
+const RA_VERIFIED: u8 = 0x80;
 
-// A signature over the certReq: no poposkInput, and subject and publicKey both in the template.
-pub const SIGNED_CERT_REQ: usize = 2;
+const SIGNATURE: u8 = 0xA1;
 
-// A signature over poposkInput: it is present, and subject or publicKey is missing.
-pub const SIGNED_POPOSK_INPUT: usize = 3;
+const KEY_ENCIPHERMENT: u8 = 0xA2;
 
-// Any other signature.
-pub const OTHER_SIGNATURE: usize = 4;
+const KEY_AGREEMENT: u8 = 0xA3;
 
-// Any other keyEncipherment.
-pub const KEY_ENCIPHERMENT: usize = 5;
+// The identifiers of elements inside a proof or a template.
+const POPOSK_INPUT: u8 = 0xA0;
 
-// Any other keyAgreement.
-pub const KEY_AGREEMENT: usize = 6;
+const DH_MAC: u8 = 0x82;
 
-// Choice 82 under keyEncipherment, or without both subject and publicKey.
-pub const MISPLACED_DH_MAC: usize = 7;
+const SUBJECT: u8 = 0xA5;
 
-// What `judge` answers: document 01's number (`der::refusal`; ACCEPTED with a verdict), the place, the verdict, and the signed part's place and
-// length.
-#[repr(C)]
+const PUBLIC_KEY: u8 = 0xA6;
+
+// A part of the bytes: its first byte and its length.
 #[derive(Clone, Copy)]
-pub struct Verdict {
-    pub number: usize,
-    pub place: usize,
-    pub verdict: usize,
+pub struct Extent {
     pub from: usize,
     pub length: usize,
 }
 
-// A part of the bytes: its first byte and its length.
+// The verdict on a message's proof, and the part of the bytes that its signature covers, if it covers one.
 #[derive(Clone, Copy)]
-struct Extent {
-    from: usize,
-    length: usize,
+pub struct Verdict {
+    pub verdict: ProofVerdict,
+    pub part: Option<Extent>,
 }
 
-// Judges the proof of the message at a position and answers the verdict and the signed part's place and length, 0 and 0 if there is none.
-// Refuses what `accept` refuses, and then a position without a message (NO_SUCH_MESSAGE).
-pub fn judge(edition: usize, bytes: &[u8], position: Position) -> Verdict
-    ensures { Judges edition bytes.now position.0 result.number result.place result.verdict result.from result.length }
+// Judges the proof of the message at a position. Refuses what `accept` refuses, and then a position without a message (NoSuchMessage).
+pub fn judge(edition: usize, bytes: &[u8], position: Position) -> Result<Verdict, Refused>
+    ensures { let a = judge_answer_of result in Judges edition bytes.now position.0 a.number a.place a.verdict a.from a.length }
 {
-    let found = accept(edition, bytes);
-    if found.number != ACCEPTED {
-        return refuse(found.number, found.place);
-    }
+    accept(edition, bytes)?;
+    let Some(at) = message_at(bytes, position) else {
+        return Err(Refused {
+            refusal: Refusal::NoSuchMessage,
+            place: 0,
+        });
+    };
     let end = bytes.len();
-    let at = message_at(bytes, position);
-    if end <= at {
-        return refuse(NO_SUCH_MESSAGE, 0);
-    }
-    message(bytes, at, end)
+    Ok(message(Elements { bytes, at, end }))
 }
 
-// Hands back the part of the bytes that the signature of the message at a position covers: the certReq with SIGNED_CERT_REQ, the poposkInput
-// with SIGNED_POPOSK_INPUT, and an empty part with any other verdict or a refusal.
+// Hands back the part of the bytes that the signature of the message at a position covers: the certReq with SignedCertReq, the poposkInput
+// with SignedPoposkInput, and an empty part with any other verdict or a refusal.
 pub fn signed_part(edition: usize, bytes: &[u8], position: Position) -> &[u8]
     ensures { SignedPart edition bytes.entry position.0 result }
 {
-    let found = judge(edition, bytes, position);
-    let from = found.from;
-    let end = from + found.length;
+    let Ok(found) = judge(edition, bytes, position) else {
+        return &bytes[..0];
+    };
+    let Some(signed) = found.part else {
+        return &bytes[..0];
+    };
+    let from = signed.from;
+    let end = from + signed.length;
     &bytes[from..end]
 }
 
-// The first element with the identifier `id`, of those from `at` to `end`, as a part of the bytes; 0 and 0 if there is none.
-fn find(bytes: &[u8], at: usize, end: usize, id: u8) -> Extent
-    requires { Places bytes.now at end }
-    ensures { FieldFound (first_with (id ∷ []) (fields_between bytes.now at end)) result }
+// Whether subject and publicKey are both in the template of the certReq with these elements.
+fn is_named(request: Elements) -> bool
+    ensures { let r = request.entry in (m : Message) (more : List Field) → fields_between r.bytes.now r.at r.end ≡ m.cert_req_id ∷ m.template ∷ more → m.template.identifier ≡ 0x30 → result ≡ has_subject_and_key m }
 {
-    let mut place = at;
-    while place < end {
-        let x = read_at(bytes, place, end);
-        if x.identifier == id {
-            return Extent {
-                from: place,
-                length: x.end - place,
-            };
-        }
-        place = x.end;
-    }
-    Extent { from: 0, length: 0 }
+    let id = request.split();
+    let template = id.after.split().inside;
+    template.has(SUBJECT) & template.has(PUBLIC_KEY)
 }
 
-// Whether one of the elements from `at` to `end` has the identifier `id`.
-fn has(bytes: &[u8], at: usize, end: usize, id: u8) -> bool
-    requires { Places bytes.now at end }
-    ensures { result ≡ holds id (fields_between bytes.now at end) }
+// The verdict on the first of some messages.
+fn message(messages: Elements) -> Verdict
+    ensures { let r = messages.entry in (m : Message) (more : List Field) → fields_between r.bytes.now r.at r.end ≡ m.own ∷ more → MessageParts m → verdict_told result ≡ verdict_on m }
 {
-    find(bytes, at, end, id).length != 0
-}
-
-// Whether subject and publicKey are both in the template of the certReq whose inside is from `at` to `end`.
-fn is_named(bytes: &[u8], at: usize, end: usize) -> bool
-    requires { Places bytes.now at end }
-    ensures { (m : Message) (more : List Field) → fields_between bytes.now at end ≡ m.cert_req_id ∷ m.template ∷ more → m.template.identifier ≡ 0x30 → result ≡ has_subject_and_key m }
-{
-    let id = read_at(bytes, at, end);
-    let template = read_at(bytes, id.end, end);
-    has(bytes, template.content, template.end, 0xA5)
-        & has(bytes, template.content, template.end, 0xA6)
-}
-
-// The verdict on the message at `at`, in a batch that ends at `end`.
-fn message(bytes: &[u8], at: usize, end: usize) -> Verdict
-    requires { Places bytes.now at end }
-    ensures { (m : Message) (more : List Field) → fields_between bytes.now at end ≡ m.own ∷ more → MessageParts m → result ≡ verdict_on m }
-{
-    let own = read_at(bytes, at, end);
-    let first = own.content;
-    let last = own.end;
-    let request = read_at(bytes, first, last);
-    let after = request.end;
-    let both = is_named(bytes, request.content, after);
+    let own = messages.split().inside;
+    let request = own.split();
+    let both = is_named(request.inside);
     let part = Extent {
-        from: first,
-        length: after - first,
+        from: own.at,
+        length: request.after.at - own.at,
     };
-    proof_verdict(bytes, read_at(bytes, after, last), both, part)
+    let proof = request.after.split();
+    proof_verdict(proof.identifier, proof.inside, both, part)
 }
 
-// The verdict by the element after the certReq, which is the proof if the message has one.
-fn proof_verdict(bytes: &[u8], proof: Element, both: bool, request: Extent) -> Verdict
-    requires { Places bytes.now proof.content proof.end }
-    ensures { result ≡ proof_answer proof.identifier (fields_between bytes.now proof.content proof.end) both request }
+// The verdict by the identifier of the element after the certReq, which is the proof if the message has one, and by the elements inside it.
+fn proof_verdict(id: u8, inside: Elements, both: bool, request: Extent) -> Verdict
+    ensures { let p = inside.entry in verdict_told result ≡ proof_answer id (fields_between p.bytes.now p.at p.end) both request }
 {
-    let id = proof.identifier;
-    let from = proof.content;
-    let to = proof.end;
     match id {
-        0x80 => plain(RA_VERIFIED),
-        0xA1 => signature(find(bytes, from, to, 0xA0), both, request),
-        0xA2 => plain(encipherment(has(bytes, from, to, 0x82))),
-        0xA3 => plain(agreement(has(bytes, from, to, 0x82), both)),
-        _ => plain(NO_PROOF),
+        RA_VERIFIED => plain(ProofVerdict::RaVerified),
+        SIGNATURE => signature(inside.find(POPOSK_INPUT), both, request),
+        KEY_ENCIPHERMENT => plain(encipherment(inside.has(DH_MAC))),
+        KEY_AGREEMENT => plain(agreement(inside.has(DH_MAC), both)),
+        _ => plain(ProofVerdict::NoProof),
     }
 }
 
 // The verdict on a signature: over the certReq, over the poposkInput, or neither.
-fn signature(input: Extent, both: bool, request: Extent) -> Verdict
-    ensures { (o : Option Field) → FieldFound o input → result ≡ signature_answer o both request }
+fn signature(input: Option<Extent>, both: bool, request: Extent) -> Verdict
+    ensures { (o : Option Field) → input ≡ part_found o → verdict_told result ≡ signature_answer o both request }
 {
-    if input.length == 0 {
-        if both {
-            return tell(SIGNED_CERT_REQ, request);
-        }
-        return plain(OTHER_SIGNATURE);
+    match (input, both) {
+        (None, true) => tell(ProofVerdict::SignedCertReq, request),
+        (Some(part), false) => tell(ProofVerdict::SignedPoposkInput, part),
+        (None, false) => plain(ProofVerdict::OtherSignature),
+        (Some(_), true) => plain(ProofVerdict::OtherSignature),
     }
-    if both {
-        return plain(OTHER_SIGNATURE);
-    }
-    tell(SIGNED_POPOSK_INPUT, input)
 }
 
 // The verdict on keyEncipherment, by whether its choice is 82.
-fn encipherment(mac: bool) -> usize
-    ensures { result ≡ encipherment_verdict mac }
+fn encipherment(mac: bool) -> ProofVerdict
+    ensures { number_of result ≡ encipherment_verdict mac }
 {
     if mac {
-        MISPLACED_DH_MAC
+        ProofVerdict::MisplacedDhMac
     } else {
-        KEY_ENCIPHERMENT
+        ProofVerdict::KeyEncipherment
     }
 }
 
 // The verdict on keyAgreement.
-fn agreement(mac: bool, both: bool) -> usize
-    ensures { result ≡ agreement_verdict mac both }
+fn agreement(mac: bool, both: bool) -> ProofVerdict
+    ensures { number_of result ≡ agreement_verdict mac both }
 {
     if mac & !both {
-        MISPLACED_DH_MAC
+        ProofVerdict::MisplacedDhMac
     } else {
-        KEY_AGREEMENT
+        ProofVerdict::KeyAgreement
     }
 }
 
 // A verdict with a signed part.
-fn tell(verdict: usize, part: Extent) -> Verdict
-    ensures { result ≡ told verdict part }
+fn tell(verdict: ProofVerdict, part: Extent) -> Verdict
+    ensures { result ≡ record { verdict = verdict; part = Some part } }
 {
     Verdict {
-        number: ACCEPTED,
-        place: 0,
         verdict,
-        from: part.from,
-        length: part.length,
+        part: Some(part),
     }
 }
 
 // A verdict without a signed part.
-fn plain(verdict: usize) -> Verdict
-    ensures { result ≡ bare verdict }
+fn plain(verdict: ProofVerdict) -> Verdict
+    ensures { result ≡ record { verdict = verdict; part = None } }
 {
     Verdict {
-        number: ACCEPTED,
-        place: 0,
         verdict,
-        from: 0,
-        length: 0,
-    }
-}
-
-// The answer of a refusal.
-fn refuse(number: usize, place: usize) -> Verdict
-    ensures { result ≡ refused number place }
-{
-    Verdict {
-        number,
-        place,
-        verdict: NO_PROOF,
-        from: 0,
-        length: 0,
+        part: None,
     }
 }

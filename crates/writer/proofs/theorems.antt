@@ -10,6 +10,7 @@ pub mod Cutting
 pub mod Demand2
 pub mod Described
 pub mod Describing
+pub mod DraftRows
 pub mod Grouping
 pub mod JoinLengths
 pub mod JoinVectors

@@ -1,12 +1,23 @@
-// A draft's rows: the numbers of each, and the octets of a leaf.
-ghost use Rattle.std.specs.Prelude.{suc, ◌+◌, ◌<◌, ◌≡◌, ◌∷◌, length, drop};
-ghost use Rattle.std.proofs.Math.Seq.{slice};
-ghost use Rattle.crmf.specs.steps.rows.Agree.{draft_rows};
-ghost use Rattle.writer.specs.steps.Inner.{row_of};
+// A draft of a batch, and its rows.
+ghost use Rattle.std.specs.Prelude.{◌≡◌, true};
+ghost use Rattle.writer.specs.steps.Writing.{shaped, is_known};
+ghost use Rattle.writer.specs.steps.Inner.{row_of, row_with, Numbered};
 
 use crmf::rows::WIDTH;
 
-// A row of a draft.
+// A draft that has a batch's shape: the edition that it is written in, the numbers of its rows, and the slice that its leaves point into. The
+// edition is a number, since `agrees`, which stands beneath the editions, takes one.
+#[derive(Clone, Copy)]
+pub(crate) struct Draft<'a> {
+    pub(crate) edition: usize,
+    pub(crate) numbers: &'a [usize],
+    pub(crate) bytes: &'a [u8],
+    ghost known: { is_known edition ≡ true },
+    ghost shape: { shaped numbers.now ≡ true },
+}
+
+// A row of a draft. crmf has the same five numbers in a type of its own, which is private to the walks that fill a table and compare rows; to
+// share it would make their inner step public.
 #[derive(Clone, Copy)]
 pub(crate) struct Row {
     pub(crate) kind: usize,
@@ -16,38 +27,25 @@ pub(crate) struct Row {
     pub(crate) content: usize,
 }
 
-// How many rows a draft has.
-pub(crate) fn rows(draft: &[usize]) -> usize
-    ensures { result ≡ length (draft_rows draft.now) }
-{
-    draft.len() / WIDTH
-}
-
-// The row with the number `i`.
-pub(crate) fn row_at(draft: &[usize], i: usize) -> Row
-    requires { i < length (draft_rows draft.now) }
-    ensures { drop i (draft_rows draft.now) ≡ row_of result ∷ drop (suc i) (draft_rows draft.now) }
-{
-    let at = WIDTH * i;
-    Row {
-        kind: draft[at],
-        first: draft[at + 1],
-        whole: draft[at + 2],
-        parent: draft[at + 3],
-        content: draft[at + 4],
+impl From<[usize; WIDTH]> for Row {
+    // The row that has these numbers.
+    fn from(numbers: [usize; WIDTH]) -> Row
+        ensures { row_of result ≡ row_with numbers }
+    {
+        let [kind, first, whole, parent, content] = numbers;
+        Row {
+            kind,
+            first,
+            whole,
+            parent,
+            content,
+        }
     }
 }
 
-// The octets of a leaf, `whole` of them from the place `first` on, as far as the bytes have them.
-pub(crate) fn leaf(bytes: &[u8], first: usize, whole: usize) -> &[u8]
-    ensures { result.now ≡ slice first (first + whole) bytes.now }
+// The numbers of each row that a draft has, without those that are no whole row.
+pub(crate) fn rows(draft: &[usize]) -> &[[usize; WIDTH]]
+    ensures { Numbered draft.now result.now }
 {
-    if bytes.len() <= first {
-        return &bytes[..0];
-    }
-    if bytes.len() - first <= whole {
-        return &bytes[first..];
-    }
-    let end = first + whole;
-    &bytes[first..end]
+    draft.as_chunks().0
 }

@@ -4,56 +4,45 @@ ghost use Rattle.der.specs.meaning.Length.{length_octets};
 ghost use Rattle.der.specs.meaning.Bounds.{longest};
 ghost use Rattle.crmf.specs.steps.rows.Assembly.{implied};
 ghost use Rattle.writer.specs.steps.Writing.{most_rows};
-ghost use Rattle.writer.specs.steps.Inner.{row_of, Stands, Whole};
+ghost use Rattle.writer.specs.steps.Inner.{row_of, Told, Whole};
 
 use crate::draft::Row;
+use crate::octets::implied;
 use crmf::kinds;
 use der::bounds::LONGEST;
 
-// The whole length of a row whose children have `inner` octets together; more than LONGEST if it is too long, or if the row is a leaf that
-// leaves the slice.
-pub(crate) fn whole_of(row: Row, bytes: &[u8], inner: usize) -> usize
+// The whole length of a row whose children have `inner` octets together, unless it is too long, or the row is a leaf that leaves the slice.
+pub(crate) fn whole_of(row: Row, bytes: &[u8], inner: usize) -> Option<usize>
     requires { inner ≤ longest * most_rows }
     ensures { Whole bytes.now (row_of row) inner result }
 {
-    let kind = row.kind;
-    if kinds::container(kind) {
-        return whole_around(kind, inner);
+    if kinds::container(row.kind) {
+        return whole_around(row.kind, inner);
     }
-    let whole = row.whole;
-    if bytes.len() < whole {
-        return LONGEST + 1;
+    let end = row.first.checked_add(row.whole)?;
+    if (bytes.len() < end) | (LONGEST < row.whole) {
+        return None;
     }
-    if bytes.len() - whole < row.first {
-        return LONGEST + 1;
-    }
-    whole
+    Some(row.whole)
 }
 
-// The whole length of a container whose children have `inner` octets together; more than LONGEST if it is too long.
-pub(crate) fn whole_around(kind: usize, inner: usize) -> usize
+// The whole length of a container whose children have `inner` octets together, unless it is too long.
+pub(crate) fn whole_around(kind: usize, inner: usize) -> Option<usize>
     requires { inner ≤ longest * most_rows }
-    ensures { Stands result (suc (length (length_octets (length (implied kind) + inner)) + (length (implied kind) + inner))) }
+    ensures { Told (suc (length (length_octets (length (implied kind) + inner)) + (length (implied kind) + inner))) result }
 {
-    let content = implied_length(kind) + inner;
+    let content = implied(kind).len() + inner;
     if LONGEST < content {
-        return content;
+        return None;
     }
-    1 + length_octets(content) + content
+    let whole = 1 + length_octets(content) + content;
+    if LONGEST < whole {
+        return None;
+    }
+    Some(whole)
 }
 
-// How many octets the implied type of a container has: 0, except for an item with a carried certReq, whose type has no row.
-pub(crate) fn implied_length(kind: usize) -> usize
-    ensures { result ≡ length (implied kind) }
-{
-    if kind == kinds::REG_INFO_CERT_REQ {
-        11
-    } else {
-        0
-    }
-}
-
-// How many length octets `content` content octets need.
+// How many length octets `content` content octets need. Counted by itself: a row's whole length is known before anything is written.
 fn length_octets(content: usize) -> usize
     requires { content ≤ longest }
     ensures { (result ≡ length (length_octets content)) × (result ≤ 3) }

@@ -1,28 +1,27 @@
 // How many octets each row's children have together, added up from the last row to the first.
+// They stand beside the rows, and not in them: the draft is C's, nothing is written into it, and nothing is allocated.
 ghost use Rattle.std.specs.Prelude.{ℕ, ◌*◌, ◌≤◌, ◌<◌, ◌≡◌, true, length, get_or};
 ghost use Rattle.der.specs.meaning.Bounds.{longest};
 ghost use Rattle.writer.specs.steps.Writing.{most_rows};
 ghost use Rattle.crmf.specs.steps.rows.Agree.{draft_rows};
 ghost use Rattle.writer.specs.steps.Inner.{sound, Summed, Blank, Added};
 
-use crate::draft::{row_at, rows};
+use crate::draft::{Draft, Row, rows};
 use crate::lengths::whole_of;
-use der::bounds::LONGEST;
 
 // Adds up the sums in a table and answers whether every leaf lies in the slice and no row is too long.
-pub(crate) fn add_up(draft: &[usize], bytes: &[u8], table: &mut [usize]) -> bool
-    requires { Blank (draft_rows draft.now) table.old }
-    ensures { (result ≡ sound bytes.now 0 (draft_rows draft.now))
-        × (result ≡ true → Summed bytes.now (draft_rows draft.now) table.new) }
+pub(crate) fn add_up(draft: &Draft<'_>, table: &mut [usize]) -> bool
+    requires { Blank (draft_rows draft.now.numbers.now) table.old }
+    ensures { (result ≡ sound draft.now.bytes.now 0 (draft_rows draft.now.numbers.now))
+        × (result ≡ true → Summed draft.now.bytes.now (draft_rows draft.now.numbers.now) table.new) }
 {
-    let mut i = rows(draft);
-    while 0 < i {
-        i -= 1;
-        let row = row_at(draft, i);
-        let whole = whole_of(row, bytes, table[i]);
-        if LONGEST < whole {
+    let rows = rows(draft.numbers);
+    // By number: the sum of each row is read, and that of its parent, which stands elsewhere in the table, is written.
+    for i in (0..rows.len()).rev() {
+        let row = Row::from(rows[i]);
+        let Some(whole) = whole_of(row, draft.bytes, table[i]) else {
             return false;
-        }
+        };
         add(table, row.parent, i, whole);
     }
     true

@@ -6,26 +6,26 @@ use mathlib.Core.Option.{some}
 use mir.Facts.{to_z_pos}
 use mir.Syntax.{w64}
 use Rattle.time.specs.meaning.Validity.{shown_moment}
-use Rattle.time.proofs.Laws.{told_at, told_missing, shown_range}
+use Rattle.time.proofs.Laws.{told_some, told_none, shown_range}
 use Rattle.capi.specs.OneNumber.{moment_number}
 use Rattle.capi.proofs.phagundro_moment.Goals as goal
-use Rattle.capi.proofs.phagundro_moment.Goals.{In-At}
+use Rattle.capi.proofs.phagundro_moment.Goals.{In-Some}
 
 -- the element shows a moment
-shown : (c : In-At) → shown_moment c.args.bytes.now ≡ some c.in-At.seconds
-shown c = told_at _ _ _ c.shown_moment.ensures c.in-At.is
+shown : (c : In-Some) → shown_moment c.args.bytes.now ≡ some c.in-Some.seconds
+shown c = told_some _ _ _ c.shown_moment.ensures c.in-Some.is
 
 -- which has 63 bits
-few : (c : In-At) → c.in-At.seconds < 2 ^ 63
+few : (c : In-Some) → c.in-Some.seconds < 2 ^ 63
 few c = omega (arith, (shown_range _ _ (shown c)).1)
 
 pub overflow_cast-result : goal.overflow_cast-result
-overflow_cast-result c = record { sfits = few (goal.at.overflow_cast-result c).In-At }
+overflow_cast-result c = record { sfits = few (goal.at.overflow_cast-result c).In-Some }
 
-pub returns-in-At : goal.returns-in-At
+pub returns-in-Some : goal.returns-in-Some
 unfolding moment_number
-returns-in-At c = to_z_pos w64 (few (goal.at.returns-in-At c).In-At) ∙ ap moment_number (sym (shown (goal.at.returns-in-At c).In-At))
+returns-in-Some c = to_z_pos w64 (few (goal.at.returns-in-Some c).In-Some) ∙ ap moment_number (sym (shown (goal.at.returns-in-Some c).In-Some))
 
-pub returns-in-Missing : goal.returns-in-Missing
+pub returns-in-None : goal.returns-in-None
 unfolding moment_number
-returns-in-Missing c = ap moment_number (sym (told_missing _ _ c.shown_moment.ensures c.in-Missing.is))
+returns-in-None c = ap moment_number (sym (told_none _ _ c.shown_moment.ensures c.in-None.is))

@@ -2,7 +2,7 @@
 use Prim.Native.Nat.{ℕ, ◌+◌, ◌*◌, ◌/◌, ◌≤◌, ◌<◌}
 use native.Mathlib.Omega.{arith}
 use mathlib.Core.Path.{◌≡◌, refl, sym, ap, ap₂, subst, ◌∙◌}
-use mathlib.Core.Bool.{true, false}
+use Rattle.std.specs.Prelude.{Some, None}
 use mathlib.Core.List.{List, ◌++◌}
 use lib.IntN.{ℤ}
 use lib.ListN.{length, drop}
@@ -13,17 +13,25 @@ use Rattle.crmf.specs.meaning.Rows.{Row}
 use Rattle.crmf.specs.steps.rows.Fill.{rows_of_input}
 use Rattle.editions.specs.meaning.TwoBatches.{first_file, second_file, neither_file, Accepted}
 use Rattle.editions.proofs.Laws.{nest_rows}
+use Rattle.editions.specs.steps.Results.{file_number}
 use Rattle.compare.specs.declared.found.Found.{Found}
+use Rattle.compare.specs.declared.part.Part.{Part}
 use Rattle.compare.specs.meaning.Changes.{Change, only_first, only_second, leaves_differ, Changed, in_first, in_second, in_both, Changes, Later, entry_numbers, entries}
 use Rattle.compare.specs.meaning.Compares.{rows_of, Between, later_in, Compares, no_room, listed}
 use Rattle.compare.specs.meaning.Times.{seconds_later}
 use Rattle.compare.specs.meaning.Parts.{part_file, part_row, Finds, first_refused, second_refused, past, found}
 use Rattle.compare.specs.steps.Arranged.{Arranged}
-use Rattle.compare.specs.steps.Finding.{Listed, Gathered, gathered}
+use Rattle.compare.specs.steps.Finding.{Listed, Gathered, gathered, file_of, PartOf, PartThere}
 use Rattle.compare.specs.steps.Lists.{kept, later_between}
 use Rattle.compare.proofs.theorems.Batches.{in_place}
-use Rattle.compare.proofs.theorems.Gathering.{change_at, member_at, entry_at, the_entry}
+use Rattle.compare.proofs.theorems.Gathering.{change_at, member_at, the_entry}
 use Rattle.compare.proofs.theorems.OneCounterpart.{counterpart_there}
+
+-- the number of a file
+file_numbered : (c : Change) → file_number (file_of c) ≡ part_file c
+file_numbered (only_first i) = refl
+file_numbered (only_second j) = refl
+file_numbered (leaves_differ i j) = refl
 
 module _ {e : ℕ} {first second : List ℕ} (one : Accepted e first) (two : Accepted e second) where
   -- the changes by the rows that are read are those by the batches' rows
@@ -36,7 +44,7 @@ module _ {e : ℕ} {first second : List ℕ} (one : Accepted e first) (two : Acc
   same_later : later_between first second ≡ later_in one two
   same_later = ap₂ (seconds_later first second) (nest_rows first one.batch) (nest_rows second two.batch)
 
-  module _ {old new : List ℤ} {r : Found} (g : Gathered first second 0 true old r new) where
+  module _ {old new : List ℤ} {r : Found} (g : Gathered first second None old r new) where
     -- without room for all,
     pub compares_short : length old < entry_numbers * r.count → Compares e first second old no_room_number 0 neither_file 0 new
     unfolding gathered
@@ -59,24 +67,24 @@ module _ {e : ℕ} {first second : List ℕ} (one : Accepted e first) (two : Acc
         (subst (λ (n : ℕ). Compares e first second old accepted 0 neither_file n (entries (later_in one two) cs ++ drop (entry_numbers * length cs) old)) (sym g.counted)
         (listed one two cs (between cs g.changes) (omega (arith, g.counted))))
 
-  module _ {n : ℕ} {old new : List ℤ} {r : Found} (g : Gathered first second n false old r new) where
+  module _ {n : ℕ} {old new : List ℤ} {r : Found} (g : Gathered first second (Some n) old r new) where
     -- An entry past the last has no part,
-    pub finds_past : r.count ≤ n → Finds e first second n no_such_message 0 neither_file 0 0
-    finds_past few = past one two g.listed (between g.listed g.changes) (omega (arith, g.counted))
+    pub finds_past : r.part ≡ None → Finds e first second n no_such_message 0 neither_file 0 0
+    finds_past none = past one two g.listed (between g.listed g.changes) (subst (PartOf first second g.listed n) none (g.part n refl))
 
     -- and any other has its own.
-    pub finds_found : n < r.count → Finds e first second n accepted 0 r.file r.from r.length
-    finds_found there =
-        let c = change_at g.listed n in
-        let here = entry_at g.listed n (omega (arith, g.counted)) in
-        let part = g.part refl c here in
+    pub finds_found : (p : Part) → r.part ≡ Some p → Finds e first second n accepted 0 (file_number p.file) p.from p.length
+    finds_found p is =
+        let it : PartThere first second g.listed n p = subst (PartOf first second g.listed n) is (g.part n refl) in
+        let c = it.change in
         let rows = ap₂ (λ (A B : List Row). part_row A B c) (nest_rows first one.batch) (nest_rows second two.batch) in
-        let from = part.from ∙ ap (λ (x : Row). x.first) rows in
-        let size = part.size ∙ ap (λ (x : Row). x.whole) rows in
-        subst (λ (f : ℕ). Finds e first second n accepted 0 f r.from r.length) (sym part.file)
-        (subst (λ (x : ℕ). Finds e first second n accepted 0 (part_file c) x r.length) (sym from)
+        let file = ap file_number it.found.file ∙ file_numbered c in
+        let from = it.found.from ∙ ap (λ (x : Row). x.first) rows in
+        let size = it.found.size ∙ ap (λ (x : Row). x.whole) rows in
+        subst (λ (f : ℕ). Finds e first second n accepted 0 f p.from p.length) (sym file)
+        (subst (λ (x : ℕ). Finds e first second n accepted 0 (part_file c) x p.length) (sym from)
         (subst (Finds e first second n accepted 0 (part_file c) (part_row (rows_of one) (rows_of two) c).first) (sym size)
-        (found one two g.listed c (between g.listed g.changes) here)))
+        (found one two g.listed c (between g.listed g.changes) it.here)))
 
 -- A part lies within the file that it is of.
 pub record Within (first second : List ℕ) (file from size : ℕ) : Type 0 where

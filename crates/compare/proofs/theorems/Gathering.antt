@@ -2,7 +2,8 @@
 use Prim.Native.Nat.{ℕ, zero, suc, ◌*◌, ◌/◌, ◌≤◌, ◌<◌}
 use native.Mathlib.Omega.{arith}
 use mathlib.Core.Path.{◌≡◌, refl, sym, ap, ap₂, subst, ◌∙◌}
-use mathlib.Core.Bool.{true, false, false≢true}
+use Rattle.std.specs.Prelude.{Some, None}
+use Rattle.std.proofs.lemmas.Option.{none-some, same_Some}
 use mathlib.Core.List.{List, [], ◌∷◌, ◌++◌, Memᴰ, append-nil}
 use mathlib.Core.Option.{Option, some, none as absent, some-injective}
 use lib.IntN.{ℤ}
@@ -11,11 +12,10 @@ use lib.Seq.{drop-cons, take-nil}
 use borrow.Author.Tests.{le-leb, lt-leb}
 use Rattle.crmf.specs.steps.rows.Fill.{rows_of_input}
 use Rattle.crmf.specs.steps.rows.Packing.{first_of, whole_of}
-use Rattle.compare.specs.declared.found.Found.{Found}
 use Rattle.compare.specs.declared.merge.Cursor.{Cursor}
+use Rattle.compare.specs.declared.part.Part.{Part}
 use Rattle.compare.specs.meaning.Changes.{Change, only_first, only_second, leaves_differ, Later, entry_numbers, entry, entries, Changed, in_first, in_second, in_both}
-use Rattle.compare.specs.meaning.Parts.{part_file}
-use Rattle.compare.specs.steps.Finding.{Counted, Gathered, gathered, PartFound, InTables, Begins, row_of}
+use Rattle.compare.specs.steps.Finding.{Counted, Gathered, gathered, file_of, PartFound, PartThere, InTables, Begins, row_of, Spoken}
 use Rattle.compare.specs.steps.Lists.{kept, window, later_between}
 use Rattle.compare.specs.steps.Tables.{Tabled}
 use Rattle.compare.specs.steps.Walking.{Gone}
@@ -29,10 +29,6 @@ unfolding entries
 window_beyond later from cs old few =
     ap (λ (ds : List Change). entries later (take (length old / entry_numbers) ds) ++ drop (entry_numbers * length (take (length old / entry_numbers) ds)) old) (drop_of_length-le cs {i = from} few)
     ∙ ap (λ (ds : List Change). entries later ds ++ drop (entry_numbers * length ds) old) (take-nil (length old / entry_numbers))
-
--- what an answer of a count alone is
-abbrev count_only : ℕ → Found
-count_only n = record { count = n; file = 0; from = 0; length = 0 }
 
 module _ {s t one two : List ℕ} (x : Tabled s one) (y : Tabled t two) where
   -- The walk from the batches on counts the changes.
@@ -56,25 +52,25 @@ module _ {s t one two : List ℕ} (x : Tabled s one) (y : Tabled t two) where
       (omega (arith, there.0, x.sized), omega (arith, there.1, y.sized))
 
   -- and have its part
-  part_found : (c : Change) → InTables one two c → {r : Found} {count : ℕ}
-      → r ≡ record { count = count; file = part_file c; from = first_of (row_of one two c); length = whole_of (row_of one two c) } → PartFound s t c r
+  part_found : (c : Change) → InTables one two c → {r : Part}
+      → r ≡ record { file = file_of c; from = first_of (row_of one two c); length = whole_of (row_of one two c) } → PartFound s t c r
   part_found (only_first i) there is =
       record {
-        file = ap (λ (f : Found). f.file) is;
-        from = ap (λ (f : Found). f.from) is ∙ x.firsts i there;
-        size = ap (λ (f : Found). f.length) is ∙ x.wholes i there;
+        file = ap (λ (p : Part). p.file) is;
+        from = ap (λ (p : Part). p.from) is ∙ x.firsts i there;
+        size = ap (λ (p : Part). p.length) is ∙ x.wholes i there;
       }
   part_found (only_second j) there is =
       record {
-        file = ap (λ (f : Found). f.file) is;
-        from = ap (λ (f : Found). f.from) is ∙ y.firsts j there;
-        size = ap (λ (f : Found). f.length) is ∙ y.wholes j there;
+        file = ap (λ (p : Part). p.file) is;
+        from = ap (λ (p : Part). p.from) is ∙ y.firsts j there;
+        size = ap (λ (p : Part). p.length) is ∙ y.wholes j there;
       }
   part_found (leaves_differ i j) there is =
       record {
-        file = ap (λ (f : Found). f.file) is;
-        from = ap (λ (f : Found). f.from) is ∙ x.firsts i there.0;
-        size = ap (λ (f : Found). f.length) is ∙ x.wholes i there.0;
+        file = ap (λ (p : Part). p.file) is;
+        from = ap (λ (p : Part). p.from) is ∙ x.firsts i there.0;
+        size = ap (λ (p : Part). p.length) is ∙ x.wholes i there.0;
       }
 
 -- the entry with a number
@@ -123,49 +119,49 @@ alone_listed later from cs old there room =
 
 module _ {s t : List ℕ} {old new : List ℤ} {count : ℕ} where
   -- all are listed if there is room for them,
-  pub all_listed : Counted s t 0 old count new → entry_numbers * count ≤ length old → {r : Found} → r ≡ count_only count → Gathered s t 0 true old r new
+  pub all_listed : Counted s t 0 old count new → entry_numbers * count ≤ length old → Gathered s t None old (record { count = count; part = None }) new
   unfolding gathered
-  all_listed c room is =
+  all_listed c room =
       record {
         listed = c.listed;
         changes = c.changes;
-        counted = ap (λ (f : Found). f.count) is ∙ c.counted;
+        counted = c.counted;
         written = c.written ∙ sym (rw (gathered, le-leb (entry_numbers * length c.listed) (length old) (omega (arith, c.counted))));
-        part = λ e. absurd (false≢true (sym e));
+        part = λ n e. absurd (none-some n e);
       }
 
   -- and otherwise none.
-  pub none_listed : (beyond : ℕ) → Counted s t beyond old count new → length old < entry_numbers * count → count ≤ beyond → {r : Found} → r ≡ count_only count
-      → Gathered s t 0 true old r new
+  pub none_listed : (beyond : ℕ) → Counted s t beyond old count new → length old < entry_numbers * count → count ≤ beyond
+      → Gathered s t None old (record { count = count; part = None }) new
   unfolding gathered
-  none_listed beyond c full few is =
+  none_listed beyond c full few =
       record {
         listed = c.listed;
         changes = c.changes;
-        counted = ap (λ (f : Found). f.count) is ∙ c.counted;
+        counted = c.counted;
         written = c.written ∙ window_beyond (later_between s t) beyond c.listed old (omega (arith, c.counted))
             ∙ sym (rw (gathered, lt-leb (entry_numbers * length c.listed) (length old) (omega (arith, c.counted))));
-        part = λ e. absurd (false≢true (sym e));
+        part = λ n e. absurd (none-some n e);
       }
 
   -- They may be counted first.
   pub listed_again : {mid : List ℤ} {n : ℕ} (beyond : ℕ) → Counted s t beyond old n mid → n ≤ beyond → entry_numbers * n ≤ length old
-      → Counted s t 0 mid count new → {r : Found} → r ≡ count_only count → Gathered s t 0 true old r new
-  listed_again {mid} beyond first few room again is =
+      → Counted s t 0 mid count new → Gathered s t None old (record { count = count; part = None }) new
+  listed_again {mid} beyond first few room again =
       let stays : mid ≡ old = first.written ∙ window_beyond (later_between s t) beyond first.listed old (omega (arith, first.counted)) in
       let as_many = ap length (changes_once again.changes first.changes) in
-      all_listed (subst (λ (l : List ℤ). Counted s t 0 l count new) stays again) (omega (arith, first.counted, again.counted, as_many)) is
+      all_listed (subst (λ (l : List ℤ). Counted s t 0 l count new) stays again) (omega (arith, first.counted, again.counted, as_many))
 
   -- If one is wanted that there isn't, it has no part.
-  pub one_past : {from : ℕ} → Counted s t from old count new → count ≤ from → {r : Found} → r ≡ count_only count → Gathered s t from false old r new
+  pub one_past : {from : ℕ} → Counted s t from old count new → count ≤ from → Gathered s t (Some from) old (record { count = count; part = None }) new
   unfolding gathered
-  one_past {from} c past is =
+  one_past {from} c past =
       record {
         listed = c.listed;
         changes = c.changes;
-        counted = ap (λ (f : Found). f.count) is ∙ c.counted;
+        counted = c.counted;
         written = c.written;
-        part = λ e d found. absurd (omega (arith, (the_entry c.listed from d found).0, c.counted));
+        part = λ n e. omega (arith, c.counted, past, same_Some from n e);
       }
 
 module _ {s t one two : List ℕ} (x : Tabled s one) (y : Tabled t two) {old new : List ℤ} {count from : ℕ} (c : Counted s t from old count new)
@@ -184,17 +180,19 @@ module _ {s t one two : List ℕ} (x : Tabled s one) (y : Tabled t two) {old new
   begins = record { change = change_at c.listed from; later = later_between s t; numbers = its_numbers; within = rows_there; few = (x.few, y.few) }
 
   -- and its part is found.
-  pub one_found : {r : Found}
-      → ((later : Later) (d : Change) → new ≡ entry later d → r ≡ record { count = count; file = part_file d; from = first_of (row_of one two d); length = whole_of (row_of one two d) })
-      → Gathered s t from false old r new
+  pub one_found : {r : Part} → Spoken one two new r → Gathered s t (Some from) old (record { count = count; part = Some r }) new
   unfolding gathered
   one_found {r} spoken =
-      let is = spoken (later_between s t) (change_at c.listed from) its_numbers in
+      let d = change_at c.listed from in
+      let of_it : PartThere s t c.listed from r = record {
+        change = d;
+        here = entry_at c.listed from entry_there;
+        found = part_found x y d rows_there (spoken (later_between s t) d its_numbers);
+      } in
       record {
         listed = c.listed;
         changes = c.changes;
-        counted = ap (λ (f : Found). f.count) is ∙ c.counted;
+        counted = c.counted;
         written = c.written;
-        part = λ e d found.
-            subst (λ (z : Change). PartFound s t z r) (the_entry c.listed from d found).1 (part_found x y (change_at c.listed from) rows_there is);
+        part = λ n e. subst (λ (k : ℕ). PartThere s t c.listed k r) (same_Some from n e) of_it;
       }

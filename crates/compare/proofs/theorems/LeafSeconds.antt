@@ -1,23 +1,12 @@
--- How many seconds later the second of two leaves is, case by case, and a moment less another by which is later. Assumes nothing.
-use Prim.Native.Nat.{ℕ, zero, suc, ◌-◌, ◌≤◌, ◌<◌}
-use native.Mathlib.Omega.{arith}
+-- How many seconds later the second of two leaves is, case by case. Assumes nothing.
+use Prim.Native.Nat.{ℕ}
 use mathlib.Core.Path.{◌≡◌, refl, ap, ap₂, ◌∙◌}
-use mathlib.Core.Bool.{Bool, true, false, cond}
+use mathlib.Core.Bool.{Bool, true, false}
 use mathlib.Core.List.{List}
 use mathlib.Core.Option.{Option, some, none}
-use lib.IntN.{pos, negsuc, ◌-ℤ◌}
-use borrow.Author.Tests.{lt-ltb, le-ltb}
+use lib.IntN.{pos, ◌-ℤ◌}
 use Rattle.time.specs.meaning.Validity.{shown_moment}
 use Rattle.compare.specs.meaning.Times.{is_time_kind, second_less_first, leaf_seconds}
-
--- a number less a greater one, and less one that isn't greater
-pub less_greater : (a b : ℕ) → a < b → pos a -ℤ pos b ≡ negsuc (b - suc a)
-less_greater a zero l = absurd (omega arith)
-less_greater a (suc b) l = ap (λ (t : Bool). cond t (negsuc (suc b - suc a)) (pos (a - suc b))) (lt-ltb a (suc b) l)
-
-pub less_smaller : (a b : ℕ) → b ≤ a → pos a -ℤ pos b ≡ pos (a - b)
-less_smaller a zero l = ap pos (omega arith)
-less_smaller a (suc b) l = ap (λ (t : Bool). cond t (negsuc (suc b - suc a)) (pos (a - suc b))) (le-ltb a (suc b) l)
 
 module _ (kind : ℕ) (first second : List ℕ) where
   -- leaves that are no times,

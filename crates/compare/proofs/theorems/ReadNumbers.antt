@@ -9,10 +9,11 @@ use mir.Facts.{to_z_pos}
 use mir.Syntax.{w64}
 use mir.Val.{to_z, of_z}
 use Rattle.crmf.specs.steps.rows.Packing.{first_of, whole_of}
-use Rattle.compare.specs.declared.found.Found.{Found}
+use Rattle.editions.specs.declared.pair.File.{File}
+use Rattle.editions.specs.declared.pair.File.TheVariants.{First, Second}
+use Rattle.compare.specs.declared.part.Part.{Part}
 use Rattle.compare.specs.meaning.Changes.{Change, only_first, only_second, leaves_differ, Later, entry_numbers, entry}
-use Rattle.compare.specs.meaning.Parts.{part_file}
-use Rattle.compare.specs.steps.Finding.{InTables, Begins, row_of}
+use Rattle.compare.specs.steps.Finding.{file_of, InTables, Begins, row_of}
 
 -- the signed number of a list at a place, as an unsigned one and signed again
 abbrev pub number_at : List ℤ → ℕ → ℤ
@@ -87,31 +88,31 @@ row_read {list} {k} r = same_number list k r.row r.here r.few
 pub row_same : {list : List ℤ} {k : ℕ} {table : List ℕ} (r : RowRead list k table) (n : ℕ) → get_or list k (pos 0) ≡ pos n → r.row ≡ n
 row_same r n is = ap nat_abs (sym r.here ∙ is)
 
--- what is found of a row in a table
-abbrev found_at : (count file : ℕ) → List ℕ → ℕ → Found
-found_at count file table row = record { count = count; file = file; from = first_of (get_or table row 0); length = whole_of (get_or table row 0) }
+-- the part that a row in a table is
+abbrev part_at : File → List ℕ → ℕ → Part
+part_at file table row = record { file = file; from = first_of (get_or table row 0); length = whole_of (get_or table row 0) }
 
--- and what is found of an entry
-abbrev found_of : List ℕ → List ℕ → ℕ → Change → Found
-found_of one two count c = record { count = count; file = part_file c; from = first_of (row_of one two c); length = whole_of (row_of one two c) }
+-- and the part of an entry
+abbrev part_of : List ℕ → List ℕ → Change → Part
+part_of one two c = record { file = file_of c; from = first_of (row_of one two c); length = whole_of (row_of one two c) }
 
-module _ {one two : List ℕ} {list : List ℤ} (b : Begins one two list) (count : ℕ) {found : Found} where
+module _ {one two : List ℕ} {list : List ℤ} (b : Begins one two list) {part : Part} where
   -- an entry that is only in the second batch has its part there,
-  pub spoken_second : of_z w64 (get_or list 0 (pos 0)) ≡ 2 → found ≡ found_at count 2 two (nat_abs (number_at list 2)) → (later : Later) (c : Change) → list ≡ entry later c
-      → found ≡ found_of one two count c
+  pub spoken_second : of_z w64 (get_or list 0 (pos 0)) ≡ 2 → part ≡ part_at Second two (nat_abs (number_at list 2)) → (later : Later) (c : Change) → list ≡ entry later c
+      → part ≡ part_of one two c
   spoken_second told is later (only_first i) same = absurd (omega (arith, first_number later list (only_first i) same))
   spoken_second told is later (only_second j) same =
       let r = in_second b told in
-      is ∙ ap (found_at count 2 two) (ap nat_abs (row_read r) ∙ row_same r j (second_row later list j same))
+      is ∙ ap (part_at Second two) (ap nat_abs (row_read r) ∙ row_same r j (second_row later list j same))
   spoken_second told is later (leaves_differ i j) same = absurd (omega (arith, first_number later list (leaves_differ i j) same))
 
   -- and any other in the first
-  pub spoken_first : (of_z w64 (get_or list 0 (pos 0)) ≡ 2 → ⊥) → found ≡ found_at count 1 one (nat_abs (number_at list 1)) → (later : Later) (c : Change) → list ≡ entry later c
-      → found ≡ found_of one two count c
+  pub spoken_first : (of_z w64 (get_or list 0 (pos 0)) ≡ 2 → ⊥) → part ≡ part_at First one (nat_abs (number_at list 1)) → (later : Later) (c : Change) → list ≡ entry later c
+      → part ≡ part_of one two c
   spoken_first told is later (only_first i) same =
       let r = in_first b told in
-      is ∙ ap (found_at count 1 one) (ap nat_abs (row_read r) ∙ row_same r i (first_row later list i same))
+      is ∙ ap (part_at First one) (ap nat_abs (row_read r) ∙ row_same r i (first_row later list i same))
   spoken_first told is later (only_second j) same = absurd (told (first_number later list (only_second j) same))
   spoken_first told is later (leaves_differ i j) same =
       let r = in_first b told in
-      is ∙ ap (found_at count 1 one) (ap nat_abs (row_read r) ∙ row_same r i (both_row later list i j same))
+      is ∙ ap (part_at First one) (ap nat_abs (row_read r) ∙ row_same r i (both_row later list i j same))

@@ -69,21 +69,6 @@ module _ {s t one two : List ℕ} {above : Pair} {at : Cursor} (x : Standing s t
         go true by = one_position by
         go false by = matched_own x.first.arranged c by ∙ kinds ∙ sym (matched_own x.second.arranged d (by_same by))
 
-  -- Below two containers the walk stands at the rows after them.
-  pub standing_inside : Facing s t above at → {next : Cursor} → next.first ≡ at.first + 1 → next.second ≡ at.second + 1 → next.count ≡ at.count
-      → Standing s t one two (record { first = at.first; second = at.second }) next
-  standing_inside e i j counts =
-      record {
-        first = x.first;
-        second = x.second;
-        kinds = e.kinds;
-        past_first = omega (arith, i);
-        past_second = omega (arith, j);
-        in_first = omega (arith, i, e.one.there, x.first.sized);
-        in_second = omega (arith, j, e.two.there, x.second.sized);
-        few = omega (arith, counts, i, j, x.few);
-      }
-
   module _ {from : ℕ} {old new : List ℤ} {r : Cursor} where
     -- a row of the first is passed alone,
     pub step_first : Child A above.first at.first → (Child B above.second at.second → match_kind A at.first < match_kind B at.second)
@@ -214,38 +199,8 @@ module _ {s t one two : List ℕ} {above : Pair} {at : Cursor} (x : Standing s t
             further = omega (arith, i, j, gone.on_first, gone.on_second);
           }
 
--- a walk that goes nowhere
-pub went_none : {s t one two : List ℕ} {above : Pair} {at : Cursor} → Standing s t one two above at → (from : ℕ) (list : List ℤ)
-    → Went s t above at from list at list
-went_none {s} {t} {at = at} x from list =
-    record {
-      listed = [];
-      goes = λ cs k l more. more;
-      counted = omega arith;
-      added = added_none (later_between s t) from at.count list;
-      on_first = omega arith;
-      on_second = omega arith;
-      in_first = omega (arith, x.in_first, x.first.sized);
-      in_second = omega (arith, x.in_second, x.second.sized);
-      few = x.few;
-    }
-
 module _ {s t : List ℕ} {above : Pair} {start at : Cursor} {from : ℕ} {old mid : List ℤ} (w : Went s t above start from old at mid) where
-  -- wherever the walk went it stands
-  pub standing_there : {one two : List ℕ} → Standing s t one two above start → Standing s t one two above at
-  standing_there x =
-      record {
-        first = x.first;
-        second = x.second;
-        kinds = x.kinds;
-        past_first = omega (arith, x.past_first, w.on_first);
-        past_second = omega (arith, x.past_second, w.on_second);
-        in_first = omega (arith, w.in_first, x.first.sized);
-        in_second = omega (arith, w.in_second, x.second.sized);
-        few = w.few;
-      }
-
-  -- and it goes on by a step
+  -- The walk goes on by a step,
   pub went_on : {new : List ℤ} {r : Cursor} → Stepped s t above at from mid r new → Went s t above start from old r new
   went_on {new} {r} step =
       let v = step.went in

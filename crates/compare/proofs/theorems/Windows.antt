@@ -6,7 +6,7 @@ use native.Mathlib.Omega.{arith}
 use mathlib.Core.Path.{◌≡◌, refl, sym, ap, ap₂, ◌∙◌}
 use mathlib.Core.List.{List, [], ◌∷◌, ◌++◌, append_assoc, append-nil}
 use lib.IntN.{ℤ}
-use lib.ListN.{length, take, drop, set, length-append, length-take, length-drop, drop_of_length-le}
+use lib.ListN.{length, take, drop, set, length-append, length-take, length-drop}
 use lib.Seq.{take_all, take-append-le, drop-append-le, take_at, drop_at, drop-drop, sets-eq}
 use Rattle.compare.specs.meaning.Changes.{Change, only_first, only_second, leaves_differ, Later, entry_numbers, entry, entries}
 use Rattle.compare.specs.steps.Lists.{kept, window, Added}
@@ -49,12 +49,6 @@ added_two later from count cs ds old mid new f g before base counted is =
 module _ (later : Later) (from : ℕ) (c : Change) (before : List Change) (base : List ℤ) where
   abbrev room : ℕ
   room = length base / entry_numbers
-
-  -- an entry before the first isn't written,
-  pub early : length before < from → window later from before base ≡ window later from (before ++ (c ∷ [])) base
-  early less =
-      ap (λ (cs : List Change). entries later (take room cs) ++ drop (entry_numbers * length (take room cs)) base)
-      (drop_of_length-le before {i = from} (omega arith) ∙ sym (drop_of_length-le (before ++ (c ∷ [])) {i = from} (omega (arith, length-append before (c ∷ [])))))
 
   -- nor is one past the room
   pub late : from ≤ length before → length base < entry_numbers * (length before - from) + entry_numbers

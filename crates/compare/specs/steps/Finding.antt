@@ -1,12 +1,15 @@
 -- What merging two batches' rows finds: the number of entries, those that are listed, and the part that one of them speaks of. Assumes nothing.
-use Rattle.std.specs.Prelude.{ℕ, ◌+◌, ◌*◌, ◌≤◌, ◌<◌, ◌≡◌, Bool, true, false, List, leb, ℤ, length, get_or}
+use Rattle.std.specs.Prelude.{ℕ, ◌+◌, ◌*◌, ◌≤◌, ◌<◌, ◌≡◌, true, false, List, leb, ℤ, length, get_or, Option, Some, None, ⊤}
 use Rattle.std.proofs.Math.Option.{some}
 use Rattle.std.proofs.Math.ListN.{get_elem?}
 use Rattle.crmf.specs.steps.rows.Fill.{rows_of_input}
 use Rattle.crmf.specs.steps.rows.Packing.{first_of, whole_of}
+use Rattle.editions.specs.declared.pair.File.{File}
+use Rattle.editions.specs.declared.pair.File.TheVariants.{First, Second}
 use Rattle.compare.specs.declared.found.Found.{Found}
+use Rattle.compare.specs.declared.part.Part.{Part}
 use Rattle.compare.specs.meaning.Changes.{Change, only_first, only_second, leaves_differ, Later, entry_numbers, entry, Changes}
-use Rattle.compare.specs.meaning.Parts.{part_file, part_row}
+use Rattle.compare.specs.meaning.Parts.{part_row}
 use Rattle.compare.specs.steps.Lists.{window, later_between}
 
 -- some entries are the changes between two batches, as their rows are read
@@ -21,29 +24,46 @@ pub record Counted (s t : List ℕ) (from : ℕ) (old : List ℤ) (count : ℕ) 
   pub written : new ≡ window (later_between s t) from listed old
   pub few : count ≤ length (rows_of_input s) + length (rows_of_input t)
 
--- What is wanted: all entries, from the first on, or one, in a list that has room for it alone.
-abbrev pub Wanted : Bool → ℕ → List ℤ → Type 0
-Wanted true from list = from ≡ 0
-Wanted false from list = length list ≡ entry_numbers
+-- What is wanted: all entries, or the one with a number, in a list that has room for it alone.
+abbrev pub Wanted : Option ℕ → List ℤ → Type 0
+Wanted None list = ⊤
+Wanted (Some n) list = length list ≡ entry_numbers
 
 -- what becomes of a list: if all are wanted and there is no room for them it stays
-unfoldable pub gathered : Later → Bool → ℕ → List Change → List ℤ → List ℤ
-gathered later true from cs old = elim (leb (entry_numbers * length cs) (length old)) [ true ↦ window later from cs old | false ↦ old ]
-gathered later false from cs old = window later from cs old
+unfoldable pub gathered : Later → Option ℕ → List Change → List ℤ → List ℤ
+gathered later None cs old = elim (leb (entry_numbers * length cs) (length old)) [ true ↦ window later 0 cs old | false ↦ old ]
+gathered later (Some n) cs old = window later n cs old
+
+-- whose part it is that an entry speaks of
+abbrev pub file_of : Change → File
+file_of (only_first i) = First
+file_of (only_second j) = Second
+file_of (leaves_differ i j) = First
 
 -- the part that an entry speaks of
-pub record PartFound (s t : List ℕ) (c : Change) (r : Found) : Type 0 where
-  pub file : r.file ≡ part_file c
+pub record PartFound (s t : List ℕ) (c : Change) (r : Part) : Type 0 where
+  pub file : r.file ≡ file_of c
   pub from : r.from ≡ (part_row (rows_of_input s) (rows_of_input t) c).first
   pub size : r.length ≡ (part_row (rows_of_input s) (rows_of_input t) c).whole
 
+-- It is the part of the entry with a number.
+pub record PartThere (s t : List ℕ) (cs : List Change) (n : ℕ) (r : Part) : Type 0 where
+  pub change : Change
+  pub here : get_elem? cs n ≡ some change
+  pub found : PartFound s t change r
+
+-- The part of the entry with a number is found, or there is no such entry.
+abbrev pub PartOf : (s t : List ℕ) → List Change → ℕ → Option Part → Type 0
+PartOf s t cs n None = length cs ≤ n
+PartOf s t cs n (Some r) = PartThere s t cs n r
+
 -- The changes are counted and listed as is wanted and, if one is wanted, its part is found.
-pub record Gathered (s t : List ℕ) (from : ℕ) (all : Bool) (old : List ℤ) (r : Found) (new : List ℤ) : Type 0 where
+pub record Gathered (s t : List ℕ) (wanted : Option ℕ) (old : List ℤ) (r : Found) (new : List ℤ) : Type 0 where
   pub listed : List Change
   pub changes : Listed s t listed
   pub counted : r.count ≡ length listed
-  pub written : new ≡ gathered (later_between s t) all from listed old
-  pub part : all ≡ false → (c : Change) → get_elem? listed from ≡ some c → PartFound s t c r
+  pub written : new ≡ gathered (later_between s t) wanted listed old
+  pub part : (n : ℕ) → wanted ≡ Some n → PartOf s t listed n r.part
 
 -- the rows that an entry speaks of are in the tables
 abbrev pub InTables : List ℕ → List ℕ → Change → Type 0
@@ -66,7 +86,7 @@ row_of one two (only_second j) = get_or two j 0
 row_of one two (leaves_differ i j) = get_or one i 0
 
 -- The part of the entry that a list begins with.
-abbrev pub Spoken : List ℕ → List ℕ → List ℤ → ℕ → Found → Type 0
-Spoken one two list count r =
+abbrev pub Spoken : List ℕ → List ℕ → List ℤ → Part → Type 0
+Spoken one two list r =
     (later : Later) (c : Change) → list ≡ entry later c
-    → r ≡ record { count = count; file = part_file c; from = first_of (row_of one two c); length = whole_of (row_of one two c) }
+    → r ≡ record { file = file_of c; from = first_of (row_of one two c); length = whole_of (row_of one two c) }

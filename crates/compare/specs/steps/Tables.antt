@@ -1,5 +1,5 @@
 -- A batch's rows in a table, each packed into a number, and what the code asks of it. Assumes nothing.
-use Rattle.std.specs.Prelude.{ℕ, zero, suc, ◌≤◌, ◌<◌, ◌≡◌, Bool, ◌&&◌, List, eqb, ltb, length, get_or}
+use Rattle.std.specs.Prelude.{ℕ, ◌≤◌, ◌<◌, ◌≡◌, Bool, ◌&&◌, List, eqb, ltb, length, get_or}
 use Rattle.crmf.specs.meaning.Rows.{Row}
 use Rattle.crmf.specs.steps.rows.Fill.{rows_of_input}
 use Rattle.crmf.specs.steps.rows.Packing.{pack_row, kind_of, first_of, whole_of, parent_of}
@@ -41,9 +41,3 @@ pub record Ready (s : List ℕ) (count : ℕ) : Type 0 where
   pub counted : count ≡ length (rows_of_input s)
   pub few : count ≤ 32767
   pub read_back : (i : ℕ) → i < count → ReadBack (row_at (rows_of_input s) i)
-
--- how many rows a table of a size has room for: no batch has more than the last
-abbrev pub room_of : ℕ → ℕ
-room_of zero = 64
-room_of (suc zero) = 2048
-room_of (suc (suc size)) = 32767

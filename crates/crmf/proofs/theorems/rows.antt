@@ -17,6 +17,7 @@ pub mod RowsOfLines
 pub mod RowsRenumbered
 pub mod ShortRows
 pub mod Showing
+pub mod Taking
 pub mod TakenElements
 pub mod TimeRows
 pub mod SiblingKinds

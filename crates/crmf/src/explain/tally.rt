@@ -3,56 +3,41 @@ ghost use Rattle.std.specs.Prelude.{ℕ, ◌+◌, ◌-◌, ◌≤◌, ◌≡◌,
 ghost use Rattle.std.proofs.Math.Seq.{slice};
 ghost use Rattle.crmf.specs.meaning.Notation.{mark_of};
 ghost use Rattle.crmf.specs.steps.grammar.Packed.{packed, mark_code};
+ghost use Rattle.crmf.specs.steps.explain.Tally.{tally_of};
+ghost use Rattle.crmf.specs.steps.explain.Inner.{Packs, Marks};
 ghost use Rattle.crmf.specs.steps.explain.Walk.{line, with_form, with_long_id, with_rows, with_element, empty_tally};
 
+use crate::explain::first::{Difference, LongId};
 use crate::grammar::element::Fit;
 use crate::grammar::{codes, marking, table};
 use crate::kinds;
 
-// A form of one edition alone: its difference's number (0: none was met) and its place.
-#[derive(Clone, Copy)]
-pub struct Difference {
-    pub number: usize,
-    pub place: usize,
-}
-
-// A certReqId of more than 8 content octets: its whole length (0: none was met) and its place.
-#[derive(Clone, Copy)]
-pub struct LongId {
-    pub whole: usize,
-    pub place: usize,
-}
-
 // The count of rows, the first form of edition 1 alone, the first of edition 2 alone, and the first long certReqId.
+// That the rows are few is no field: the bound moves with the walk, and an element adds up to two.
 #[derive(Clone, Copy)]
 pub struct Tally {
     pub count: usize,
-    pub one: Difference,
-    pub two: Difference,
-    pub long: LongId,
+    pub one: Option<Difference>,
+    pub two: Option<Difference>,
+    pub long: Option<LongId>,
 }
 
 // The tally before the first element.
 pub(crate) fn empty() -> Tally
-    ensures { result ≡ empty_tally }
+    ensures { tally_of result ≡ empty_tally }
 {
-    let none = Difference {
-        number: 0,
-        place: 0,
-    };
-    let short = LongId { whole: 0, place: 0 };
     Tally {
         count: 0,
-        one: none,
-        two: none,
-        long: short,
+        one: None,
+        two: None,
+        long: None,
     }
 }
 
 // The tally after one more element of the bytes, which fits a line.
 pub(crate) fn with_element(bytes: &[u8], fit: Fit, tally: Tally) -> Tally
-    requires { (fit.first ≤ fit.content) × (fit.content ≤ fit.end) × (fit.end ≤ length bytes.now) × (tally.count ≤ 131070) }
-    ensures { ((k : ℕ) → fit.word ≡ get_or packed k 0 → result ≡ with_element (line k) (slice fit.content fit.end bytes.now) fit.first (fit.end - fit.first) tally) × (result.count ≤ tally.count + 2) }
+    requires { (fit.first ≤ fit.content) × (fit.content ≤ fit.end) × (fit.end ≤ length bytes.now) × (tally.count ≤ 131070) × Packs fit.word }
+    ensures { ((k : ℕ) → fit.word ≡ get_or packed k 0 → tally_of result ≡ with_element (line k) (slice fit.content fit.end bytes.now) fit.first (fit.end - fit.first) (tally_of tally)) × (result.count ≤ tally.count + 2) }
 {
     let kind = table::kind_of(fit.word);
     let whole = fit.end - fit.first;
@@ -71,16 +56,12 @@ pub(crate) fn with_element(bytes: &[u8], fit: Fit, tally: Tally) -> Tally
 
 // The tally after an element with a kind, a place and a whole length. A certReqId of more than 8 content octets is noted if it is the first.
 fn with_long_id(kind: usize, place: usize, whole: usize, tally: Tally) -> Tally
-    ensures { (result ≡ with_long_id kind place whole tally) × (result.count ≡ tally.count) }
+    ensures { (tally_of result ≡ with_long_id kind place whole (tally_of tally)) × (result.count ≡ tally.count) }
 {
-    if (kind == kinds::CERT_REQ_ID) & (10 < whole) & (tally.long.whole == 0) {
-        let one = tally.one;
-        let two = tally.two;
+    if (kind == kinds::CERT_REQ_ID) & (10 < whole) & tally.long.is_none() {
         return Tally {
-            count: tally.count,
-            one,
-            two,
-            long: LongId { whole, place },
+            long: Some(LongId { whole, place }),
+            ..tally
         };
     }
     tally
@@ -88,29 +69,21 @@ fn with_long_id(kind: usize, place: usize, whole: usize, tally: Tally) -> Tally
 
 // The tally after an element at a place, by the code of its mark. A form of one edition alone is noted if it is that edition's first.
 fn with_form(mark: usize, place: usize, tally: Tally) -> Tally
-    ensures { ((k : ℕ) (c : List ℕ) → mark_code (mark_of (line k).marking c) ≡ mark → result ≡ with_form (mark_of (line k).marking c) place tally) × (result.count ≡ tally.count) }
+    requires { Marks mark }
+    ensures { ((k : ℕ) (c : List ℕ) → mark_code (mark_of (line k).marking c) ≡ mark → tally_of result ≡ with_form (mark_of (line k).marking c) place (tally_of tally)) × (result.count ≡ tally.count) }
 {
-    let one = tally.one;
-    let two = tally.two;
-    let long = tally.long;
-    let new = Difference {
-        number: mark % codes::EDITION,
-        place,
-    };
-    if (mark / codes::EDITION == 1) & (one.number == 0) {
+    // 1 and 2 are the editions' numbers, which the code of a mark has; the tally has a field for each.
+    let number = mark % codes::EDITION;
+    if (mark / codes::EDITION == 1) & tally.one.is_none() {
         return Tally {
-            count: tally.count,
-            one: new,
-            two,
-            long,
+            one: Some(Difference { number, place }),
+            ..tally
         };
     }
-    if (mark / codes::EDITION == 2) & (two.number == 0) {
+    if (mark / codes::EDITION == 2) & tally.two.is_none() {
         return Tally {
-            count: tally.count,
-            one,
-            two: new,
-            long,
+            two: Some(Difference { number, place }),
+            ..tally
         };
     }
     tally
@@ -119,11 +92,12 @@ fn with_form(mark: usize, place: usize, tally: Tally) -> Tally
 // The tally with more rows.
 pub(crate) fn with_rows(rows: usize, tally: Tally) -> Tally
     requires { (tally.count ≤ 131070) × (rows ≤ 65535) }
-    ensures { result ≡ with_rows rows tally }
+    ensures { tally_of result ≡ with_rows rows (tally_of tally) }
 {
-    let mut after = tally;
-    after.count = tally.count + rows;
-    after
+    Tally {
+        count: tally.count + rows,
+        ..tally
+    }
 }
 
 // How many rows there are after an element: those before it, its item's and its own.

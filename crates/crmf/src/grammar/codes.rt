@@ -1,4 +1,6 @@
 // The codes of a packed line: the room of each field, its weight, and what its codes mean. specs/steps/grammar/Codes.antt has the same names.
+// They are numbers and no enums, since a line is one word that is their sum (`TABLE`, `packed`): an enum would list the same names again, with
+// a match that reads its variants back from the word.
 
 // The room of each field: its codes are below this. Two fields are line numbers, and two are kinds.
 pub const PASSES: usize = 4;
@@ -98,6 +100,7 @@ pub const EDITION: usize = 8;
 pub const UNLESS_TWO: usize = 32;
 
 // The recogniser's actions. No element has the line's identifiers.
+// A line is a number, so it can't hold a function; `take` has the one match on them.
 pub const TAKE_NOTHING: usize = 0;
 
 // The content isn't looked at.

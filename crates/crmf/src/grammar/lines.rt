@@ -168,7 +168,7 @@ const ROW: usize = ROWS;
 
 // An entry: the pass and the identifier; the inside, the mark, the judge and the action; the kinds and how many rows they are; the line to go
 // on with. What isn't named is 0: no inside, both editions, no rule, no row. No NEXT means that the container has no further part.
-pub(crate) const TABLE: [usize; LINES] = [
+pub(crate) static TABLE: [usize; LINES] = [
     // Line 0: no container starts here, so an inside of 0 is free; and it is an end, so after its last part a container goes on here.
     END,
     // Top: batch 30

@@ -1,6 +1,5 @@
 // The fields of a packed line, and the search among the lines.
-ghost use Rattle.std.specs.Prelude.{ℕ, ◌≤◌, ◌<◌, ◌≡◌, true, false, get_or};
-ghost use Rattle.crmf.specs.declared.grammar.table.FoundLine.TheVariants.{At, Nowhere};
+ghost use Rattle.std.specs.Prelude.{ℕ, ◌≤◌, ◌<◌, ◌≡◌, get_or};
 ghost use Rattle.crmf.specs.meaning.Notation.{Identifiers, named, among, general_names};
 ghost use Rattle.crmf.specs.steps.grammar.Codes as codes;
 ghost use Rattle.crmf.specs.steps.grammar.Packed.{packed, identifiers_code, action_of};
@@ -11,28 +10,15 @@ ghost use Rattle.crmf.specs.steps.explain.Walk.{line, rows_by};
 use crate::grammar::codes;
 use crate::grammar::lines::{LINES, TABLE};
 
-// What the search for an element's line finds.
-#[derive(Clone, Copy)]
-pub enum FoundLine {
-    At(usize),
-    Nowhere,
-}
-
-// The table of lines, which is lent to all that read it. `TABLE` in src/grammar/lines.rt has it line by line, and
+// The word of line k; past the table's end 0, which is the word of an end line. `TABLE` in src/grammar/lines.rt has it line by line, and
 // specs/steps/grammar/Packed.antt says what it is computed from.
-pub(crate) fn words() -> [usize; LINES]
-    ensures { result ≡ packed }
-{
-    TABLE
-}
-
-// The word of line k; past the table's end 0, which is the word of an end line.
-pub(crate) fn word(table: &[usize; LINES], k: usize) -> usize
-    requires { table.now ≡ packed }
+pub(crate) fn word(k: usize) -> usize
     ensures { result ≡ get_or packed k 0 }
 {
-    if k < LINES { table[k] } else { 0 }
+    if k < LINES { TABLE[k] } else { 0 }
 }
+
+// A function for each field, by its name: one for all would take the weight and the room at every call.
 
 // Where the lines of the element's inside start; FREE if there are none.
 pub(crate) fn inside_of(word: usize) -> usize
@@ -91,18 +77,14 @@ pub(crate) fn rows_of(word: usize) -> usize
 }
 
 // Whether an identifier is a GeneralName's.
+#[tactic(auto, unfolding(crate::specs::meaning::Notation::among))]
 fn general(id: u8) -> bool
     ensures { result ≡ among general_names id }
 {
-    (id == 0xA0)
-        | (id == 0x81)
-        | (id == 0x82)
-        | (id == 0xA3)
-        | (id == 0xA4)
-        | (id == 0xA5)
-        | (id == 0x86)
-        | (id == 0x87)
-        | (id == 0x88)
+    matches!(
+        id,
+        0xA0 | 0x81 | 0x82 | 0xA3 | 0xA4 | 0xA5 | 0x86 | 0x87 | 0x88
+    )
 }
 
 // Whether an identifier is one of those that the code means. The code is not an octet's.
@@ -116,52 +98,36 @@ fn names(code: usize, id: u8) -> bool
     code == codes::ANYTHING
 }
 
-// The first line from the line `from` on that has the identifier. Answers Nowhere if there is none up to the first needed part or the end.
-pub(crate) fn find_line(table: &[usize; LINES], from: usize, id: u8) -> FoundLine
-    requires { table.now ≡ packed }
+// The first line from the line `from` on that has the identifier. Answers None if there is none up to the first needed part or the end.
+pub(crate) fn find_line(from: usize, id: u8) -> Option<usize>
     ensures { result ≡ walk.find_line from id }
 {
-    let mut k = from;
-    while k < LINES {
-        let word = table[k];
+    for k in from..LINES {
+        let word = word(k);
         let code = word / codes::ID % codes::IDENTIFIERS;
-        if code == id as usize + codes::OCTET {
-            return FoundLine::At(k);
+        if code == usize::from(id) + codes::OCTET {
+            return Some(k);
         }
         if code < codes::OCTET {
-            return here(k, code, id);
+            return names(code, id).then_some(k);
         }
         if word % codes::PASSES < codes::ANOTHER {
-            return FoundLine::Nowhere;
+            return None;
         }
-        k += 1;
     }
-    FoundLine::Nowhere
-}
-
-// Ends the search at a line whose identifiers' code is not an octet's: answers the line if it has the identifier, else Nowhere.
-fn here(k: usize, code: usize, id: u8) -> FoundLine
-    requires { code < codes.octet }
-    ensures { (i : Identifiers) → identifiers_code i ≡ code → result ≡ (elim (named i id) [ true ↦ At k | false ↦ Nowhere ]) }
-{
-    if names(code, id) {
-        return FoundLine::At(k);
-    }
-    FoundLine::Nowhere
+    None
 }
 
 // Whether a container may end at the line `from`: no part from there to its end line is needed.
-pub(crate) fn closed(table: &[usize; LINES], from: usize) -> bool
-    requires { table.now ≡ packed }
+pub(crate) fn closed(from: usize) -> bool
     ensures { result ≡ walk.closed from }
 {
-    let mut k = from;
-    while k < LINES {
-        let pass = table[k] % codes::PASSES;
+    // By number: `word` alone says that the table is the grammar's, line by line.
+    for k in from..LINES {
+        let pass = word(k) % codes::PASSES;
         if pass < codes::OVER {
             return pass == codes::ENDS;
         }
-        k += 1;
     }
     true
 }

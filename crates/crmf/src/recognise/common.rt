@@ -1,6 +1,8 @@
 // The small insides that a batch has most of, checked without the table: an AlgorithmIdentifier, an AttributeTypeAndValue, a
 // RelativeDistinguishedName of one AttributeTypeAndValue, a Name of such, and a SubjectPublicKeyInfo.
-ghost use Rattle.std.specs.Prelude.{ℕ, suc, ◌≤◌, ◌<◌, ◌≡◌, true, false, length};
+// Each asks that its bytes are no more than an input has, and takes a plain slice: a struct with that fact would be built, and the fact proved,
+// at each of the slices that they hand on, as it is now.
+ghost use Rattle.std.specs.Prelude.{ℕ, suc, ◌≤◌, ◌<◌, ◌≡◌, true, false, length, IfSome};
 ghost use Rattle.der.specs.meaning.Bounds.{longest};
 ghost use Rattle.der.specs.steps.Order.{closes};
 ghost use Rattle.crmf.specs.meaning.Notation.{AlgId, Spki, OneName, RdnSequence, Rdn, Attribute};
@@ -8,45 +10,26 @@ ghost use Rattle.crmf.specs.steps.grammar.Lines.{start};
 ghost use Rattle.crmf.specs.steps.recognise.Inner.{Leading, Sole, RowlessFrom};
 
 use der::content::{bit_string, holds, object_identifier};
-use der::element::identifier::{SET, is_allowed, is_constructed};
+use der::element::identifier::{BIT_STRING, OBJECT_IDENTIFIER, SET, is_allowed, is_constructed};
 use der::element::length::{Span, measure};
 
-// The other identifier octets of X.690 that these insides have.
-const BIT_STRING: u8 = 0x03;
-
-const OBJECT_IDENTIFIER: u8 = 0x06;
-
+// The identifier octet of X.690 that these insides have beside those of `der`.
 const SEQUENCE: u8 = 0x30;
 
-// The span of the element that the bytes start with, if it has the identifier; else a span of no octets.
-fn leading(bytes: &[u8], id: u8) -> Span
-    ensures { (result.octets ≡ 0 → ⊥) → Leading bytes.now id result }
+// The span of the element that the bytes start with, if it has the identifier.
+fn leading(bytes: &[u8], id: u8) -> Option<Span>
+    ensures { IfSome result (Leading bytes.now id) }
 {
-    let x = measure(bytes);
-    if x.octets == 0 {
-        return x;
-    }
-    if bytes[0] != id {
-        return Span {
-            octets: 0,
-            length: 0,
-        };
-    }
-    x
+    let x = measure(bytes)?;
+    (bytes[0] == id).then_some(x)
 }
 
-// Where the content starts, if the bytes are exactly one element and it has the identifier; else 0.
-fn sole(bytes: &[u8], id: u8) -> usize
-    ensures { (result ≡ 0 → ⊥) → Sole bytes.now id result }
+// Where the content starts, if the bytes are exactly one element and it has the identifier.
+fn sole(bytes: &[u8], id: u8) -> Option<usize>
+    ensures { IfSome result (Sole bytes.now id) }
 {
-    let x = leading(bytes, id);
-    if x.octets == 0 {
-        return 0;
-    }
-    if x.octets + x.length != bytes.len() {
-        return 0;
-    }
-    x.octets
+    let x = leading(bytes, id)?;
+    (x.octets + x.length == bytes.len()).then_some(x.octets)
 }
 
 // Whether the content is an OBJECT IDENTIFIER and one primitive value, which may be missing if it isn't `needed`. An AttributeTypeAndValue
@@ -55,11 +38,10 @@ pub(crate) fn type_and_value(bytes: &[u8], needed: bool) -> bool
     requires { length bytes.now ≤ longest }
     ensures { result ≡ true → (needed ≡ false → RowlessFrom (start AlgId) 1 bytes.now) × (needed ≡ true → RowlessFrom (start Attribute) 1 bytes.now) }
 {
-    let x = leading(bytes, OBJECT_IDENTIFIER);
-    let from = x.octets;
-    if from == 0 {
+    let Some(x) = leading(bytes, OBJECT_IDENTIFIER) else {
         return false;
-    }
+    };
+    let from = x.octets;
     let to = from + x.length;
     if !object_identifier(&bytes[from..to]) {
         return false;
@@ -76,10 +58,9 @@ fn primitive(bytes: &[u8]) -> bool
     ensures { result ≡ true → RowlessFrom (suc (start AlgId)) 1 bytes.now × RowlessFrom (suc (start Attribute)) 1 bytes.now }
 {
     let id = bytes[0];
-    let from = sole(bytes, id);
-    if from == 0 {
+    let Some(from) = sole(bytes, id) else {
         return false;
-    }
+    };
     if is_constructed(id) | !is_allowed(id) {
         return false;
     }
@@ -91,8 +72,10 @@ pub(crate) fn rdn(bytes: &[u8]) -> bool
     requires { length bytes.now ≤ longest }
     ensures { result ≡ true → RowlessFrom (start Rdn) 2 bytes.now × ((id : ℕ) → closes id bytes.now ≡ true) }
 {
-    let from = sole(bytes, SEQUENCE);
-    (from != 0) && type_and_value(&bytes[from..], true)
+    let Some(from) = sole(bytes, SEQUENCE) else {
+        return false;
+    };
+    type_and_value(&bytes[from..], true)
 }
 
 // Whether the content is a Name whose RelativeDistinguishedNames have one AttributeTypeAndValue each.
@@ -100,8 +83,10 @@ pub(crate) fn name(bytes: &[u8]) -> bool
     requires { length bytes.now ≤ longest }
     ensures { result ≡ true → RowlessFrom (start OneName) 4 bytes.now }
 {
-    let from = sole(bytes, SEQUENCE);
-    (from != 0) && rdn_sequence(&bytes[from..])
+    let Some(rdns) = sole(bytes, SEQUENCE) else {
+        return false;
+    };
+    rdn_sequence(&bytes[rdns..])
 }
 
 // Whether the content is that of an RDNSequence whose RelativeDistinguishedNames have one AttributeTypeAndValue each.
@@ -109,18 +94,16 @@ fn rdn_sequence(bytes: &[u8]) -> bool
     requires { length bytes.now ≤ longest }
     ensures { result ≡ true → RowlessFrom (start RdnSequence) 3 bytes.now }
 {
-    let mut at = 0;
-    while at < bytes.len() {
-        let x = leading(&bytes[at..], SET);
-        if x.octets == 0 {
+    let mut rest = bytes;
+    while !rest.is_empty() {
+        let Some(x) = leading(rest, SET) else {
+            return false;
+        };
+        let to = x.octets + x.length;
+        if !rdn(&rest[x.octets..to]) {
             return false;
         }
-        let from = at + x.octets;
-        let to = from + x.length;
-        if !rdn(&bytes[from..to]) {
-            return false;
-        }
-        at = to;
+        rest = &rest[to..];
     }
     true
 }
@@ -130,11 +113,10 @@ pub(crate) fn subject_public_key_info(bytes: &[u8]) -> bool
     requires { length bytes.now ≤ longest }
     ensures { result ≡ true → RowlessFrom (start Spki) 2 bytes.now }
 {
-    let x = leading(bytes, SEQUENCE);
-    let from = x.octets;
-    if from == 0 {
+    let Some(x) = leading(bytes, SEQUENCE) else {
         return false;
-    }
+    };
+    let from = x.octets;
     let to = from + x.length;
     if !type_and_value(&bytes[from..to], false) {
         return false;
@@ -147,6 +129,8 @@ fn key_bits(bytes: &[u8]) -> bool
     requires { length bytes.now ≤ longest }
     ensures { result ≡ true → RowlessFrom (suc (start Spki)) 1 bytes.now }
 {
-    let from = sole(bytes, BIT_STRING);
-    (from != 0) && bit_string(&bytes[from..])
+    let Some(from) = sole(bytes, BIT_STRING) else {
+        return false;
+    };
+    bit_string(&bytes[from..])
 }

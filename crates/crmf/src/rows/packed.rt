@@ -1,12 +1,14 @@
 // A batch's rows, each packed into one number: its kind, first byte, whole length and parent's row. specs/steps/rows/Packing.antt has the same
 // names.
-ghost use Rattle.std.specs.Prelude.{◌≡◌, length, take};
+// One number, and no struct of four: two tables of 32,767 rows stand on the stack, and the 600,000 bytes that comparing may take have room for
+// one number a row.
+ghost use Rattle.std.specs.Prelude.{true, ◌≡◌, length, take};
 ghost use Rattle.crmf.specs.meaning.Lists.{over};
 ghost use Rattle.crmf.specs.steps.rows.Fill.{rows_of_input, entry_row};
+ghost use Rattle.crmf.specs.steps.rows.Take.{Writes};
 ghost use Rattle.crmf.specs.steps.rows.Packing.{pack_row, packed_rows, kind_of, first_of, whole_of, parent_of};
 
-use crate::grammar::table;
-use crate::rows::{Entry, walk};
+use crate::rows::{Entry, Taker, walk};
 
 // The room of each field: kinds are below KINDS; places, lengths and row numbers are below PLACES.
 const KINDS: usize = 128;
@@ -25,12 +27,26 @@ const PARENT_WEIGHT: usize = WHOLE_WEIGHT * PLACES;
 pub fn pack(bytes: &[u8], out: &mut [usize])
     ensures { out.new ≡ over out.old 0 (packed_rows (take (length out.old) (rows_of_input bytes.now))) }
 {
-    let table = table::words();
-    walk(bytes, out.len(), true, &table, out);
+    walk(bytes, &Packed, out);
+}
+
+// Writes each row into the table packed into one number, as far as there is room.
+struct Packed;
+
+impl Taker for Packed {
+    ghost takes = { λ s. Writes true };
+
+    fn take(&self, new: Entry, row: usize, out: &mut [usize]) -> bool {
+        if out.len() <= row {
+            return true;
+        }
+        out[row] = number(new);
+        true
+    }
 }
 
 // An entry's row as one number. A field that is too large for its room would be taken modulo it; of a batch's rows none is.
-pub(crate) fn number(new: Entry) -> usize
+fn number(new: Entry) -> usize
     ensures { result ≡ pack_row (entry_row new) }
 {
     new.kind % KINDS
@@ -38,6 +54,8 @@ pub(crate) fn number(new: Entry) -> usize
         + WHOLE_WEIGHT * (new.whole % PLACES)
         + PARENT_WEIGHT * (new.parent % PLACES)
 }
+
+// A function for each field, by its name: one for all would take the weight and the room at every call.
 
 // A packed row's kind.
 pub fn kind(row: usize) -> usize

@@ -8,5 +8,6 @@ pub mod FirstFault
 pub mod SoonestFault
 pub mod OneFault
 pub mod Progress
+pub mod Refusals
 pub mod Steps
 pub mod Vectors

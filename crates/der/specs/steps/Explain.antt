@@ -4,9 +4,8 @@ use Rattle.std.specs.Prelude.{ℕ, zero, suc, ◌+◌, ◌-◌, ◌^◌, ◌≤�
 use Rattle.std.proofs.Math.Seq.{slice}
 use Rattle.der.specs.declared.cause.Cause.{Cause}
 use Rattle.der.specs.declared.cause.Cause.TheVariants.{TooLong, TooDeep, WrongContent}
-use Rattle.der.specs.declared.element.header.Head.TheVariants.{Stands, Broken}
-use Rattle.der.specs.declared.explain.Nest.{Nest}
-use Rattle.der.specs.declared.explain.Nest.TheVariants.{End, Fault}
+use Rattle.der.specs.steps.Head.{Stands, Broken}
+use Rattle.der.specs.steps.Nest.{Nest, End, Fault}
 use Rattle.der.specs.meaning.Bounds.{depth, longest}
 use Rattle.der.specs.steps.Cause.{cause_number, cause_detail}
 use Rattle.der.specs.meaning.Identifier.{tag_number, constructed}

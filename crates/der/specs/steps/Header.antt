@@ -2,8 +2,7 @@
 use Rattle.std.specs.Prelude.{ℕ, suc, ◌+◌, true, false, List, [], ◌∷◌, leb, length}
 use Rattle.der.specs.declared.cause.Cause.{Cause}
 use Rattle.der.specs.declared.cause.Cause.TheVariants.{NoIdentifier, WrongIdentifier, NoLength, WrongLength, PastEnd}
-use Rattle.der.specs.declared.element.header.Head.{Head}
-use Rattle.der.specs.declared.element.header.Head.TheVariants.{Stands, Broken}
+use Rattle.der.specs.steps.Head.{Head, Stands, Broken}
 use Rattle.der.specs.meaning.Identifier.{allowed}
 use Rattle.der.specs.meaning.Length.{Length, missing, wrong, octets, length_of}
 

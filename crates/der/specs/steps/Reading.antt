@@ -1,8 +1,7 @@
 -- The tree that any octets are read as, well-formed or not, for the layers above. If there is no element, an empty one is read. Assumes nothing.
 use Rattle.std.specs.Prelude.{ℕ, zero, suc, ◌+◌, ◌-◌, true, false, List, [], ◌∷◌, leb, length, drop}
 use Rattle.std.proofs.Math.Seq.{slice}
-use Rattle.der.specs.declared.element.header.Head.{Head}
-use Rattle.der.specs.declared.element.header.Head.TheVariants.{Stands, Broken}
+use Rattle.der.specs.steps.Head.{Head, Stands, Broken}
 use Rattle.der.specs.declared.element.reading.Element.{Element}
 use Rattle.der.specs.meaning.Identifier.{constructed}
 use Rattle.der.specs.steps.Header.{head_of}

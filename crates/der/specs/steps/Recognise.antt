@@ -1,8 +1,7 @@
 -- What the recogniser decides, by the walk over the nest: whether octets are a list of elements, and an identifier and a content one element,
 -- without a fault. Assumes nothing.
 use Rattle.std.specs.Prelude.{ℕ, Bool, true, false, ◌&&◌, List, leb, length}
-use Rattle.der.specs.declared.explain.Nest.{Nest}
-use Rattle.der.specs.declared.explain.Nest.TheVariants.{End, Fault}
+use Rattle.der.specs.steps.Nest.{Nest, End, Fault}
 use Rattle.der.specs.meaning.Identifier.{allowed, constructed}
 use Rattle.der.specs.steps.ContentTest.{holds}
 use Rattle.der.specs.steps.Order.{closes}

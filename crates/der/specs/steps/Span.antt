@@ -1,6 +1,6 @@
 -- An element's length octets (X.690 8.1.3, 10.1) by themselves, whatever its identifier is: how many octets come before its content, and how
 -- many are its content. Assumes nothing.
-use Rattle.std.specs.Prelude.{ℕ, suc, ◌+◌, true, false, ◌&&◌, List, [], ◌∷◌, leb, length}
+use Rattle.std.specs.Prelude.{ℕ, suc, ◌+◌, true, false, ◌&&◌, List, [], ◌∷◌, Option, None, Some, leb, eqb, length}
 use Rattle.der.specs.declared.element.length.Span.{Span}
 use Rattle.der.specs.meaning.Length.{Length, missing, wrong, octets, length_of}
 
@@ -22,3 +22,7 @@ span_by room (octets k n) = elim (leb k 3 && leb (k + n) room) [ true ↦ record
 unfoldable pub span_of : List ℕ → Span
 span_of [] = no_span
 span_of (id ∷ bs) = span_by (length bs) (length_of bs)
+
+-- the code's answer: a span, if there is one
+abbrev pub found_span : Span → Option Span
+found_span x = elim (eqb x.octets 0) [ true ↦ None | false ↦ Some x ]

@@ -1,7 +1,6 @@
 -- The check of UTF-8 by classes of octets, as code makes it. Assumes nothing.
-use Rattle.std.specs.Prelude.{ℕ, zero, suc, ◌+◌, ◌*◌, ◌<◌, Bool, true, false, ◌&&◌, ◌||◌, List, [], ◌∷◌, ◌≡◌, leb, eqb, get_or}
-use Rattle.der.specs.declared.content.utf8.OctetStep.{OctetStep}
-use Rattle.der.specs.declared.content.utf8.OctetStep.TheVariants.{Next, Stop}
+use Rattle.std.specs.Prelude.{ℕ, zero, suc, ◌+◌, ◌*◌, ◌<◌, Bool, true, false, ◌&&◌, ◌||◌, List, [], ◌∷◌, Option, None, Some, ◌≡◌, leb, eqb, get_or}
+use Rattle.der.specs.declared.content.utf8.Tails.{Tails}
 
 -- lo to hi, as a test
 abbrev pub in_range : ℕ → ℕ → ℕ → Bool
@@ -86,9 +85,9 @@ pub record Classes (table : List ℕ) : Type 0 where
   pub entry : (b : ℕ) → b < 256 → get_or table b 0 ≡ class_of b
 
 -- the check of the octets after the step that one octet makes
-abbrev pub after_step : OctetStep → List ℕ → Bool
-after_step (Next left low high) bs = utf8_from left low high bs
-after_step Stop bs = false
+abbrev pub after_step : Option Tails → List ℕ → Bool
+after_step (Some wanted) bs = utf8_from wanted.left wanted.low wanted.high bs
+after_step None bs = false
 
 -- n octets as one number, the first the least significant
 unfoldable pub little_endian : ℕ → (ℕ → ℕ) → ℕ

@@ -1,4 +1,5 @@
-// The classes of octets that the productions of UTF-8 (RFC 3629) tell apart.
+// The classes of octets that the productions of UTF-8 (RFC 3629) tell apart. They are numbers and no enum: the tails that a lead asks for are
+// a range of classes, and the table of all 256 octets has a digit or two for each, where an enum would have a name.
 
 // 00 to 7F: a whole character.
 pub(crate) const WHOLE: u8 = 0;

@@ -1,42 +1,38 @@
 // The header of an element: its identifier and length octets.
 ghost use Rattle.std.specs.Prelude.{◌≡◌, ◌≤◌, length};
 ghost use Rattle.der.specs.meaning.Bounds.{longest};
+ghost use Rattle.der.specs.steps.Head.{head_from};
 ghost use Rattle.der.specs.steps.Header.{cause_of, head_of};
 
 use crate::cause::Cause;
 use crate::element::identifier::is_allowed;
-use crate::element::length::{measure, wide};
+use crate::element::length::measure;
 
-// What is read at the start of the octets from an element's first byte to its parent's end.
+// The header of an element: its identifier, how many octets the header has, and how many the content after it, which ends no later than the
+// parent.
 #[derive(Clone, Copy)]
-pub enum Head {
-    // A header of `octets` bytes, and after it a content of `length` bytes, which ends no later than the parent.
-    Stands {
-        identifier: u8,
-        octets: usize,
-        length: usize,
-    },
-    // No element, and why.
-    Broken(Cause),
+pub struct Header {
+    pub identifier: u8,
+    pub octets: usize,
+    pub length: usize,
 }
 
 // Reads the header at the start of bytes that end with the element's parent, or answers why there is none.
-pub(crate) fn read(bytes: &[u8]) -> Head
+pub(crate) fn read(bytes: &[u8]) -> Result<Header, Cause>
     requires { length bytes.now ≤ longest }
-    ensures { result ≡ head_of bytes.now }
+    ensures { head_from result ≡ head_of bytes.now }
 {
-    let x = measure(bytes);
-    if x.octets != 0 {
-        let id = bytes[0];
-        if is_allowed(id) {
-            return Head::Stands {
-                identifier: id,
-                octets: x.octets,
-                length: x.length,
-            };
+    if let Some(span) = measure(bytes) {
+        let identifier = bytes[0];
+        if is_allowed(identifier) {
+            return Ok(Header {
+                identifier,
+                octets: span.octets,
+                length: span.length,
+            });
         }
     }
-    Head::Broken(cause_of(bytes))
+    Err(cause_of(bytes))
 }
 
 // The cause for bytes that begin with no element: what is missing or wrong first, in document 01's order. It decodes no length: a length in
@@ -44,7 +40,7 @@ pub(crate) fn read(bytes: &[u8]) -> Head
 fn cause_of(bytes: &[u8]) -> Cause
     ensures { result ≡ cause_of bytes.now }
 {
-    if bytes.len() == 0 {
+    if bytes.is_empty() {
         return Cause::NoIdentifier;
     }
     if !is_allowed(bytes[0]) {
@@ -62,7 +58,7 @@ fn cause_of(bytes: &[u8]) -> Cause
     if (first == 0x80) | (first == 0xFF) {
         return Cause::WrongLength;
     }
-    let count = wide(first - 0x80);
+    let count = (first - 0x80) as usize;
     if bytes.len() - 2 < count {
         return Cause::NoLength;
     }

@@ -2,7 +2,7 @@
 ghost use Rattle.std.specs.Prelude.{◌≡◌};
 ghost use Rattle.der.specs.meaning.Identifier.{constructed, allowed};
 
-// The identifiers of the primitive types with a content rule.
+// The identifiers of the primitive types with a content rule. They are octets and no enum: an input may have any octet in their place.
 pub const BOOLEAN: u8 = 0x01;
 
 pub const INTEGER: u8 = 0x02;

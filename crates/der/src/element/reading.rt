@@ -16,7 +16,8 @@ pub struct Element {
 }
 
 // Reads the element at `at` in a parent that ends at `end`. If there is none, the answer has the identifier 0 and an empty content at the
-// end. An input longer than LONGEST has none: the empty content is at `at`.
+// end. An input longer than LONGEST has none: the empty content is at `at`. No Option: a walk goes on from the end that the answer has without
+// an element too.
 pub fn read_at(bytes: &[u8], at: usize, end: usize) -> Element
     ensures { result ≡ reading_at bytes.now at end }
 {
@@ -24,14 +25,13 @@ pub fn read_at(bytes: &[u8], at: usize, end: usize) -> Element
         return nothing_at(at);
     }
     let inside = between(bytes, at, end);
-    let x = measure(inside);
-    if x.octets != 0 {
-        let id = inside[0];
-        if is_allowed(id) {
+    if let Some(span) = measure(inside) {
+        let identifier = inside[0];
+        if is_allowed(identifier) {
             return Element {
-                identifier: id,
-                content: at + x.octets,
-                end: at + x.octets + x.length,
+                identifier,
+                content: at + span.octets,
+                end: at + span.octets + span.length,
             };
         }
     }

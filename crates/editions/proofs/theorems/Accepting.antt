@@ -16,9 +16,8 @@ use Rattle.der.specs.meaning.Tree.{Tree, WellFormed, Single, encode}
 use Rattle.der.specs.meaning.Bounds.{depth, longest}
 use Rattle.der.specs.steps.Reading.{tree}
 use Rattle.der.proofs.Laws.{walk_tree, exact}
-use Rattle.crmf.specs.declared.explain.tally.Tally.{Tally}
-use Rattle.crmf.specs.declared.explain.Walked.{Walked}
-use Rattle.crmf.specs.declared.explain.Walked.TheVariants.{Passed, Broken}
+use Rattle.crmf.specs.steps.explain.Tally.{Tally}
+use Rattle.crmf.specs.steps.explain.Walk.{Walked, Passed, Broken}
 use Rattle.crmf.specs.meaning.Notation.{Top}
 use Rattle.crmf.specs.meaning.Grammar.{content}
 use Rattle.crmf.specs.meaning.Language.{Matches}
@@ -27,7 +26,7 @@ use Rattle.crmf.specs.meaning.Rows.{Row, width, batch_rows, all_short}
 use Rattle.crmf.specs.steps.explain.LongIds.{first_long}
 use Rattle.crmf.specs.steps.rows.Fill.{fits, rows_of_input}
 use Rattle.crmf.proofs.Laws.{Edition, first_edition, second_edition, accepts, rows_of, long_none, read_back, Holds, over_holds, fits_room}
-use Rattle.editions.specs.declared.reader.Answer.{Answer}
+use Rattle.editions.specs.meaning.Answer.{Answer}
 use Rattle.editions.specs.meaning.Membership.{InGrammar}
 use Rattle.editions.specs.meaning.Edition.{opposite}
 use Rattle.editions.specs.steps.Reading.{refusal, accepted, own_walk, walk_passes, eight_or_nine, long_id_or_accepted, batch_answer, answer, read_answer, table_after}

@@ -3,42 +3,59 @@ use Prim.Native.Nat.{ℕ, ◌≤◌, ◌<◌}
 use mathlib.Core.Path.{◌≡◌, refl, sym, ap, ◌∙◌}
 use mathlib.Core.Bool.{Bool, true, false, not, ◌&&◌, ◌||◌}
 use mathlib.Core.List.{List}
+use Rattle.std.specs.Prelude.{Option, Some, None, is_none, unwrap_or}
+use Rattle.std.proofs.lemmas.Option.{none-some, same_Some}
 use lib.Dec.{eqb}
 use lib.ListN.{length}
 use borrow.Author.Tests.{eqb-true, eqb-false, eq-eqb, ne_eqb, lt-ltb, le-ltb, le-leb, lt-leb}
 use native.Mathlib.Omega.{arith}
 use Rattle.der.specs.meaning.Refusal.{long_cert_req_id, not_in_grammar, too_long_number, trailing_bytes, unknown_edition_number}
-use Rattle.der.specs.declared.explain.Nest.TheVariants.{End, Fault}
+use Rattle.der.specs.steps.Nest.{End, Fault}
 use Rattle.der.specs.meaning.Bounds.{longest}
 use Rattle.der.specs.steps.Explain.{walk_at}
-use Rattle.crmf.specs.declared.explain.tally.Tally.{Tally}
-use Rattle.editions.specs.declared.reader.Answer.{Answer}
+use Rattle.crmf.specs.steps.explain.Tally.{Tally}
+use Rattle.editions.specs.meaning.Answer.{Answer}
 use Rattle.editions.specs.meaning.Edition.{opposite}
 use Rattle.editions.specs.steps.Reading.{refusal, accepted, batch_answer, answer}
-use Rattle.editions.specs.steps.OneWalk.{form_of, stop_number, passed_answer, broken_answer}
+use Rattle.editions.specs.steps.OneWalk.{form_of, first_form, stop_number, passed_answer, broken_answer}
 
--- the first form of edition 1 alone that was met, or of edition 2 alone
+-- what the place of the first form of an edition alone says of the form
 module _ (e : ℕ) (s : Tally) where
-  pub form_one : e ≡ 1 → form_of e s ≡ (s.one.number, s.one.place)
-  form_one is = rw is
+  pub met : (q : ℕ) → first_form e s ≡ Some q → ((form_of e s).0 ≡ 0 → ⊥) × (q ≡ (form_of e s).1)
+  met q = go (eqb (form_of e s).0 0) refl
+    where
+      go : (b : Bool) → eqb (form_of e s).0 0 ≡ b → elim b as (λ x. Option ℕ) [ true ↦ None | false ↦ Some (form_of e s).1 ] ≡ Some q
+          → ((form_of e s).0 ≡ 0 → ⊥) × (q ≡ (form_of e s).1)
+      go true test is = absurd (none-some q is)
+      go false test is = (eqb-false _ _ test, sym (same_Some _ _ is))
 
-  pub form_two : (e ≡ 1 → ⊥) → form_of e s ≡ (s.two.number, s.two.place)
-  form_two not-one = rw (form_of, ne_eqb e 1 not-one)
+  pub unmet : first_form e s ≡ None → (form_of e s).0 ≡ 0
+  unmet = go (eqb (form_of e s).0 0) refl
+    where
+      go : (b : Bool) → eqb (form_of e s).0 0 ≡ b → elim b as (λ x. Option ℕ) [ true ↦ None | false ↦ Some (form_of e s).1 ] ≡ None
+          → (form_of e s).0 ≡ 0
+      go true test is = eqb-true _ _ test
+      go false test is = absurd (none-some _ (sym is))
+
+  pub none_met : is_none (first_form e s) ≡ eqb (form_of e s).0 0
+  none_met = go (eqb (form_of e s).0 0)
+    where
+      go : (b : Bool) → is_none (elim b as (λ x. Option ℕ) [ true ↦ None | false ↦ Some (form_of e s).1 ]) ≡ b
+      go true = refl
+      go false = refl
+
+-- the walk breaks: at the opposite edition's first form before the break, or at the break
+pub broken_at : (e p : ℕ) (s : Tally) → refusal not_in_grammar (unwrap_or (first_form (opposite e) s) p) ≡ broken_answer e p s
+unfolding broken_answer
+broken_at e p s = go (eqb (form_of (opposite e) s).0 0)
+  where
+    go : (b : Bool) → refusal not_in_grammar (unwrap_or (elim b as (λ x. Option ℕ) [ true ↦ None | false ↦ Some (form_of (opposite e) s).1 ]) p)
+        ≡ refusal not_in_grammar (elim b as (λ x. ℕ) [ true ↦ p | false ↦ (form_of (opposite e) s).1 ])
+    go true = refl
+    go false = refl
 
 -- by the difference d and the place q of the opposite edition's first form that was met
 module _ (e d q : ℕ) (s : Tally) (difference : d ≡ (form_of (opposite e) s).0) (place : q ≡ (form_of (opposite e) s).1) where
-  pub broken_before : (p : ℕ) → (d ≡ 0 → ⊥) → refusal not_in_grammar q ≡ broken_answer e p s
-  unfolding broken_answer
-  broken_before p some =
-      let test : eqb (form_of (opposite e) s).0 0 ≡ false = ne_eqb _ _ (λ z. some (difference ∙ z)) in
-      rw (broken_answer, test, place)
-
-  pub broken_there : (p : ℕ) → d ≡ 0 → refusal not_in_grammar p ≡ broken_answer e p s
-  unfolding broken_answer
-  broken_there p none =
-      let test : eqb (form_of (opposite e) s).0 0 ≡ true = eq-eqb _ _ (sym difference ∙ none) in
-      rw (broken_answer, test)
-
   pub passed_foreign : (own : ℕ) → own ≡ (form_of e s).0 → (d ≡ 0 → ⊥) → refusal (stop_number own) q ≡ passed_answer e s
   unfolding passed_answer
   passed_foreign own is some =
@@ -67,15 +84,6 @@ either : (a b : Bool) → (not a && not b) ≡ false → (a || b) ≡ true
 either false false t = sym t
 either false true t = refl
 either true b t = refl
-
--- a number from 1 to 2 is an edition
-pub an_edition : (e : ℕ) → (1 ≤ e) × (e ≤ 2) → (not (eqb e 1) && not (eqb e 2)) ≡ false
-an_edition e range = go (eqb e 1) refl (eqb e 2) refl
-  where
-    go : (a : Bool) → eqb e 1 ≡ a → (b : Bool) → eqb e 2 ≡ b → (not (eqb e 1) && not (eqb e 2)) ≡ false
-    go true one b is = rw one
-    go false more true two = rw (more, two)
-    go false more false other = absurd (omega (arith, range, eqb-false e 1 more, eqb-false e 2 other))
 
 -- the answer by the order of the refusals
 module _ (e : ℕ) (s : List ℕ) where

@@ -10,8 +10,7 @@ use lib.Dec.{eqb, ltb, leb}
 use lib.ListN.{length, take, drop, length-append, length-drop, take-append-drop}
 use lib.Seq.{take_at, take_all, length-take-le}
 use borrow.Author.Tests.{ltb-true, ltb-false, leb-true, leb-false}
-use Rattle.der.specs.declared.explain.Nest.{Nest}
-use Rattle.der.specs.declared.explain.Nest.TheVariants.{End, Fault}
+use Rattle.der.specs.steps.Nest.{Nest, End, Fault}
 use Rattle.der.specs.meaning.Bounds.{depth, longest}
 use Rattle.der.specs.meaning.Octets.{Octets}
 use Rattle.der.specs.meaning.Refusal.{accepted as acceptance, trailing_bytes, not_in_grammar, other_edition, long_cert_req_id, too_long_number, unknown_edition_number}
@@ -19,16 +18,15 @@ use Rattle.der.specs.meaning.Tree.{WellFormed, Single, encode}
 use Rattle.der.specs.steps.Explain.{walk_at}
 use Rattle.der.specs.steps.Reading.{tree}
 use Rattle.der.proofs.Laws.{exact, Checked, walk_tree, walk_fault, first_number}
-use Rattle.crmf.specs.declared.explain.tally.Tally.{Tally}
-use Rattle.crmf.specs.declared.explain.Walked.{Walked}
-use Rattle.crmf.specs.declared.explain.Walked.TheVariants.{Passed, Broken}
+use Rattle.crmf.specs.steps.explain.Tally.{Tally}
+use Rattle.crmf.specs.steps.explain.Walk.{Walked, Passed, Broken}
 use Rattle.crmf.specs.meaning.Edition.{Edition}
 use Rattle.crmf.specs.meaning.Notation.{Top}
 use Rattle.crmf.specs.meaning.Rows.{Row, batch_rows, all_short, FirstLongId}
 use Rattle.crmf.specs.steps.explain.LongIds.{first_long}
 use Rattle.crmf.specs.steps.explain.Walk.{empty_tally}
 use Rattle.crmf.proofs.Laws.{read_back, long_none, long_exactly, short_none, stops_exactly}
-use Rattle.editions.specs.declared.reader.Answer.{Answer}
+use Rattle.editions.specs.meaning.Answer.{Answer}
 use Rattle.editions.specs.meaning.Edition.{opposite}
 use Rattle.editions.specs.meaning.Membership.{InGrammar}
 use Rattle.editions.specs.meaning.Answers.{ReadingStops, ShortIds, Answers, unknown, long, fault, trailing, neither, other, long_id, accept, Reason, nest, grammar}

@@ -12,7 +12,7 @@ use Rattle.der.specs.meaning.Refusal.{accepted, other_edition}
 use Rattle.crmf.specs.meaning.Edition.{Edition}
 use Rattle.crmf.specs.meaning.Rows.{Row, width, batch_rows, RightContent, Holds}
 use Rattle.crmf.proofs.Laws.{row_content_lem, short_none}
-use Rattle.editions.specs.declared.reader.Answer.{Answer}
+use Rattle.editions.specs.meaning.Answer.{Answer}
 use Rattle.editions.specs.meaning.Edition.{opposite}
 use Rattle.editions.specs.meaning.Membership.{InGrammar, Difference, FirstDifference}
 use Rattle.editions.specs.meaning.Answers.{ShortIds, Answers, accept}

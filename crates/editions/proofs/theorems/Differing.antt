@@ -14,9 +14,8 @@ use Rattle.der.specs.meaning.Octets.{Octets}
 use Rattle.der.specs.meaning.Tree.{encode}
 use Rattle.der.specs.meaning.Bounds.{depth}
 use Rattle.der.specs.steps.Reading.{tree}
-use Rattle.crmf.specs.declared.explain.tally.Tally.{Tally}
-use Rattle.crmf.specs.declared.explain.Walked.{Walked}
-use Rattle.crmf.specs.declared.explain.Walked.TheVariants.{Passed, Broken}
+use Rattle.crmf.specs.steps.explain.Tally.{Tally}
+use Rattle.crmf.specs.steps.explain.Walk.{Walked, Passed, Broken}
 use Rattle.crmf.specs.meaning.Notation.{Top}
 use Rattle.crmf.specs.meaning.Language.{Occurrence, occurrences}
 use Rattle.crmf.specs.steps.grammar.Lines.{start}
@@ -25,7 +24,7 @@ use Rattle.crmf.specs.meaning.Rows.{width, numbers}
 use Rattle.crmf.specs.steps.explain.LongIds.{first_long}
 use Rattle.crmf.specs.steps.rows.Fill.{fits, rows_of_input}
 use Rattle.crmf.proofs.Laws.{Edition, accepts, trail_occurrences, Ascends, ascends_least, occurrences_ascend, StopsAt, other_walk, fits_room}
-use Rattle.editions.specs.declared.reader.Answer.{Answer}
+use Rattle.editions.specs.meaning.Answer.{Answer}
 use Rattle.editions.specs.meaning.Membership.{InGrammar, Difference, FirstDifference}
 use Rattle.editions.specs.meaning.Edition.{opposite}
 use Rattle.editions.specs.steps.Reading.{refusal, accepted, own_walk, walk_passes, eight_or_nine, long_id_or_accepted, batch_answer, answer, read_answer, table_after}

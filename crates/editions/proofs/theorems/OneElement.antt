@@ -7,14 +7,13 @@ use mathlib.Core.List.{List}
 use lib.Dec.{eqb, ltb, leb}
 use lib.ListN.{length}
 use borrow.Author.Tests.{ltb-true, ltb-false, leb-true, leb-false}
-use Rattle.der.specs.declared.explain.Nest.{Nest}
-use Rattle.der.specs.declared.explain.Nest.TheVariants.{End, Fault}
+use Rattle.der.specs.steps.Nest.{Nest, End, Fault}
 use Rattle.der.specs.meaning.Octets.{Octets}
 use Rattle.der.specs.meaning.Bounds.{longest}
 use Rattle.der.specs.steps.Explain.{walk_at}
 use Rattle.der.proofs.Laws.{fault_number}
 use Rattle.crmf.proofs.Laws.{Edition}
-use Rattle.editions.specs.declared.reader.Answer.{Answer}
+use Rattle.editions.specs.meaning.Answer.{Answer}
 use Rattle.editions.specs.steps.Reading.{batch_answer, answer}
 use Rattle.editions.proofs.theorems.Answers.{no_edition, in_range, too_long, nest_fault, bytes_after, one_element}
 use Rattle.editions.proofs.theorems.OneWalk.{edition}

@@ -13,7 +13,7 @@ use Rattle.crmf.specs.meaning.Lists.{over}
 use Rattle.crmf.specs.meaning.Rows.{Row, width, numbers, batch_rows}
 use Rattle.crmf.specs.steps.rows.Fill.{fits}
 use Rattle.crmf.proofs.Laws.{fits_room, filled_short}
-use Rattle.editions.specs.declared.reader.Answer.{Answer}
+use Rattle.editions.specs.meaning.Answer.{Answer}
 use Rattle.editions.specs.meaning.Membership.{InGrammar}
 use Rattle.editions.specs.meaning.Answers.{Answers}
 use Rattle.editions.specs.meaning.Reads.{Reads, refused, too_short, shown}

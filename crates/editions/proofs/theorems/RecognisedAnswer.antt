@@ -1,5 +1,5 @@
 -- The answer by the recogniser: acceptance exactly of what it recognises, with the rows it counts. Assumes nothing.
-use Prim.Native.Nat.{ℕ, ◌*◌, ◌≤◌, ◌<◌}
+use Prim.Native.Nat.{ℕ}
 use native.Mathlib.Omega.{arith}
 use mathlib.Core.Logic.{◌↔◌}
 use mathlib.Core.Path.{◌≡◌, refl, sym, ap, ◌∙◌}
@@ -7,28 +7,26 @@ use mathlib.Core.Bool.{Bool, true, false, not, ◌&&◌}
 use mathlib.Core.List.{List}
 use lib.Dec.{eqb}
 use lib.ListN.{length}
-use borrow.Author.Tests.{eqb-true, le-leb, lt-leb}
-use Rattle.der.specs.meaning.Refusal.{accepted as acceptance, no_room_number, unknown_edition_number}
-use Rattle.der.specs.declared.explain.Nest.TheVariants.{End}
+use borrow.Author.Tests.{eqb-true}
+use Rattle.der.specs.meaning.Refusal.{accepted as acceptance}
+use Rattle.der.specs.steps.Nest.{End}
 use Rattle.der.specs.meaning.Octets.{Octets}
 use Rattle.der.proofs.Laws.{walk_tree}
-use Rattle.crmf.specs.declared.recognise.Recognition.{Recognition}
-use Rattle.crmf.specs.declared.recognise.Recognition.TheVariants.{Rows, Unrecognised}
-use Rattle.crmf.specs.meaning.Rows.{width}
+use Rattle.std.specs.Prelude.{Option, Some, None}
 use Rattle.crmf.specs.steps.rows.Fill.{fits}
 use Rattle.crmf.specs.steps.recognise.Count.{recognised, recognised_table}
 use Rattle.crmf.proofs.Laws.{not_recognised, recognised_walk, walk_recognised, recognised_fills, fits_room}
-use Rattle.editions.specs.declared.reader.Answer.{Answer}
-use Rattle.editions.specs.steps.Reading.{refusal, accepted, answer, read_answer, table_after}
+use Rattle.editions.specs.meaning.Answer.{Answer}
+use Rattle.editions.specs.steps.Reading.{accepted, answer, read_answer, table_after}
 use Rattle.editions.specs.steps.OneWalk.{shown_answer}
-use Rattle.editions.proofs.theorems.Answers.{no_edition, in_range, passed_accepted, one_element}
+use Rattle.editions.proofs.theorems.Answers.{in_range, passed_accepted, one_element}
 use Rattle.editions.proofs.theorems.Accepting.{batch_inverse}
 use Rattle.editions.proofs.theorems.OneElement.{late_accepted, one_whole}
 use Rattle.editions.proofs.theorems.OneWalk.{edition, batch_passed}
-use Rattle.editions.proofs.theorems.Tables.{read_refused, read_short, read_accepted}
+use Rattle.editions.proofs.theorems.Tables.{read_short, read_accepted}
 
 -- An input that is recognised with n rows is accepted with them.
-pub recognised_accepted : (e : ℕ) (s : List ℕ) → (not (eqb e 1) && not (eqb e 2)) ≡ false → (n : ℕ) → recognised e s ≡ Rows n → accepted n ≡ answer e s
+pub recognised_accepted : (e : ℕ) (s : List ℕ) → (not (eqb e 1) && not (eqb e 2)) ≡ false → (n : ℕ) → recognised e s ≡ Some n → accepted n ≡ answer e s
 recognised_accepted e s known n is =
     let ed = edition e (in_range e s known).0 (in_range e s known).1 in
     let q = recognised_walk ed s n is in
@@ -37,7 +35,7 @@ recognised_accepted e s known n is =
     ∙ one_element e s known q.fits (length s) q.ends (omega arith)
 
 -- An input that isn't recognised is not accepted.
-pub unrecognised_refused : (e : ℕ) (s : List ℕ) → Octets s → recognised e s ≡ Unrecognised → (answer e s).number ≡ acceptance → ⊥
+pub unrecognised_refused : (e : ℕ) (s : List ℕ) → Octets s → recognised e s ≡ None → (answer e s).number ≡ acceptance → ⊥
 unrecognised_refused e s octets none zero =
     let one = one_whole e s octets (late_accepted zero) in
     let (r, (passed, fit)) = batch_inverse e s (ap (λ (a : Answer). a.number) (sym one.same) ∙ zero) in
@@ -48,22 +46,15 @@ unrecognised_refused e s octets none zero =
 
 -- An input is recognised with n rows exactly if it is accepted with n rows.
 pub recognised_exactly : (e : ℕ) (s : List ℕ) → (not (eqb e 1) && not (eqb e 2)) ≡ false → Octets s → (n : ℕ)
-    → (recognised e s ≡ Rows n) ↔ (answer e s ≡ accepted n)
+    → (recognised e s ≡ Some n) ↔ (answer e s ≡ accepted n)
 recognised_exactly e s known octets n = (λ is. sym (recognised_accepted e s known n is), back (recognised e s) refl)
   where
-    back : (r : Recognition) → recognised e s ≡ r → answer e s ≡ accepted n → recognised e s ≡ Rows n
-    back Unrecognised none is = absurd (unrecognised_refused e s octets none (ap (λ (a : Answer). a.number) is))
-    back (Rows m) some is = some ∙ ap Rows (ap (λ (a : Answer). a.count) (recognised_accepted e s known m some ∙ is))
-
--- a table has room for n rows, or not
-pub shown_whole : (n room : ℕ) → width * n ≤ room → accepted n ≡ shown_answer n room
-shown_whole n room enough = rw (shown_answer, le-leb _ _ enough)
-
-pub shown_short : (n room : ℕ) → room < width * n → refusal no_room_number 0 ≡ shown_answer n room
-shown_short n room few = rw (shown_answer, lt-leb _ _ few)
+    back : (r : Option ℕ) → recognised e s ≡ r → answer e s ≡ accepted n → recognised e s ≡ Some n
+    back None none is = absurd (unrecognised_refused e s octets none (ap (λ (a : Answer). a.number) is))
+    back (Some m) some is = some ∙ ap Some (ap (λ (a : Answer). a.count) (recognised_accepted e s known m some ∙ is))
 
 -- The answer and the table of reading an input that is recognised.
-pub recognised_shown : (e : ℕ) (s old : List ℕ) → Octets s → (not (eqb e 1) && not (eqb e 2)) ≡ false → (n : ℕ) → recognised e s ≡ Rows n
+pub recognised_shown : (e : ℕ) (s old : List ℕ) → Octets s → (not (eqb e 1) && not (eqb e 2)) ≡ false → (n : ℕ) → recognised e s ≡ Some n
     → (shown_answer n (length old) ≡ read_answer e s old) × (recognised_table e s old ≡ table_after e s old)
 recognised_shown e s old octets known n is = go (fits n old) refl
   where
@@ -77,7 +68,3 @@ recognised_shown e s old octets known n is = go (fits n old) refl
     go false few =
         let (answered, after) = read_short e s old (accepted n) same refl few in
         (rw (shown_answer, sym (fits_room n old) ∙ few) answered, sym (recognised_fills e s old n is) ∙ after)
-
--- a number that is no edition is refused, and the table stays
-pub refused_thirteen : (e : ℕ) (s old : List ℕ) → (not (eqb e 1) && not (eqb e 2)) ≡ true → (refusal unknown_edition_number 0 ≡ read_answer e s old) × (old ≡ table_after e s old)
-refused_thirteen e s old test = read_refused e s old (refusal unknown_edition_number 0) (no_edition e s test) (λ z. absurd (omega (arith, z)))

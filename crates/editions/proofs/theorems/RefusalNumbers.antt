@@ -8,18 +8,16 @@ use lib.Dec.{eqb, leb, ltb}
 use lib.ListN.{length}
 use borrow.Author.Tests.{leb-true}
 use Rattle.der.specs.meaning.Refusal.{long_cert_req_id, too_long_number, trailing_bytes, unknown_edition_number}
-use Rattle.der.specs.declared.explain.Nest.{Nest}
-use Rattle.der.specs.declared.explain.Nest.TheVariants.{End, Fault}
+use Rattle.der.specs.steps.Nest.{Nest, End, Fault}
 use Rattle.der.specs.meaning.Octets.{Octets}
 use Rattle.der.specs.meaning.Bounds.{longest}
 use Rattle.der.specs.steps.Explain.{walk_at}
 use Rattle.der.specs.steps.Reading.{tree}
 use Rattle.der.proofs.Laws.{fault_number}
-use Rattle.crmf.specs.declared.explain.Walked.{Walked}
-use Rattle.crmf.specs.declared.explain.Walked.TheVariants.{Passed, Broken}
+use Rattle.crmf.specs.steps.explain.Walk.{Walked, Passed, Broken}
 use Rattle.crmf.specs.steps.explain.LongIds.{first_long}
 use Rattle.crmf.specs.steps.rows.Fill.{rows_of_input}
-use Rattle.editions.specs.declared.reader.Answer.{Answer}
+use Rattle.editions.specs.meaning.Answer.{Answer}
 use Rattle.editions.specs.meaning.Edition.{opposite}
 use Rattle.editions.specs.steps.Reading.{refusal, accepted, own_walk, walk_passes, eight_or_nine, stopped, long_id_or_accepted, batch_answer, answer}
 

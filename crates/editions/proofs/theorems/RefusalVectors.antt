@@ -29,7 +29,7 @@ use Rattle.crmf.specs.steps.grammar.Lines.{part_size, size, starts_from, start, 
 use Rattle.crmf.specs.steps.explain.Walk.{line, find_line_in, find_line, closed_in, closed, judged, with_form, with_long_id, with_element, walk, empty_tally}
 use Rattle.crmf.specs.steps.explain.LongIds.{first_long}
 use Rattle.crmf.specs.steps.rows.Fill.{goes, rows_from, rows_of_input}
-use Rattle.editions.specs.declared.reader.Answer.{Answer}
+use Rattle.editions.specs.meaning.Answer.{Answer}
 use Rattle.editions.specs.meaning.Answers.{Answers, Reason}
 use Rattle.editions.specs.steps.Reading.{batch_answer, answer}
 use Rattle.editions.specs.examples.Refusals.{Refusal, Refused, Answered, explained, templates, validities, told}

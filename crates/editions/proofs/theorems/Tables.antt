@@ -10,14 +10,13 @@ use borrow.Author.Tests.{eqb-true, eqb-false, eq-eqb, ne_eqb}
 use Rattle.der.specs.meaning.Refusal.{accepted as acceptance, long_cert_req_id, no_room_number}
 use Rattle.der.specs.meaning.Octets.{Octets}
 use Rattle.der.specs.steps.Reading.{tree}
-use Rattle.crmf.specs.declared.explain.Walked.{Walked}
-use Rattle.crmf.specs.declared.explain.Walked.TheVariants.{Passed, Broken}
+use Rattle.crmf.specs.steps.explain.Walk.{Walked, Passed, Broken}
 use Rattle.crmf.specs.meaning.Rows.{numbers}
 use Rattle.crmf.specs.steps.explain.LongIds.{first_long}
 use Rattle.crmf.specs.steps.rows.Fill.{fits, rows_of_input, filled}
 use Rattle.crmf.specs.meaning.Lists.{over}
 use Rattle.crmf.proofs.Laws.{filled_whole, filled_short}
-use Rattle.editions.specs.declared.reader.Answer.{Answer}
+use Rattle.editions.specs.meaning.Answer.{Answer}
 use Rattle.editions.specs.meaning.Edition.{opposite}
 use Rattle.editions.specs.steps.Reading.{refusal, accepted, own_walk, walk_passes, eight_or_nine, long_id_or_accepted, batch_answer, answer, read_answer, table_after}
 use Rattle.editions.proofs.theorems.OneElement.{late_accepted, one_whole}

@@ -2,13 +2,12 @@
 -- and `Reads` of the meaning say what these are. Assumes nothing.
 use Rattle.std.specs.Prelude.{ℕ, Bool, true, false, ◌||◌, List, eqb, ltb, leb, length}
 use Rattle.der.specs.meaning.Refusal.{accepted as acceptance, too_long_number, trailing_bytes, not_in_grammar, other_edition, long_cert_req_id, no_room_number, unknown_edition_number}
-use Rattle.der.specs.declared.explain.Nest.TheVariants.{End, Fault}
+use Rattle.der.specs.steps.Nest.{End, Fault}
 use Rattle.der.specs.meaning.Tree.{Tree}
 use Rattle.der.specs.meaning.Bounds.{longest}
 use Rattle.der.specs.steps.Explain.{walk_at}
 use Rattle.der.specs.steps.Reading.{tree}
-use Rattle.crmf.specs.declared.explain.Walked.{Walked}
-use Rattle.crmf.specs.declared.explain.Walked.TheVariants.{Passed, Broken}
+use Rattle.crmf.specs.steps.explain.Walk.{Walked, Passed, Broken}
 use Rattle.crmf.specs.meaning.Notation.{Top}
 use Rattle.crmf.specs.steps.grammar.Lines.{start}
 use Rattle.crmf.specs.steps.explain.Walk.{walk, empty_tally}
@@ -16,7 +15,7 @@ use Rattle.crmf.specs.meaning.Rows.{numbers}
 use Rattle.crmf.specs.steps.explain.LongIds.{first_long}
 use Rattle.crmf.specs.steps.rows.Fill.{fits, rows_of_input}
 use Rattle.crmf.specs.meaning.Lists.{over}
-use Rattle.editions.specs.declared.reader.Answer.{Answer}
+use Rattle.editions.specs.meaning.Answer.{Answer}
 use Rattle.editions.specs.meaning.Edition.{rfc2511, rfc4211, opposite}
 
 -- "Refusals return their number and place, a count of 0"

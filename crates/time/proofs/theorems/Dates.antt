@@ -1,46 +1,72 @@
--- Months, days and dates: what the code tests on numbers that stand for parts that may be missing, 100 for two octets that are no digits and
--- 0 days for no month, is what the definitions say of the parts. Assumes nothing.
-use Prim.Native.Nat.{ℕ, zero, suc, ◌≤◌}
-use mathlib.Core.Bool.{Bool, true, false, ◌&&◌, and-false, and-true, true≢false}
+-- Months, days and dates: what the code tests of a date's parts is what the definitions say of them. Assumes nothing.
+use Prim.Native.Nat.{ℕ, zero, suc, ◌-◌, ◌≤◌, ◌<◌}
+use mathlib.Core.Bool.{Bool, true, false, ◌&&◌, and-false, and-true}
 use mathlib.Core.List.{List, [], ◌∷◌}
-use mathlib.Core.Option
 use mathlib.Core.Option.{Option, some, none, none-ne-some, bind}
-use mathlib.Core.Path.{◌≡◌, refl, sym, ◌∙◌}
-use borrow.Author.Tests.{leb-true, lt-leb}
+use mathlib.Core.Path.{◌≡◌, refl, sym, ap, ◌∙◌}
+use borrow.Author.Tests.{leb-true}
 use native.Mathlib.Omega.{arith}
 use lib.Dec.{leb}
-use lib.ListN.{get_or, get_elem?}
+use lib.ListN.{length, get_or, get_elem?}
 use Rattle.time.specs.meaning.Calendar.{leap, month_days, days_in, Date, is_day, is_real, seconds, moment}
 use Rattle.time.proofs.theorems.Digits.{both}
-use Rattle.time.proofs.theorems.Tables.{at_most, entry_most, entry_there}
+use Rattle.time.proofs.theorems.Tables.{at_most, entry_there}
 
--- the entry of a list, with a default in either way
-entry_or : (l : List ℕ) (i d : ℕ) → get_or l i d ≡ Option.get_or (get_elem? l i) d
-entry_or [] i d = refl
-entry_or (a ∷ l) zero d = refl
-entry_or (a ∷ l) (suc i) d = entry_or l i d
+-- the days of each month of a common year
+abbrev pub common_days : List ℕ
+common_days = 31 ∷ 28 ∷ 31 ∷ 30 ∷ 31 ∷ 30 ∷ 31 ∷ 31 ∷ 30 ∷ 31 ∷ 30 ∷ 31 ∷ []
 
--- the days of each month of a common year, January at 1
-abbrev pub month_table : List ℕ
-month_table = 0 ∷ 31 ∷ 28 ∷ 31 ∷ 30 ∷ 31 ∷ 30 ∷ 31 ∷ 31 ∷ 30 ∷ 31 ∷ 30 ∷ 31 ∷ []
+-- an entry that is there, and none
+entry_at : (l : List ℕ) (i d : ℕ) → i < length l → get_elem? l i ≡ some (get_or l i d)
+entry_at [] i d low = absurd (omega (arith, low))
+entry_at (a ∷ l) zero d low = refl
+entry_at (a ∷ l) (suc i) d low = entry_at l i d (omega (arith, low))
 
--- none has more than 31
-pub table_few : (month : ℕ) → get_or month_table month 0 ≤ 31
-table_few month = entry_most month_table 31 refl month
+entry_past : (l : List ℕ) (i : ℕ) → length l ≤ i → get_elem? l i ≡ none
+entry_past [] i high = refl
+entry_past (a ∷ l) zero high = absurd (omega (arith, high))
+entry_past (a ∷ l) (suc i) high = entry_past l i (omega (arith, high))
 
--- the table has the days of every month, but for February in a leap year
-pub days_tabled : (year month : ℕ) → (month ≡ 2 → leap year ≡ false)
-    → get_or month_table month 0 ≡ Option.get_or (days_in year month) 0
-unfolding days_in month_days
-days_tabled year zero common = refl
-days_tabled year (suc zero) common = refl
-days_tabled year (suc (suc zero)) common = rw (common refl)
-days_tabled year (suc (suc (suc month))) common = entry_or (31 ∷ 30 ∷ 31 ∷ 30 ∷ 31 ∷ 31 ∷ 30 ∷ 31 ∷ 30 ∷ 31 ∷ []) month 0
+-- the list has the days of every month, but for February in a leap year
+days_common : (year i : ℕ) → (i ≡ 1 → leap year ≡ false) → get_elem? (month_days year) i ≡ get_elem? common_days i
+unfolding month_days
+days_common year zero common = refl
+days_common year (suc zero) common = rw (common refl)
+days_common year (suc (suc i)) common = refl
 
--- February of a leap year
+place : (k i : ℕ) → i ≡ suc k - 1 → k ≡ i
+place k i at = omega (arith, at)
+
+-- there is no month 0
+pub days_zero : (year month : ℕ) → (1 ≤ month → ⊥) → days_in year month ≡ none
+unfolding days_in
+days_zero year zero low = refl
+days_zero year (suc i) low = absurd (low (omega arith))
+
+-- the days of a month, by its place in the list
+pub days_there : (year month i d : ℕ) → (1 ≤ month) × (i ≡ month - 1) → (month ≡ 2 → leap year ≡ false) → i < 12
+    → days_in year month ≡ some (get_or common_days i d)
+unfolding days_in
+days_there year zero i d (low, at) common few = absurd (omega (arith, low))
+days_there year (suc k) i d (low, at) common few =
+    rw (place k i at) (days_common year i (λ one. common (omega (arith, at, one))) ∙ entry_at common_days i d few)
+
+pub days_past : (year month i : ℕ) → (1 ≤ month) × (i ≡ month - 1) → 12 ≤ i → days_in year month ≡ none
+unfolding days_in
+days_past year zero i (low, at) high = absurd (omega (arith, low))
+days_past year (suc k) i (low, at) high =
+    rw (place k i at) (days_common year i (λ one. absurd (omega (arith, high, one))) ∙ entry_past common_days i high)
+
+-- February of a leap year, and of a common one
 pub days_leap : (year : ℕ) → leap year ≡ true → days_in year 2 ≡ some 29
 unfolding days_in month_days
 days_leap year is = rw is
+
+pub days_february : (month i d : ℕ) → month ≡ 2 → (1 ≤ month) × (i ≡ month - 1) → get_or common_days i d ≡ 28
+days_february month i d two (low, at) = ap (λ k. get_or common_days k d) (second i two at)
+  where
+    second : (i : ℕ) → month ≡ 2 → i ≡ month - 1 → i ≡ 1
+    second i two at = omega (arith, two, at)
 
 -- there are 12 months, and none has more than 31 days
 pub month_days_lem : (year month days : ℕ) → days_in year month ≡ some days → (month ≤ 12) × (days ≤ 31)
@@ -54,47 +80,55 @@ month_days_lem year (suc month) days is =
     are false = refl
 
 -- what a test of a day shows of its month
-pub day_bounds : (year month day : ℕ) → leb 1 day && leb day (Option.get_or (days_in year month) 0) ≡ true → (month ≤ 12) × (1 ≤ day) × (day ≤ 31)
-day_bounds year month day is =
+pub day_bounds : (year month day days : ℕ) → days_in year month ≡ some days → leb 1 day && leb day days ≡ true → (month ≤ 12) × (1 ≤ day) × (day ≤ 31)
+day_bounds year month day days there is =
     let p = both (leb 1 day) _ is in
-    go (days_in year month) refl (leb-true 1 day p.0) (leb-true day _ p.1)
-  where
-    go : (o : Option ℕ) → days_in year month ≡ o → 1 ≤ day → day ≤ Option.get_or o 0 → (month ≤ 12) × (1 ≤ day) × (day ≤ 31)
-    go none e low high = absurd (omega arith)
-    go (some days) e low high = let p = month_days_lem year month days e in (p.0, low, omega (arith, p.1))
+    let m = month_days_lem year month days there in
+    (m.0, leb-true 1 day p.0, omega (arith, leb-true day days p.1, m.1))
+
+-- the tests of a date's parts, whose month has so many days, and of the Z after them
+abbrev pub tests : (days day hour minute second : ℕ) → Bool → Bool
+tests days day hour minute second z = ((((leb 1 day && leb day days) && leb hour 23) && leb minute 59) && leb second 59) && z
 
 -- what the tests of all parts show of them
-pub date_bounds : (year month day hour minute second : ℕ) (z : Bool)
-    → leb 1 day && leb day (Option.get_or (days_in year month) 0) && leb hour 23 && leb minute 59 && leb second 59 && z ≡ true
+pub date_bounds : (year month days day hour minute second : ℕ) (z : Bool) → days_in year month ≡ some days → tests days day hour minute second z ≡ true
     → ((month ≤ 12) × (1 ≤ day) × (day ≤ 31)) × (hour ≤ 23) × (minute ≤ 59) × (second ≤ 59)
-date_bounds year month day hour minute second z is =
+date_bounds year month days day hour minute second z there is =
     let s = (both _ z is).0 in
     let m = both _ (leb second 59) s in
     let h = both _ (leb minute 59) m.0 in
     let d = both _ (leb hour 23) h.0 in
-    (day_bounds year month day d.0, leb-true hour 23 d.1, leb-true minute 59 h.1, leb-true second 59 m.1)
+    (day_bounds year month day days there d.0, leb-true hour 23 d.1, leb-true minute 59 h.1, leb-true second 59 m.1)
 
--- a test that can't pass fails
-refuted : (b : Bool) → (b ≡ true → ⊥) → b ≡ false
-refuted true h = absurd (h refl)
-refuted false h = refl
+-- The parts of a date, and whether Z comes after them.
+module _ (year month day hour minute second : ℕ) (z : Bool) where
+  abbrev pub date : Date
+  date = record { year = year; month = month; day = day; hour = hour; minute = minute; second = second }
 
--- no day of month 100, and no day 100, is real
-no_month : (year day : ℕ) → leb 1 day && leb day (Option.get_or (days_in year 100) 0) ≡ false
-no_month year day = refuted _ (λ is. absurd (omega (arith, (day_bounds year 100 day is).0)))
+  -- the moment of the date, if Z comes after it
+  abbrev pub moment_of : Option ℕ
+  moment_of = bind (elim z as (λ x. Option Date) [ true ↦ some date | false ↦ none ]) moment
 
-no_hundred : (year month : ℕ) → leb 1 100 && leb 100 (Option.get_or (days_in year month) 0) ≡ false
-no_hundred year month = refuted _ (λ is. absurd (omega (arith, (day_bounds year month 100 is).2)))
+  -- no day of what is no month is real
+  pub no_month : days_in year month ≡ none → moment_of ≡ none
+  unfolding bind is_real is_day moment
+  no_month gone = go z
+    where
+      go : (t : Bool) → bind (elim t as (λ x. Option Date) [ true ↦ some date | false ↦ none ]) moment ≡ none
+      go true = rw (moment, is_real, is_day, gone)
+      go false = refl
 
--- a day is tested with 0 days for no month
-day_tested : (day : ℕ) (o : Option ℕ)
-    → leb 1 day && leb day (Option.get_or o 0) ≡ elim o as (λ x. Bool) [ some days ↦ leb 1 day && leb day days | none ↦ false ]
-day_tested day none = no_day day
-  where
-    no_day : (d : ℕ) → leb 1 d && leb d 0 ≡ false
-    no_day zero = refl
-    no_day (suc d) = rw (lt-leb (suc d) 0 (omega arith)) (and-false (leb 1 (suc d)))
-day_tested day (some days) = refl
+  -- the parts pass the tests exactly if they are a real date with Z after it
+  pub parts_tested : (days : ℕ) (t : Bool) → days_in year month ≡ some days → tests days day hour minute second z ≡ t
+      → moment_of ≡ elim t as (λ x. Option ℕ) [ true ↦ some (seconds date) | false ↦ none ]
+  unfolding bind is_real is_day moment
+  parts_tested days t there is = go z is
+    where
+      go : (y : Bool) → tests days day hour minute second y ≡ t
+          → bind (elim y as (λ x. Option Date) [ true ↦ some date | false ↦ none ]) moment
+          ≡ elim t as (λ x. Option ℕ) [ true ↦ some (seconds date) | false ↦ none ]
+      go true passes = rw (moment, is_real, is_day, there, sym passes, and-true ((((leb 1 day && leb day days) && leb hour 23) && leb minute 59) && leb second 59))
+      go false passes = rw (sym passes) (rw (and-false ((((leb 1 day && leb day days) && leb hour 23) && leb minute 59) && leb second 59)))
 
 -- without a date there is no moment, whatever a test says
 without : (b : Bool) → ◌≡◌ {A = Option ℕ} none (elim b as (λ x. Option ℕ) [ true ↦ none | false ↦ none ])
@@ -110,54 +144,6 @@ module _ (year : ℕ) (month day hour minute second : Option ℕ) (z : Bool) whe
         | true ↦ some (record { year = year; month = mo; day = d; hour = h; minute = mi; second = s })
         | false ↦ none
       ])))))
-
-  -- the tests of the parts, coded with 100 for those that aren't written with two digits
-  abbrev pub tests : Bool
-  tests =
-      leb 1 (Option.get_or day 100) && leb (Option.get_or day 100) (Option.get_or (days_in year (Option.get_or month 100)) 0) && leb (Option.get_or hour 100) 23
-      && leb (Option.get_or minute 100) 59
-      && leb (Option.get_or second 100) 59
-      && z
-
-  -- the coded date
-  abbrev pub coded_date : Date
-  coded_date =
-      record {
-        year = year;
-        month = Option.get_or month 100;
-        day = Option.get_or day 100;
-        hour = Option.get_or hour 100;
-        minute = Option.get_or minute 100;
-        second = Option.get_or second 100;
-      }
-
--- what fails the tests has no moment
-lost : (x t : Bool) (n : ℕ) → x ≡ false → x ≡ t → ◌≡◌ {A = Option ℕ} none (elim t as (λ y. Option ℕ) [ true ↦ some n | false ↦ none ])
-lost x true n e f = absurd (true≢false (sym f ∙ e))
-lost x false n e f = refl
-
--- the parts pass the tests exactly if they are a real date, whose moment is the coded date's
-pub moment_tested : (year : ℕ) (month day hour minute second : Option ℕ) (z t : Bool) → tests year month day hour minute second z ≡ t
-    → bind (date_of year month day hour minute second z) moment
-    ≡ elim t as (λ x. Option ℕ) [ true ↦ some (seconds (coded_date year month day hour minute second z)) | false ↦ none ]
-unfolding bind is_real is_day moment
-moment_tested year none day hour minute second z t is =
-    lost _ t _ (rw (no_month year (Option.get_or day 100))) is
-moment_tested year (some mo) none hour minute second z t is = lost _ t _ (rw (no_hundred year mo)) is
-moment_tested year (some mo) (some d) none minute second z t is = lost _ t _ (simp and-false) is
-moment_tested year (some mo) (some d) (some h) none second z t is = lost _ t _ (simp and-false) is
-moment_tested year (some mo) (some d) (some h) (some mi) none z t is = lost _ t _ (simp and-false) is
-moment_tested year (some mo) (some d) (some h) (some mi) (some s) false t is = lost _ t _ (simp and-false) is
-moment_tested year (some mo) (some d) (some h) (some mi) (some s) true t is = by_test
-  where
-    date : Date
-    date = record { year = year; month = mo; day = d; hour = h; minute = mi; second = s }
-
-    real : is_real date ≡ t
-    real = sym (rw (day_tested d (days_in year mo), and-true)) ∙ is
-
-    by_test : moment date ≡ elim t as (λ x. Option ℕ) [ true ↦ some (seconds date) | false ↦ none ]
-    by_test = rw (moment, real)
 
 -- a date's year is the one that it is given, so that a test of it is a test of that
 pub year_tested : (first year : ℕ) (month day hour minute second : Option ℕ) (z : Bool)

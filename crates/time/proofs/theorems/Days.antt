@@ -10,7 +10,6 @@ use lib.Dec.{leb, ltb, eqb}
 use lib.ListN.{get_or, take}
 use Rattle.der.proofs.theorems.lists.Range.{each}
 use Rattle.time.specs.meaning.Calendar.{leap, month_days, total, days_before_year, days_before_month}
-use Rattle.time.proofs.theorems.Tables.{entry_most}
 
 -- a leap day, if there is one
 abbrev pub leap_day : Bool → ℕ
@@ -74,10 +73,6 @@ years_counted (suc year) =
 -- the days before each month of a common year, January at 1
 abbrev pub before_table : List ℕ
 before_table = 0 ∷ 0 ∷ 31 ∷ 59 ∷ 90 ∷ 120 ∷ 151 ∷ 181 ∷ 212 ∷ 243 ∷ 273 ∷ 304 ∷ 334 ∷ []
-
--- none has more than 334
-pub before_few : (month : ℕ) → get_or before_table month 0 ≤ 334
-before_few month = entry_most before_table 334 refl month
 
 -- Counting the days of the months gives what the table has, and one more from March on in a leap year.
 abbrev tabled : Bool → ℕ → ℕ

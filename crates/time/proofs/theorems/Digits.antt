@@ -1,8 +1,7 @@
--- Numbers that two decimal digits make, coded with 100 for octets that aren't both digits. Assumes nothing.
+-- Numbers that two decimal digits make. Assumes nothing.
 use Prim.Native.Nat.{ℕ, ◌+◌, ◌-◌, ◌*◌, ◌≤◌}
 use mathlib.Core.Bool.{Bool, true, false, ◌&&◌, and-eq-true_iff}
 use mathlib.Core.List.{List}
-use mathlib.Core.Option
 use mathlib.Core.Option.{Option, some, none, some-injective, none-ne-some}
 use mathlib.Core.Path.{◌≡◌, refl}
 use borrow.Author.Tests.{leb-true}
@@ -22,12 +21,12 @@ digit_range b e = let p = both (leb 0x30 b) (leb b 0x39) e in (leb-true 0x30 b p
 pub digits_range : (a b : ℕ) → digit a && digit b ≡ true → ((0x30 ≤ a) × (a ≤ 0x39)) × ((0x30 ≤ b) × (b ≤ 0x39))
 digits_range a b e = let p = both (digit a) (digit b) e in (digit_range a p.0, digit_range b p.1)
 
--- the number of two digits, coded with 100 for none
-pub pair_coded : (c : List ℕ) (i : ℕ) → digit (get_or c i 0) && digit (get_or c (i + 1) 0) ≡ true → (get_or c i 0 - 0x30) * 10 + (get_or c (i + 1) 0 - 0x30) ≡ Option.get_or (pair_at c i) 100
+-- the number of two digits
+pub pair_coded : (c : List ℕ) (i : ℕ) → digit (get_or c i 0) && digit (get_or c (i + 1) 0) ≡ true → pair_at c i ≡ some ((get_or c i 0 - 0x30) * 10 + (get_or c (i + 1) 0 - 0x30))
 unfolding pair_at
 pair_coded c i e = rw (pair_at, e)
 
-pub pair_missing : (c : List ℕ) (i : ℕ) → digit (get_or c i 0) && digit (get_or c (i + 1) 0) ≡ false → 100 ≡ Option.get_or (pair_at c i) 100
+pub pair_missing : (c : List ℕ) (i : ℕ) → digit (get_or c i 0) && digit (get_or c (i + 1) 0) ≡ false → pair_at c i ≡ none
 unfolding pair_at
 pair_missing c i e = rw (pair_at, e)
 
@@ -45,12 +44,3 @@ pair_most c i n = go _ refl
     go : (t : Bool) → digit a && digit b ≡ t → (elim t as (λ x. Option ℕ) [ true ↦ some ((a - 0x30) * 10 + (b - 0x30)) | false ↦ none ]) ≡ some n → n ≤ 99
     go true e is = omega (arith, digits_range a b e, some-injective _ _ is)
     go false e is = absurd (none-ne-some n is)
-
--- a number that is coded as at most 99 is made by two digits, and one that isn't made is coded as more
-pub pair_there : (o : Option ℕ) → Option.get_or o 100 ≤ 99 → o ≡ some (Option.get_or o 100)
-pair_there none few = absurd (omega arith)
-pair_there (some n) few = refl
-
-pub pair_gone : (o : Option ℕ) → ((n : ℕ) → o ≡ some n → n ≤ 99) → (Option.get_or o 100 ≤ 99 → ⊥) → o ≡ none
-pair_gone none most many = refl
-pair_gone (some n) most many = absurd (many (most n refl))

@@ -7,17 +7,12 @@ use mathlib.Core.Path.{◌≡◌}
 use borrow.Author.Tests.{leb-true}
 use native.Mathlib.Omega.{arith}
 use lib.Dec.{leb}
-use lib.ListN.{length, get_or, get_elem?}
+use lib.ListN.{length, get_elem?}
 
 -- whether all entries are at most a number
 abbrev pub at_most : List ℕ → ℕ → Bool
 at_most [] most = true
 at_most (a ∷ l) most = leb a most && at_most l most
-
-pub entry_most : (l : List ℕ) (most : ℕ) → at_most l most ≡ true → (i : ℕ) → get_or l i 0 ≤ most
-entry_most [] most are i = omega arith
-entry_most (a ∷ l) most are zero = leb-true a most ((and-eq-true_iff (leb a most) (at_most l most)).0 are).0
-entry_most (a ∷ l) most are (suc i) = entry_most l most ((and-eq-true_iff (leb a most) (at_most l most)).0 are).1 i
 
 -- an entry that is there, and its number
 pub entry_there : (l : List ℕ) (most : ℕ) → at_most l most ≡ true → (i a : ℕ) → get_elem? l i ≡ some a → (i < length l) × (a ≤ most)

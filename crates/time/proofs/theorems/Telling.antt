@@ -1,23 +1,32 @@
--- What the answer of a time's check says of the moment. Assumes nothing.
+-- What the answer of a time's check says of the moment, by its steps. Assumes nothing.
 use Prim.Native.Nat.{ℕ}
-use mathlib.Core.Option.{Option, some, none}
+use Rattle.std.specs.Prelude.{Option, Some, None}
+use mathlib.Core.Option as math
 use mathlib.Core.Path.{◌≡◌, refl, sym, ap, ◌∙◌}
-use Rattle.time.specs.declared.moment.Moment.{Moment}
-use Rattle.time.specs.declared.moment.Moment.TheVariants.{At, Missing}
-use Rattle.time.specs.steps.Moments.{as_moment}
+use Rattle.time.specs.steps.Moments.{as_option}
 
--- the moment of an answer, if it has one
-abbrev said : Moment → Option ℕ
-said (At n) = some n
-said Missing = none
+-- the number of an answer, if it has one
+abbrev said : Option ℕ → math.Option ℕ
+said (Some n) = math.some n
+said None = math.none
 
-said_told : (o : Option ℕ) → said (as_moment o) ≡ o
-unfolding as_moment
-said_told none = refl
-said_told (some n) = refl
+said_told : (o : math.Option ℕ) → said (as_option o) ≡ o
+unfolding as_option
+said_told math.none = refl
+said_told (math.some n) = refl
 
-pub told_at : (o : Option ℕ) (m : Moment) (n : ℕ) → m ≡ as_moment o → m ≡ At n → o ≡ some n
-told_at o m n is at = sym (said_told o) ∙ ap said (sym is ∙ at)
+-- what the code answers for a moment, and for none
+pub some_told : (n : ℕ) → as_option (math.some n) ≡ Some n
+unfolding as_option
+some_told n = refl
 
-pub told_missing : (o : Option ℕ) (m : Moment) → m ≡ as_moment o → m ≡ Missing → o ≡ none
-told_missing o m is missing = sym (said_told o) ∙ ap said (sym is ∙ missing)
+pub none_told : as_option math.none ≡ None
+unfolding as_option
+none_told = refl
+
+-- and what an answer says of the moment
+pub told_some : (o : math.Option ℕ) (m : Option ℕ) (n : ℕ) → m ≡ as_option o → m ≡ Some n → o ≡ math.some n
+told_some o m n is some = sym (said_told o) ∙ ap said (sym is ∙ some)
+
+pub told_none : (o : math.Option ℕ) (m : Option ℕ) → m ≡ as_option o → m ≡ None → o ≡ math.none
+told_none o m is none = sym (said_told o) ∙ ap said (sym is ∙ none)

@@ -4,19 +4,12 @@ use mathlib.Core.Bool.{Bool, true, false, not, ◌&&◌, ◌||◌}
 use mathlib.Core.List.{List, []}
 use mathlib.Core.Option.{Option, some, none}
 use mathlib.Core.Path.{◌≡◌, refl, sym}
-use borrow.Author.Tests.{leb-true}
 use lib.Dec.{leb, eqb}
 use lib.ListN.{length, get_or, take, drop, drop_of_length-le}
 use Rattle.time.specs.meaning.Time.{time_moment}
 use Rattle.time.specs.meaning.Validity.{is_short, element_moment, shown_moment, first_element, further_elements, in_order, forwards}
-use Rattle.time.proofs.theorems.Digits.{both}
 
 module _ (e : List ℕ) where
-  -- an element with one length octet has at least two octets
-  pub short_two : is_short e ≡ true → 2 ≤ length e
-  unfolding is_short
-  short_two is = leb-true 2 (length e) (both (leb 2 (length e)) _ is).0
-
   -- the moment of the element of a Time, or none
   pub element_short : is_short e ≡ true → element_moment e ≡ time_moment (get_or e 0 0) (drop 2 e)
   unfolding element_moment

@@ -1,9 +1,7 @@
--- A moment as the code tells it. Assumes nothing.
-use Rattle.std.specs.Prelude.{ℕ}
-use Rattle.std.proofs.Math.Option.{Option, some, none}
-use Rattle.time.specs.declared.moment.Moment.{Moment}
-use Rattle.time.specs.declared.moment.Moment.TheVariants.{At, Missing}
+-- A number that may be missing, as the code tells it. Assumes nothing.
+use Rattle.std.specs.Prelude.{ℕ, Option, Some, None}
+use Rattle.std.proofs.Math.Option as math
 
-unfoldable pub as_moment : Option ℕ → Moment
-as_moment (some n) = At n
-as_moment none = Missing
+unfoldable pub as_option : math.Option ℕ → Option ℕ
+as_option (math.some n) = Some n
+as_option math.none = None

@@ -3,7 +3,6 @@ pub mod Collecting
 pub mod Eights
 pub mod FirstPairs
 pub mod Magnitudes
-pub mod Numbers
 pub mod SearchAnswers
 pub mod SearchesExactly
 pub mod SearchVectors

@@ -1,20 +1,21 @@
 -- The walk that collects the certReqIds of a batch's messages: what it is lent and what it leaves. Assumes nothing.
-use Rattle.std.specs.Prelude.{ℕ, ◌+◌, ◌≤◌, ◌<◌, ◌≡◌, List, ℤ, length, take}
+use Rattle.std.specs.Prelude.{ℕ, ◌+◌, ◌≤◌, ◌<◌, ◌≡◌, List, Option, Some, None, length, take}
 use Rattle.der.specs.declared.element.reading.Element.{Element}
 use Rattle.der.specs.meaning.Refusal.{accepted}
 use Rattle.der.specs.steps.Reading.{reading_at}
 use Rattle.editions.specs.steps.Reading.{answer}
-use Rattle.verdict.specs.steps.SearchAnswer.{ids}
+use Rattle.verdict.specs.declared.duplicates.ReqId.{ReqId}
+use Rattle.verdict.specs.steps.SearchAnswer.{ids, numbers_of}
 
 -- The bytes of a batch that an edition accepts.
 pub record Accepted (s : List ℕ) : Type 0 where
   pub edition : ℕ
   pub zero : (answer edition s).number ≡ accepted
 
--- The first `count` slots are the certReqIds; if there are not as many slots, there are more certReqIds than slots.
-pub record Collected (s : List ℕ) (slots : List ℤ) (count : ℕ) : Type 0 where
-  pub same : count ≤ length slots → take count slots ≡ ids s
-  pub more : length slots < count → length slots < length (ids s)
+-- What is answered of a batch and a room: the first `count` places are the certReqIds; or nothing, and there are more certReqIds than places.
+abbrev pub Collected : List ℕ → (room : List ReqId) → Option ℕ → Type 0
+Collected s room (Some count) = (count ≤ length room) × (numbers_of (take count room) ≡ ids s)
+Collected s room None = length room < length (ids s)
 
 -- the certReqId of the message whose inside is from one place to another: the first element of the first element there
 abbrev pub id_in : List ℕ → ℕ → ℕ → Element

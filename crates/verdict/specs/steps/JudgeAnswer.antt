@@ -5,7 +5,7 @@ use Rattle.der.specs.steps.Reading.{tree}
 use Rattle.crmf.specs.meaning.Fields.{missing}
 use Rattle.crmf.specs.meaning.Messages.{Message, message_of, batch, messages}
 use Rattle.editions.specs.steps.Reading.{answer}
-use Rattle.verdict.specs.declared.verdict.Verdict.{Verdict}
+use Rattle.verdict.specs.steps.Answer.{Verdict}
 use Rattle.verdict.specs.meaning.Verdict.{no_proof, verdict_of, signed_of}
 
 -- no message

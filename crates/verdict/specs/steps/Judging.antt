@@ -1,10 +1,11 @@
 -- The verdict step by step, on places of any bytes and on the fields that are read there. Assumes nothing.
-use Rattle.std.specs.Prelude.{ℕ, Bool, true, false, List, [], ◌∷◌, ◌≡◌, eqb}
+use Rattle.std.specs.Prelude as std
+use Rattle.std.specs.Prelude.{ℕ, Bool, true, false, List, [], ◌∷◌, Some, None, eqb}
 use Rattle.std.proofs.Math.Option.{Option, some, none as absent}
 use Rattle.der.specs.meaning.Refusal.{accepted}
 use Rattle.crmf.specs.meaning.Fields.{Field, first_with}
 use Rattle.verdict.specs.declared.verdict.Extent.{Extent}
-use Rattle.verdict.specs.declared.verdict.Verdict.{Verdict}
+use Rattle.verdict.specs.steps.Answer.{Verdict}
 use Rattle.verdict.specs.meaning.Verdict.{no_proof, ra_verified, signed_cert_req, signed_poposk_input, other_signature, encipherment_verdict, agreement_verdict}
 
 -- the place and length of a field; 0 and 0 if there is none
@@ -16,10 +17,10 @@ part_of (some f) = record { from = f.place; length = f.whole }
 abbrev pub holds : ℕ → List Field → Bool
 holds id fs = elim (first_with (id ∷ []) fs) [ absent ↦ false | some x ↦ true ]
 
--- What a search has found: the part of the first field with the identifier, if there is one. Only if there is none, its length is 0.
-pub record FieldFound (o : Option Field) (r : Extent) : Type 0 where
-  pub part : r ≡ part_of o
-  pub none : r.length ≡ 0 → o ≡ absent
+-- the part that a search has found
+abbrev pub part_found : Option Field → std.Option Extent
+part_found absent = None
+part_found (some f) = Some (record { from = f.place; length = f.whole })
 
 -- a verdict with a signed part
 abbrev pub told : ℕ → Extent → Verdict

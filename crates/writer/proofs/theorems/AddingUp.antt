@@ -5,10 +5,11 @@ use native.Mathlib.Omega.{arith}
 use mathlib.Core.Path.{◌≡◌, refl, sym, ap, ap₂, subst, ◌∙◌}
 use mathlib.Core.Bool.{Bool, true, false, ◌&&◌, and-eq-true_iff, and-true, false≢true}
 use mathlib.Core.List.{List, [], ◌∷◌}
+use Rattle.std.specs.Prelude.{Some, None}
 use lib.Dec.{eqb, leb}
-use lib.ListN.{length, get_or, drop, set, length-drop}
-use lib.Seq.{drop-length, get_or-set_same, get_or-set_other}
-use borrow.Author.Tests.{lt-leb, le-leb, eqb-true, eqb-false, ne_eqb}
+use lib.ListN.{length, get_or, drop, length-drop}
+use lib.Seq.{drop-length}
+use borrow.Author.Tests.{le-leb, eqb-true, eqb-false}
 use Rattle.der.specs.meaning.Bounds.{longest}
 use Rattle.crmf.specs.meaning.Rows.{Row}
 use Rattle.crmf.specs.meaning.Pieces.{piece_of, pieces_of}
@@ -95,35 +96,36 @@ module _ (bytes : List ℕ) (rs : List Row) where
     own_sum = s.open_sums j (omega arith)
 
     -- the row before those
-    module _ (r : Row) (cut : drop j rs ≡ r ∷ drop (suc j) rs) (n : ℕ) (w : Whole bytes r (get_or table j 0) n) where
-      -- the rows from this one on are sound if its whole length isn't too long
-      next_sound : sound bytes j (drop j rs) ≡ leb n longest
+    module _ (r : Row) (cut : drop j rs ≡ r ∷ drop (suc j) rs) where
+      -- the rows from this one on are sound if it is
+      next_sound : sound bytes j (drop j rs) ≡ (lies bytes r && leb (whole_of (piece_of bytes r) (get_or table j 0)) longest)
       next_sound =
           ap (sound bytes j) cut ∙ sound_row bytes j r (drop (suc j) rs)
           ∙ ap₂ (λ (k : ℕ) (b : Bool). (lies bytes r && leb (whole_of (piece_of bytes r) k) longest) && b) (sym own_sum) s.sounds
-          ∙ ap (λ (b : Bool). b && true) (sym w.side) ∙ and-true (leb n longest)
+          ∙ and-true (lies bytes r && leb (whole_of (piece_of bytes r) (get_or table j 0)) longest)
 
-      -- if it is too long, the draft isn't sound
-      pub settled_stops : longest < n → (out : List ℕ) → (false ≡ sound bytes 0 rs) × (false ≡ true → Summed bytes rs out)
-      settled_stops long out = (sym (go (sound bytes 0 rs) refl), λ no. absurd (false≢true no))
+      -- if it isn't, the draft isn't sound
+      pub settled_stops : Whole bytes r (get_or table j 0) None → (out : List ℕ) → (false ≡ sound bytes 0 rs) × (false ≡ true → Summed bytes rs out)
+      settled_stops none out = (sym (go (sound bytes 0 rs) refl), λ no. absurd (false≢true no))
         where
           go : (b : Bool) → sound bytes 0 rs ≡ b → sound bytes 0 rs ≡ false
           go true ok =
-              absurd (false≢true (sym (lt-leb n longest long) ∙ sym next_sound ∙ ap (λ (k : ℕ). sound bytes k (drop j rs)) (sym (zero-add j)) ∙ sound_rest bytes 0 rs ok j))
+              absurd (false≢true (sym none ∙ sym next_sound ∙ ap (λ (k : ℕ). sound bytes k (drop j rs)) (sym (zero-add j)) ∙ sound_rest bytes 0 rs ok j))
           go false ok = ok
 
-      -- otherwise it is added to the parent's sum, if the parent is before it
-      pub settled_next : n ≤ longest → (new : List ℕ) → length new ≡ length table → Added table r.parent j n new → Settled bytes rs j old new
-      settled_next short new sized added =
+      -- otherwise its whole length is added to the parent's sum, if the parent is before it
+      pub settled_next : (n : ℕ) → Whole bytes r (get_or table j 0) (Some n) → (new : List ℕ) → length new ≡ length table → Added table r.parent j n new
+          → Settled bytes rs j old new
+      settled_next n (inside, whole, short) new sized added =
           record {
             few = s.few;
             sized = sized ∙ s.sized;
             room = omega (arith, s.room);
             below = omega (arith, s.below);
-            sounds = next_sound ∙ le-leb n longest short;
+            sounds = next_sound ∙ ap₂ (λ (x y : Bool). x && y) inside (ap (λ (k : ℕ). leb k longest) (sym whole) ∙ le-leb n longest short);
             open_sums = λ k before.
                 added.below k before
-                ∙ ap₂ (λ (x y : ℕ). elim (eqb r.parent k) as (λ b. ℕ) [ true ↦ x | false ↦ 0 ] + y) (w.same short ∙ ap (whole_of (piece_of bytes r)) own_sum) (s.open_sums k (omega arith))
+                ∙ ap₂ (λ (x y : ℕ). elim (eqb r.parent k) as (λ b. ℕ) [ true ↦ x | false ↦ 0 ] + y) (whole ∙ ap (whole_of (piece_of bytes r)) own_sum) (s.open_sums k (omega arith))
                 ∙ sym (children_piece k j (piece_of bytes r) (pieces_of bytes (drop (suc j) rs)))
                 ∙ ap (children_of k j) (sym (ap (pieces_of bytes) cut ∙ pieces_row bytes r (drop (suc j) rs)));
             whole_sums = λ k after there. added.others k after ∙ go k after there (eqb j k) refl;
@@ -132,21 +134,3 @@ module _ (bytes : List ℕ) (rs : List Row) where
           go : (k : ℕ) → j ≤ k → k < length rs → (b : Bool) → eqb j k ≡ b → get_or table k 0 ≡ children bytes rs k
           go k after there true is = subst (λ (x : ℕ). get_or table x 0 ≡ children bytes rs x) (eqb-true j k is) own_sum
           go k after there false other = s.whole_sums k (omega (arith, eqb-false j k other)) there
-
--- a number added at the parent's place
-module _ (old : List ℕ) (parent limit n : ℕ) where
-  pub added_past : limit ≤ parent → Added old parent limit n old
-  added_past past =
-      record {
-        below = λ k before. rw (ne_eqb parent k (λ is. omega arith)) (sym (zero-add (get_or old k 0)));
-        others = λ k after. refl;
-      }
-
-  pub added_at : parent < limit → limit ≤ length old → Added old parent limit n (set old parent (get_or old parent 0 + n))
-  added_at before room = record { below = λ k there. go k (eqb parent k) refl; others = λ k after. get_or-set_other old parent k _ 0 (λ is. omega arith) }
-    where
-      go : (k : ℕ) (b : Bool) → eqb parent k ≡ b
-          → get_or (set old parent (get_or old parent 0 + n)) k 0 ≡ elim b as (λ x. ℕ) [ true ↦ n | false ↦ 0 ] + get_or old k 0
-      go k true is =
-          rw (← eqb-true parent k is) (get_or-set_same old parent (get_or old parent 0 + n) 0 (omega arith) ∙ omega arith)
-      go k false other = get_or-set_other old parent k _ 0 (λ is. eqb-false parent k other (sym is)) ∙ sym (zero-add (get_or old k 0))

@@ -5,7 +5,7 @@ use native.Mathlib.Omega.{arith}
 use mathlib.Core.Path.{◌≡◌, sym, ap, ◌∙◌}
 use mathlib.Core.List.{List, [], ◌∷◌, ◌++◌, append-nil}
 use lib.ListN.{length, length-append}
-use borrow.Author.Tests.{le-leb, lt-leb, leb-false}
+use borrow.Author.Tests.{le-leb, lt-leb}
 use Rattle.der.specs.meaning.Bounds.{longest}
 use Rattle.der.specs.meaning.Length.{length_octets}
 use Rattle.der.specs.meaning.Refusal.{too_long_number, no_room_number}
@@ -17,7 +17,6 @@ use Rattle.crmf.specs.steps.rows.Assembly.{identifier_of, implied}
 use Rattle.crmf.proofs.Laws.{identifier_of_lem, implied_none}
 use Rattle.editions.specs.steps.Reading.{refusal, accepted}
 use Rattle.writer.specs.steps.Around.{around, around_answer, around_output}
-use Rattle.writer.specs.steps.Inner.{Stands}
 use Rattle.writer.specs.steps.Writing.{delivered_answer, delivered_output}
 
 -- a batch implies no type
@@ -69,7 +68,3 @@ module _ (left right : List ℕ) where
         let within = le-leb _ _ fits in
         let here = le-leb _ _ room in
         (sym (rw (around_answer, within, delivered_answer, here)), sym (rw (around_output, within, delivered_output, here)))
-
--- a number that stands for a length is past the longest if that is
-pub stands_long : {r n : ℕ} → Stands r n → longest < r → longest < n
-stands_long {r} {n} s long = leb-false n longest (sym s.side ∙ lt-leb r longest long)

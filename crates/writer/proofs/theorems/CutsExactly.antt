@@ -16,7 +16,7 @@ use Rattle.crmf.specs.meaning.Fields.{octets}
 use Rattle.crmf.specs.meaning.Lists.{over}
 use Rattle.crmf.specs.meaning.Messages.{Message, messages, message_octets, batch_octets}
 use Rattle.crmf.proofs.Laws.{batch_octets_parts, batch_octets_left, batch_octets_right, messages_octets, at_position}
-use Rattle.editions.specs.declared.reader.Answer.{Answer}
+use Rattle.editions.specs.meaning.Answer.{Answer}
 use Rattle.editions.specs.meaning.Membership.{InGrammar}
 use Rattle.editions.proofs.Laws.{grammar_octets}
 use Rattle.editions.specs.meaning.TwoBatches.{Accepted}

@@ -20,7 +20,7 @@ use Rattle.crmf.specs.meaning.Pieces.{pieces_of}
 use Rattle.crmf.specs.meaning.Edition.{Edition}
 use Rattle.crmf.proofs.Laws.{absent_row, row_ends, row_content_lem, numbers_length, over_parts, short_none}
 use Rattle.editions.specs.meaning.Membership.{InGrammar}
-use Rattle.editions.specs.declared.reader.Answer.{Answer}
+use Rattle.editions.specs.meaning.Answer.{Answer}
 use Rattle.editions.specs.meaning.Answers.{accept}
 use Rattle.editions.specs.meaning.Reads.{Reads, shown}
 use Rattle.editions.specs.steps.Reading.{answer}

@@ -14,7 +14,7 @@ use Rattle.der.specs.steps.Reading.{reading_at}
 use Rattle.crmf.specs.meaning.Lists.{over}
 use Rattle.crmf.specs.meaning.Messages.{message_octets}
 use Rattle.crmf.proofs.Laws.{flatten_append, batch_octets_parts}
-use Rattle.editions.specs.declared.reader.Answer.{Answer}
+use Rattle.editions.specs.meaning.Answer.{Answer}
 use Rattle.editions.proofs.Laws.{content_messages}
 use Rattle.editions.specs.meaning.TwoBatches.{Accepted, neither_file}
 use Rattle.writer.specs.meaning.Joins.{Joins, join, joined, too_long, no_room, written}

@@ -1,70 +1,58 @@
--- Whole lengths of rows, and the numbers that stand for them. Assumes nothing.
+-- Whole lengths of rows, and when they are told. Assumes nothing.
 use Prim.Native.Nat.{ℕ, suc, ◌+◌, ◌≤◌, ◌<◌}
 use native.Mathlib.Nat.{add-sub_cancel_left}
 use native.Mathlib.Omega.{arith}
 use mathlib.Core.Path.{◌≡◌, refl, sym, ap, ap₂, ◌∙◌}
 use mathlib.Core.Bool.{Bool, true, false, ◌&&◌}
 use mathlib.Core.List.{List}
-use lib.Dec.{eqb, leb}
+use Rattle.std.specs.Prelude.{Option, Some, None}
+use lib.Dec.{leb}
 use lib.ListN.{length}
 use lib.Seq.{slice, length-slice}
-use borrow.Author.Tests.{lt-leb, le-leb, eqb-true, eqb-false}
+use borrow.Author.Tests.{lt-leb, le-leb, leb-true}
 use Rattle.der.specs.meaning.Length.{length_octets}
 use Rattle.der.specs.meaning.Bounds.{longest}
-use Rattle.crmf.specs.meaning.Kinds as kinds
 use Rattle.crmf.specs.meaning.Rows.{Row, container}
 use Rattle.crmf.specs.meaning.Pieces.{piece_of}
 use Rattle.crmf.specs.steps.rows.Assembly.{whole_of, implied}
-use Rattle.crmf.proofs.Laws.{leaf_octets, whole_container, whole_leaf, implied_type, implied_none}
-use Rattle.writer.specs.steps.Inner.{Stands, Whole, lies}
-
--- a number stands for itself, and any that is greater than the longest for any other
-pub stands_same : {r n : ℕ} → r ≡ n → Stands r n
-stands_same is = record { side = ap (λ (k : ℕ). leb k longest) is; same = λ short. is }
-
-pub stands_past : {r n : ℕ} → longest < r → longest < n → Stands r n
-stands_past {r} {n} long other = record { side = lt-leb r longest long ∙ sym (lt-leb n longest other); same = λ short. absurd (omega arith) }
-
--- the implied type's length
-pub implied_size : (kind : ℕ) → kind ≡ kinds.reg_info_cert_req → length (implied kind) ≡ 11
-implied_size kind is = ap (λ (k : ℕ). length (implied k)) is ∙ ap length implied_type
-
-pub implied_empty : (kind : ℕ) → (kind ≡ kinds.reg_info_cert_req → ⊥) → length (implied kind) ≡ 0
-implied_empty kind other = ap length (implied_none kind other)
-
-pub implied_short : (kind : ℕ) → length (implied kind) ≤ 11
-implied_short kind = go (eqb kind kinds.reg_info_cert_req) refl
-  where
-    go : (b : Bool) → eqb kind kinds.reg_info_cert_req ≡ b → length (implied kind) ≤ 11
-    go true is = omega (arith, implied_size kind (eqb-true kind kinds.reg_info_cert_req is))
-    go false other = omega (arith, implied_empty kind (eqb-false kind kinds.reg_info_cert_req other))
+use Rattle.crmf.proofs.Laws.{leaf_octets, whole_container, whole_leaf}
+use Rattle.writer.specs.steps.Inner.{Told, Whole, lies}
 
 module _ (bytes : List ℕ) (r : Row) (inner : ℕ) where
-  -- the test of a row, by whether the row lies in the slice
-  tested : (n k : ℕ) (b : Bool) → lies bytes r ≡ b → leb n longest ≡ (b && leb k longest) → whole_of (piece_of bytes r) inner ≡ k
-      → leb n longest ≡ (lies bytes r && leb (whole_of (piece_of bytes r) inner) longest)
-  tested n k b lying test whole = test ∙ ap₂ (λ (x : Bool) (y : ℕ). x && leb y longest) (sym lying) (sym whole)
+  -- whether the row lies in the slice and isn't too long
+  abbrev sound_row : Bool
+  sound_row = lies bytes r && leb (whole_of (piece_of bytes r) inner) longest
 
   -- a container lies anywhere
-  pub container_whole : {n : ℕ} → container r.kind ≡ true
-      → Stands n (suc (length (length_octets (length (implied r.kind) + inner)) + (length (implied r.kind) + inner))) → Whole bytes r inner n
-  container_whole {n} is stands =
-      let whole = whole_container (piece_of bytes r) inner is in
-      record { side = tested n _ true (rw is) stands.side whole; same = λ short. stands.same short ∙ sym whole }
+  pub container_whole : (n : Option ℕ) → container r.kind ≡ true
+      → Told (suc (length (length_octets (length (implied r.kind) + inner)) + (length (implied r.kind) + inner))) n → Whole bytes r inner n
+  container_whole (Some n) is told = (rw is refl, told.0 ∙ sym (whole_container (piece_of bytes r) inner is), omega (arith, told.0, told.1))
+  container_whole None is long = ap₂ (λ (x : Bool) (n : ℕ). x && leb n longest) lying (whole_container (piece_of bytes r) inner is) ∙ lt-leb _ longest long
+    where
+      lying : lies bytes r ≡ true
+      lying = rw is refl
 
   module _ (is : container r.kind ≡ false) where
-    -- a leaf that leaves the slice
-    pub leaf_outside : {n : ℕ} → length bytes < r.first + r.whole → longest < n → Whole bytes r inner n
-    leaf_outside {n} out long =
-        record {
-          side = tested n _ false (rw is (lt-leb (r.first + r.whole) (length bytes) out)) (lt-leb n longest long) refl;
-          same = λ short. absurd (omega arith);
-        }
-
-    -- and one that lies in it
-    pub leaf_whole : r.first + r.whole ≤ length bytes → Whole bytes r inner r.whole
-    leaf_whole fits =
+    -- one that lies in it is as long as it says
+    leaf_size : r.first + r.whole ≤ length bytes → whole_of (piece_of bytes r) inner ≡ r.whole
+    leaf_size fits =
         let size : length (slice r.first (r.first + r.whole) bytes) ≡ r.whole =
         length-slice r.first (r.first + r.whole) bytes fits ∙ add-sub_cancel_left r.first r.whole in
-        let whole : whole_of (piece_of bytes r) inner ≡ r.whole = whole_leaf (piece_of bytes r) inner is ∙ ap length (leaf_octets bytes r is) ∙ size in
-        record { side = tested r.whole r.whole true (rw is (le-leb (r.first + r.whole) (length bytes) fits)) refl whole; same = λ short. sym whole }
+        whole_leaf (piece_of bytes r) inner is ∙ ap length (leaf_octets bytes r is) ∙ size
+
+    -- a leaf that leaves the slice or is too long
+    pub leaf_not : (r.first + r.whole ≤ length bytes → longest < r.whole) → sound_row ≡ false
+    leaf_not long = go (leb (r.first + r.whole) (length bytes)) refl
+      where
+        go : (b : Bool) → leb (r.first + r.whole) (length bytes) ≡ b → sound_row ≡ false
+        go true fits =
+            let inside = leb-true (r.first + r.whole) (length bytes) fits in
+            let lying : lies bytes r ≡ true = rw is fits in
+            ap₂ (λ (x : Bool) (n : ℕ). x && leb n longest) lying (leaf_size inside) ∙ lt-leb r.whole longest (long inside)
+        go false out = ap (λ (x : Bool). x && leb (whole_of (piece_of bytes r) inner) longest) lying
+          where
+            lying : lies bytes r ≡ false
+            lying = rw is out
+
+    pub leaf_whole : r.first + r.whole ≤ length bytes → r.whole ≤ longest → Whole bytes r inner (Some r.whole)
+    leaf_whole fits short = (rw is (le-leb (r.first + r.whole) (length bytes) fits), sym (leaf_size fits), short)

@@ -3,54 +3,25 @@ use Prim.Native.Nat.{ℕ}
 use native.Mathlib.Omega.{arith}
 use mathlib.Core.Logic.{◌↔◌}
 use mathlib.Core.Path.{◌≡◌, refl, sym, ap, subst, ◌∙◌}
-use mathlib.Core.Bool.{Bool, true, false, not, ◌&&◌}
+use mathlib.Core.Bool.{Bool, true, false}
 use mathlib.Core.List.{List}
-use lib.Dec.{eqb, leb}
+use lib.Dec.{leb}
 use lib.ListN.{length}
-use borrow.Author.Tests.{eqb-true, leb-true, leb-false}
+use borrow.Author.Tests.{leb-true, leb-false}
 use Rattle.der.specs.meaning.Octets.{Octets}
 use Rattle.der.specs.meaning.Refusal.{no_room_number, no_such_batch, unknown_edition_number}
-use Rattle.crmf.specs.meaning.Edition.{Edition, first_edition, second_edition}
 use Rattle.crmf.specs.meaning.Lists.{over}
-use Rattle.editions.specs.declared.reader.Answer.{Answer}
+use Rattle.editions.specs.meaning.Answer.{Answer}
 use Rattle.editions.specs.steps.Reading.{refusal, accepted}
 use Rattle.writer.specs.meaning.Draft.{HasRows}
 use Rattle.writer.specs.meaning.Writes.{Writes, unknown_edition, no_batch, no_room, written}
-use Rattle.writer.specs.steps.Writing.{candidate, described, write_answer, output_after}
+use Rattle.writer.specs.steps.Writing.{is_known, candidate, described, write_answer, output_after}
 use Rattle.writer.specs.steps.Inner.{Computed}
 use Rattle.writer.proofs.theorems.Answering as computed
 use Rattle.writer.proofs.theorems.Described.{has_candidate, has_described, described_has}
 
--- the code's test for a number that is no edition
-abbrev unknown : ℕ → Bool
-unknown e = not (eqb e 1) && not (eqb e 2)
-
--- it fails exactly for an edition
-edition_known : {e : ℕ} → Edition e → unknown e ≡ false
-edition_known first_edition = refl
-edition_known second_edition = refl
-
-pub known_edition : (e : ℕ) → unknown e ≡ false → Edition e
-known_edition e = go (eqb e 1) (eqb e 2) refl refl
-  where
-    go : (a b : Bool) → eqb e 1 ≡ a → eqb e 2 ≡ b → (not a && not b) ≡ false → Edition e
-    go true b one two is = subst Edition (sym (eqb-true e 1 one)) first_edition
-    go false true one two is = subst Edition (sym (eqb-true e 2 two)) second_edition
-    go false false one two is = let z : ◌≡◌ {A = ℕ} 0 1 = cc in absurd (omega arith)
-
--- and passes exactly for what is none
-no_edition_unknown : (e : ℕ) → (Edition e → ⊥) → unknown e ≡ true
-no_edition_unknown e none = go (unknown e) refl
-  where
-    go : (b : Bool) → unknown e ≡ b → b ≡ true
-    go true is = refl
-    go false is = absurd (none (known_edition e is))
-
 true_false : {b : Bool} → b ≡ false → b ≡ true → ⊥
 true_false off on = let z : ◌≡◌ {A = ℕ} 0 1 = cc in omega arith
-
-unknown_no_edition : (e : ℕ) → unknown e ≡ true → Edition e → ⊥
-unknown_no_edition e is ed = true_false (edition_known ed) is
 
 module _ (e : ℕ) (draft bytes old : List ℕ) (octets : Octets bytes) where
   -- if no batch has the draft's rows, it isn't described
@@ -64,30 +35,30 @@ module _ (e : ℕ) (draft bytes old : List ℕ) (octets : Octets bytes) where
   -- what the relation says is computed
   says : {number place count : ℕ} {new : List ℕ} → Writes e draft bytes old number place count new
       → Computed e draft bytes old (record { number = number; place = place; count = count }) new
-  says (unknown_edition none) = computed.no_edition e draft bytes old (no_edition_unknown e none) (refusal unknown_edition_number 0) refl
-  says (no_batch ed none) = computed.no_batch e draft bytes old (edition_known ed) (nothing_described none) (refusal no_such_batch 0) refl
+  says (unknown_edition none) = computed.no_edition e draft bytes old none (refusal unknown_edition_number 0) refl
+  says (no_batch ed none) = computed.no_batch e draft bytes old (computed.known_passes ed) (nothing_described none) (refusal no_such_batch 0) refl
   says (no_room ed s h short) =
-      computed.no_room e draft bytes old (edition_known ed) (has_described ed draft bytes s h)
+      computed.no_room e draft bytes old (computed.known_passes ed) (has_described ed draft bytes s h)
       (omega (arith, ap length (has_candidate ed draft bytes s h))) (refusal no_room_number 0) refl
   says (written ed s h room) =
       let same = has_candidate ed draft bytes s h in
-      computed.writes e draft bytes old (edition_known ed) (has_described ed draft bytes s h)
+      computed.writes e draft bytes old (computed.known_passes ed) (has_described ed draft bytes s h)
       (omega (arith, ap length same)) (length s) (ap length (sym same)) (over old 0 s) (ap (over old 0) (sym same))
 
   -- the relation holds of some answer and output
   some_writes : (a : Answer) × ((new : List ℕ) × Writes e draft bytes old a.number a.place a.count new)
-  some_writes = go (unknown e) (described e draft bytes) (leb (length (candidate draft bytes)) (length old)) refl refl refl
+  some_writes = go (is_known e) (described e draft bytes) (leb (length (candidate draft bytes)) (length old)) refl refl refl
     where
-      go : (u d fits : Bool) → unknown e ≡ u → described e draft bytes ≡ d → leb (length (candidate draft bytes)) (length old) ≡ fits
+      go : (known d fits : Bool) → is_known e ≡ known → described e draft bytes ≡ d → leb (length (candidate draft bytes)) (length old) ≡ fits
           → (a : Answer) × ((new : List ℕ) × Writes e draft bytes old a.number a.place a.count new)
-      go true d fits none is size = (refusal unknown_edition_number 0, (old, unknown_edition (unknown_no_edition e none)))
-      go false false fits known is size =
-          let ed = known_edition e known in
+      go false d fits other is size = (refusal unknown_edition_number 0, (old, unknown_edition (λ ed. true_false other (computed.known_passes ed))))
+      go true false fits known is size =
+          let ed = computed.known_edition e known in
           (refusal no_such_batch 0, (old, no_batch ed (λ s h. true_false is (has_described ed draft bytes s h))))
-      go false true false known is size =
-          (refusal no_room_number 0, (old, no_room (known_edition e known) (candidate draft bytes) (described_has e draft bytes octets is) (leb-false _ _ size)))
-      go false true true known is size =
-          (accepted (length (candidate draft bytes)), (over old 0 (candidate draft bytes), written (known_edition e known) (candidate draft bytes) (described_has e draft bytes octets is) (leb-true _ _ size)))
+      go true true false known is size =
+          (refusal no_room_number 0, (old, no_room (computed.known_edition e known) (candidate draft bytes) (described_has e draft bytes octets is) (leb-false _ _ size)))
+      go true true true known is size =
+          (accepted (length (candidate draft bytes)), (over old 0 (candidate draft bytes), written (computed.known_edition e known) (candidate draft bytes) (described_has e draft bytes octets is) (leb-true _ _ size)))
 
   -- the relation says exactly what is computed
   pub writes_exactly : (a : Answer) (new : List ℕ) → Writes e draft bytes old a.number a.place a.count new

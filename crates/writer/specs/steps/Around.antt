@@ -3,7 +3,7 @@ use Rattle.std.specs.Prelude.{ℕ, true, false, List, ◌++◌, leb, length}
 use Rattle.der.specs.meaning.Bounds.{longest}
 use Rattle.der.specs.meaning.Refusal.{too_long_number}
 use Rattle.der.specs.meaning.Tree.{header}
-use Rattle.editions.specs.declared.reader.Answer.{Answer}
+use Rattle.editions.specs.meaning.Answer.{Answer}
 use Rattle.editions.specs.steps.Reading.{refusal}
 use Rattle.writer.specs.steps.Writing.{delivered_answer, delivered_output}
 

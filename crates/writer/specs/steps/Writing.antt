@@ -9,10 +9,14 @@ use Rattle.crmf.specs.steps.recognise.Count.{agreed}
 use Rattle.crmf.specs.steps.rows.Agree.{draft_rows}
 use Rattle.crmf.specs.meaning.Pieces.{Piece, pieces_of}
 use Rattle.crmf.specs.steps.rows.Assembly.{assembled, none_longer}
-use Rattle.editions.specs.declared.reader.Answer.{Answer}
+use Rattle.editions.specs.meaning.Answer.{Answer}
 use Rattle.editions.specs.meaning.Edition.{rfc2511, rfc4211}
 use Rattle.editions.specs.steps.Reading.{refusal, accepted}
 use Rattle.writer.specs.meaning.Draft.{inside}
+
+-- the test of an edition's number
+abbrev pub is_known : ℕ → Bool
+is_known e = eqb e rfc2511 || eqb e rfc4211
 
 -- the most rows that a batch can have: each has two octets of its own
 abbrev pub most_rows : ℕ
@@ -59,7 +63,7 @@ judged_output e draft batch old = elim (agreed e batch draft false) [ false ↦ 
 -- "Order of writing refusals: 13, 12, 11" (SPECIFICATION 4)
 unfoldable pub write_answer : ℕ → List ℕ → List ℕ → List ℕ → Answer
 write_answer e draft bytes old =
-    elim (eqb e rfc2511 || eqb e rfc4211) [
+    elim (is_known e) [
       | false ↦ refusal unknown_edition_number 0
       | true ↦ elim (described e draft bytes) [ false ↦ refusal no_such_batch 0 | true ↦ delivered_answer (candidate draft bytes) old ]
     ]

@@ -4,47 +4,53 @@ use native.Mathlib.Omega.{arith}
 use mathlib.Core.Path.{◌≡◌, sym, ap, ap₂, ◌∙◌}
 use mathlib.Core.List.{List, [], ◌∷◌, ◌++◌}
 use lib.IntN.{ℤ, pos}
-use lib.ListN.{length, set, length-set}
+use lib.ListN.{length, get_or, set}
 use Rattle.compare.specs.meaning.Changes.{entry_numbers}
 use Rattle.compare.specs.steps.Lists.{window}
-use Rattle.compare.proofs.theorems.Windows.{early, late, in_place, window_length}
-use mir.Facts.{to_z_pos, to_z-of_z}
+use Rattle.compare.proofs.theorems.Windows.{late, in_place, window_length}
+use mir.Facts.{to_z-of_z}
 use mir.Syntax.{w64}
-use mir.Val.{to_z}
+use mir.Val.{SFits}
+use Rattle.compare.specs.declared.entries.Change.{Change}
+use Rattle.compare.specs.declared.entries.Change.TheVariants.{OnlyFirst, OnlySecond, LeavesDiffer}
+use Rattle.compare.specs.steps.Told.{Small, numbers_of}
 use Rattle.compare.proofs.entries.put.Goals as goal
-
--- a small number is itself when it is signed
-number : (n : ℕ) → n ≤ 131070 → to_z w64 n ≡ pos n
-number n small = to_z_pos w64 (omega arith)
-
-pub returns-then-number-from : goal.returns-then-number-from
-returns-then-number-from c = λ later d is before base counted old. old ∙ early later c.args.from d before base (omega (arith, c.if-number-from.true))
 
 pub returns-then-list-at : goal.returns-then-list-at
 returns-then-list-at c = λ later d is before base counted old.
     let a = c.args in
     old ∙ late later a.from d before base (omega (arith, c.if-number-from.false)) (omega (arith, c.if-list-at.true, ap length old, window_length later a.from before base, ap (λ (n : ℕ). n - a.from) counted))
 
-pub bounds-list-at-2 : goal.bounds-list-at-2
-bounds-list-at-2 c = simp length-set (omega arith)
+-- a small number has 64 bits
+small : (n : ℕ) → n ≤ 65535 → SFits w64 (pos n)
+small n few = record { sfits = omega (arith, few) }
 
-pub bounds-list-at-3 : goal.bounds-list-at-3
-bounds-list-at-3 c = simp length-set (omega arith)
-
-pub bounds-list-at-4 : goal.bounds-list-at-4
-bounds-list-at-4 c = simp length-set (omega arith)
+-- and so has each number of an entry
+numbers_fit : (change : Change) → Small change → (x y z w : ℤ) → x ∷ y ∷ z ∷ w ∷ [] ≡ numbers_of change → SFits w64 x × SFits w64 y × SFits w64 z × SFits w64 w
+numbers_fit (OnlyFirst i) few x y z w is =
+    (rw (at 0 is) (small 1 (omega arith)), rw (at 1 is) (small i few), rw (at 2 is) (small 0 (omega arith)), rw (at 3 is) (small 0 (omega arith)))
+  where
+    at : (k : ℕ) → {l m : List ℤ} → l ≡ m → get_or l k (pos 0) ≡ get_or m k (pos 0)
+    at k same = ap (λ (l : List ℤ). get_or l k (pos 0)) same
+numbers_fit (OnlySecond j) few x y z w is =
+    (rw (at 0 is) (small 2 (omega arith)), rw (at 1 is) (small 0 (omega arith)), rw (at 2 is) (small j few), rw (at 3 is) (small 0 (omega arith)))
+  where
+    at : (k : ℕ) → {l m : List ℤ} → l ≡ m → get_or l k (pos 0) ≡ get_or m k (pos 0)
+    at k same = ap (λ (l : List ℤ). get_or l k (pos 0)) same
+numbers_fit (LeavesDiffer i j seconds) few x y z w is =
+    (rw (at 0 is) (small 3 (omega arith)), rw (at 1 is) (small i few.0), rw (at 2 is) (small j few.1), rw (at 3 is) few.2)
+  where
+    at : (k : ℕ) → {l m : List ℤ} → l ≡ m → get_or l k (pos 0) ≡ get_or m k (pos 0)
+    at k same = ap (λ (l : List ℤ). get_or l k (pos 0)) same
 
 pub returns : goal.returns
 returns c = λ later d is before base counted old.
     let a = c.args in
-    let bounds = c.requires in
     let at = entry_numbers * (a.number - a.from) in
-    let x = number a.what (omega (arith, bounds.0)) in
-    let y = number a.first (omega (arith, bounds.1)) in
-    let z = number a.second (omega (arith, bounds.2)) in
-    let w = to_z-of_z c.ranges.seconds in
+    let v = c.numbers-what.result in
+    let fits = numbers_fit a.change c.requires.0 v.0 v.1 v.2 v.3 c.numbers-what.ensures in
     let here : at ≡ entry_numbers * (length before - a.from) = ap (λ (n : ℕ). entry_numbers * (n - a.from)) (sym counted) in
-    let stores : List ℤ → ℕ → List ℤ = λ l k. set (set (set (set l k (pos a.what)) (k + 1) (pos a.first)) (k + 2) (pos a.second)) (k + 3) a.seconds in
+    let stores : List ℤ → ℕ → List ℤ = λ l k. set (set (set (set l k v.0) (k + 1) v.1) (k + 2) v.2) (k + 3) v.3 in
     let put_there : stores (window later a.from before base) (entry_numbers * (length before - a.from)) ≡ window later a.from (before ++ (d ∷ [])) base =
-    in_place later a.from d before base (omega (arith, c.if-number-from.false)) (omega (arith, c.if-list-at.false, ap length old, window_length later a.from before base, here)) (pos a.what) (pos a.first) (pos a.second) a.seconds is in
-    rw (x, y, z, w) (ap₂ stores old here ∙ put_there)
+    in_place later a.from d before base (omega (arith, c.if-number-from.false)) (omega (arith, c.if-list-at.false, ap length old, window_length later a.from before base, here)) v.0 v.1 v.2 v.3 (is ∙ sym c.numbers-what.ensures) in
+    rw (to_z-of_z fits.0, to_z-of_z fits.1, to_z-of_z fits.2, to_z-of_z fits.3) (ap₂ stores old here ∙ put_there)

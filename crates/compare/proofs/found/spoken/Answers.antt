@@ -17,7 +17,7 @@ pub part_of-requires : goal.part_of-requires
 part_of-requires c = let r = in_second c.requires c.if-list.true in rw (row_read r) r.there
 
 pub returns-then-list : goal.returns-then-list
-returns-then-list c = let start = (goal.at.returns-then-list c).Start in spoken_second start.requires start.args.count c.if-list.true c.part_of.ensures
+returns-then-list c = let start = (goal.at.returns-then-list c).Start in spoken_second start.requires c.if-list.true c.part_of.ensures
 
 pub bounds-list-1 : goal.bounds-list-1
 bounds-list-1 c = let l = c.requires in omega (arith, four_numbers l.later _ l.change l.numbers)
@@ -29,4 +29,4 @@ pub part_of-requires-2 : goal.part_of-requires-2
 part_of-requires-2 c = let r = in_first c.requires c.if-list.false in rw (row_read r) r.there
 
 pub returns : goal.returns
-returns c = let start = (goal.at.returns c).Start in spoken_first start.requires start.args.count c.if-list.false c.part_of-2.ensures
+returns c = let start = (goal.at.returns c).Start in spoken_first start.requires c.if-list.false c.part_of-2.ensures

@@ -21,9 +21,9 @@ use Rattle.compare.specs.steps.Lists.{Tells, later_between}
 use Rattle.compare.specs.steps.Tables.{child_at}
 use Rattle.compare.specs.steps.Walking.{Standing}
 use Rattle.compare.proofs.theorems.TableRows.{table_no_child, table_next}
-use Rattle.compare.proofs.theorems.WalkSteps.{child_first, child_second, one_position, kinds_first, kinds_second, alike, step_first, step_second, step_unlike, step_same, step_differing, step_inside, standing_inside, went_none, standing_there, went_on, gone}
+use Rattle.compare.proofs.theorems.WalkSteps.{child_first, child_second, one_position, kinds_first, kinds_second, alike, step_first, step_second, step_unlike, step_same, step_differing, step_inside, went_on, gone}
 use Rattle.compare.proofs.merge.+both_children_spot.Goals as goal
-use Rattle.compare.proofs.merge.+both_children_spot.Goals.{both-After-container, both-After-equal, both-After-seconds_later-seconds, both-Start, children-At-loop-above, children-Start, spot-After-by_position, spot-After-kind_at-other, spot-Else-not-is_child, spot-Else-not-is_child-2, spot-Start, spot-Then-not-is_child}
+use Rattle.compare.proofs.merge.+both_children_spot.Goals.{both-After-container, both-After-equal, both-After-seconds_later-seconds, both-Start, children-At-loop-above, children-Start, spot-After-by_position, spot-After-kind-other, spot-Else-not-is_child, spot-Else-not-is_child-2, spot-Start, spot-Then-not-is_child}
 
 -- what two tests say together
 neither : (x y : Bool) → (x || y) ≡ false → (x ≡ false) × (y ≡ false)
@@ -46,23 +46,23 @@ different {x} {y} l apart = go (dec_le x y)
 module _ (t : ℕ) where
   module _ (c : both-Start t) where
     -- what `both` is lent: the walk stands before two rows that are alike
-    standing_of : (let a = c.args in Standing a.first.now a.second.now a.one.now a.two.now a.above a.at)
+    standing_of : (let a = c.args in Standing a.first.bytes.now a.second.bytes.now a.first.rows.now a.second.rows.now a.above a.at)
     standing_of = c.requires.0
 
-    facing_of : (let a = c.args in (a.at.first < length a.one.now) × (a.at.second < length a.two.now))
+    facing_of : (let a = c.args in (a.at.first < length a.first.rows.now) × (a.at.second < length a.second.rows.now))
     facing_of =
         let e = c.requires.1 in
         (omega (arith, e.one.there, standing_of.first.sized), omega (arith, e.two.there, standing_of.second.sized))
 
   module _ (c : both-After-container t) where
     -- the kind that is read is the next row's,
-    kind_read : (let a = c.args in c.kind_at-kind.result ≡ (row_at (rows_of_input a.first.now) a.at.first).kind)
+    kind_read : (let a = c.args in c.kind-kind.result ≡ (row_at (rows_of_input a.first.bytes.now) a.at.first).kind)
     kind_read =
         let start = (goal.at.both-After-container t c).Start in
-        c.kind_at-kind.ensures ∙ (standing_of start).first.kinds start.args.at.first (facing_of start).0
+        c.kind-kind.ensures ∙ (standing_of start).first.kinds start.args.at.first (facing_of start).0
 
     -- and is asked for
-    kind_of_next : (let a = c.args in c.container.result ≡ container (row_at (rows_of_input a.first.now) a.at.first).kind)
+    kind_of_next : (let a = c.args in c.container.result ≡ container (row_at (rows_of_input a.first.bytes.now) a.at.first).kind)
     kind_of_next = c.container.ensures ∙ ap container kind_read
 
   module _ (c : both-After-equal t) where
@@ -71,10 +71,10 @@ module _ (t : ℕ) where
 
     -- the octets of the next rows,
     abbrev mine : List ℕ
-    mine = row_octets entered.args.first.now (row_at (rows_of_input entered.args.first.now) entered.args.at.first)
+    mine = row_octets entered.args.first.bytes.now (row_at (rows_of_input entered.args.first.bytes.now) entered.args.at.first)
 
     abbrev yours : List ℕ
-    yours = row_octets entered.args.second.now (row_at (rows_of_input entered.args.second.now) entered.args.at.second)
+    yours = row_octets entered.args.second.bytes.now (row_at (rows_of_input entered.args.second.bytes.now) entered.args.at.second)
 
     -- as they are lent,
     mine_lent : c.element-here.result.now ≡ mine
@@ -83,7 +83,7 @@ module _ (t : ℕ) where
         let i = entered.args.at.first in
         let x = (standing_of start).first in
         let there = (facing_of start).0 in
-        c.element-here.ensures ∙ ap₂ (λ (f w : ℕ). slice f (f + w) entered.args.first.now) (x.firsts i there) (x.wholes i there)
+        c.element-here.ensures ∙ ap₂ (λ (f w : ℕ). slice f (f + w) entered.args.first.bytes.now) (x.firsts i there) (x.wholes i there)
 
     yours_lent : c.element-there.result.now ≡ yours
     yours_lent =
@@ -91,7 +91,7 @@ module _ (t : ℕ) where
         let j = entered.args.at.second in
         let x = (standing_of start).second in
         let there = (facing_of start).1 in
-        c.element-there.ensures ∙ ap₂ (λ (f w : ℕ). slice f (f + w) entered.args.second.now) (x.firsts j there) (x.wholes j there)
+        c.element-there.ensures ∙ ap₂ (λ (f w : ℕ). slice f (f + w) entered.args.second.bytes.now) (x.firsts j there) (x.wholes j there)
 
     -- which are compared
     octets_told : Tells c.equal.result mine yours
@@ -104,7 +104,7 @@ module _ (t : ℕ) where
     told_apart e = subst (λ (b : Bool). Tells b mine yours) e octets_told
 
   -- the seconds that are told are the next rows'
-  seconds_told : (c : both-After-seconds_later-seconds t) → (let a = (entered (goal.at.both-After-seconds_later-seconds t c).After-equal).args in later_between a.first.now a.second.now a.at.first a.at.second ≡ to_z w64 (of_z w64 c.seconds_later-seconds.result))
+  seconds_told : (c : both-After-seconds_later-seconds t) → (let a = (entered (goal.at.both-After-seconds_later-seconds t c).After-equal).args in later_between a.first.bytes.now a.second.bytes.now a.at.first a.at.second ≡ to_z w64 (of_z w64 c.seconds_later-seconds.result))
   seconds_told c =
       let compared = (goal.at.both-After-seconds_later-seconds t c).After-equal in
       sym
@@ -115,29 +115,29 @@ module _ (t : ℕ) where
 
   module _ (c : spot-Start t) where
     -- what `spot` is lent: the walk stands before a child
-    stands : (let a = c.args in Standing a.first.now a.second.now a.one.now a.two.now a.above a.at)
+    stands : (let a = c.args in Standing a.first.bytes.now a.second.bytes.now a.first.rows.now a.second.rows.now a.above a.at)
     stands = c.requires.0
 
     -- a row that is one is in the batch
-    in_one : (let a = c.args in Child (rows_of_input a.first.now) a.above.first a.at.first → (a.at.first < length a.one.now) × (length a.one.now ≤ 32767) × (a.at.second ≤ 32767) × (a.at.count ≤ a.at.first + a.at.second))
+    in_one : (let a = c.args in Child (rows_of_input a.first.bytes.now) a.above.first a.at.first → (a.at.first < length a.first.rows.now) × (a.at.second ≤ 32767) × (a.at.count ≤ a.at.first + a.at.second))
     in_one d =
-        (omega (arith, d.there, stands.first.sized), stands.first.few, omega (arith, stands.in_second, stands.second.few), stands.few)
+        (omega (arith, d.there, stands.first.sized), omega (arith, stands.in_second, stands.second.few), stands.few)
 
-    in_two : (let a = c.args in Child (rows_of_input a.second.now) a.above.second a.at.second → (a.at.second < length a.two.now) × (length a.two.now ≤ 32767) × (a.at.first ≤ 32767) × (a.at.count ≤ a.at.first + a.at.second))
+    in_two : (let a = c.args in Child (rows_of_input a.second.bytes.now) a.above.second a.at.second → (a.at.second < length a.second.rows.now) × (a.at.first ≤ 32767) × (a.at.count ≤ a.at.first + a.at.second))
     in_two d =
-        (omega (arith, d.there, stands.second.sized), stands.second.few, omega (arith, stands.in_first, stands.first.few), stands.few)
+        (omega (arith, d.there, stands.second.sized), omega (arith, stands.in_first, stands.first.few), stands.few)
 
   module _ (c : spot-Then-not-is_child t) where
     -- there is none of the second, so one of the first
-    none_of_second : (let a = c.args in child_at a.two.now a.above.second a.at.second ≡ false)
+    none_of_second : (let a = c.args in child_at a.second.rows.now a.above.second a.at.second ≡ false)
     none_of_second = sym c.is_child.ensures ∙ c.if-not-is_child.true
 
-    one_of_first : (let a = c.args in Child (rows_of_input a.first.now) a.above.first a.at.first)
+    one_of_first : (let a = c.args in Child (rows_of_input a.first.bytes.now) a.above.first a.at.first)
     one_of_first = child_first (stands (goal.at.spot-Then-not-is_child t c).Start) (other_one _ _ c.requires.1 none_of_second)
 
   module _ (c : spot-Else-not-is_child t) where
     -- there is one of the second
-    one_of_second : (let a = c.args in Child (rows_of_input a.second.now) a.above.second a.at.second)
+    one_of_second : (let a = c.args in Child (rows_of_input a.second.bytes.now) a.above.second a.at.second)
     one_of_second = child_second (stands (goal.at.spot-Else-not-is_child t c).Start) (sym c.is_child.ensures ∙ c.if-not-is_child.false)
 
   module _ (c : spot-Else-not-is_child-2 t) where
@@ -145,47 +145,37 @@ module _ (t : ℕ) where
     begins = (goal.at.spot-Else-not-is_child-2 t c).Start
 
     -- there is one of each
-    first_here : (let a = begins.args in Child (rows_of_input a.first.now) a.above.first a.at.first)
+    first_here : (let a = begins.args in Child (rows_of_input a.first.bytes.now) a.above.first a.at.first)
     first_here = child_first (stands begins) (sym c.is_child-2.ensures ∙ c.if-not-is_child-2.false)
 
-    second_here : (let a = begins.args in Child (rows_of_input a.second.now) a.above.second a.at.second)
+    second_here : (let a = begins.args in Child (rows_of_input a.second.bytes.now) a.above.second a.at.second)
     second_here = one_of_second (goal.at.spot-Else-not-is_child-2 t c).Else-not-is_child
 
-  module _ (c : spot-After-kind_at-other t) where
+  module _ (c : spot-After-kind-other t) where
     abbrev met : spot-Else-not-is_child-2 t
-    met = (goal.at.spot-After-kind_at-other t c).Else-not-is_child-2
+    met = (goal.at.spot-After-kind-other t c).Else-not-is_child-2
 
     -- their kinds
-    first_kind : (let a = (begins met).args in c.kind_at-kind.result ≡ (row_at (rows_of_input a.first.now) a.at.first).kind)
-    first_kind = let start = begins met in c.kind_at-kind.ensures ∙ (stands start).first.kinds start.args.at.first (in_one start (first_here met)).0
+    first_kind : (let a = (begins met).args in c.kind-kind.result ≡ (row_at (rows_of_input a.first.bytes.now) a.at.first).kind)
+    first_kind = let start = begins met in c.kind-kind.ensures ∙ (stands start).first.kinds start.args.at.first (in_one start (first_here met)).0
 
-    second_kind : (let a = (begins met).args in c.kind_at-other.result ≡ (row_at (rows_of_input a.second.now) a.at.second).kind)
-    second_kind = let start = begins met in c.kind_at-other.ensures ∙ (stands start).second.kinds start.args.at.second (in_two start (second_here met)).0
+    second_kind : (let a = (begins met).args in c.kind-other.result ≡ (row_at (rows_of_input a.second.bytes.now) a.at.second).kind)
+    second_kind = let start = begins met in c.kind-other.ensures ∙ (stands start).second.kinds start.args.at.second (in_two start (second_here met)).0
 
   module _ (c : spot-After-by_position t) where
-    abbrev asked_kinds : spot-After-kind_at-other t
-    asked_kinds = (goal.at.spot-After-by_position t c).After-kind_at-other
+    abbrev asked_kinds : spot-After-kind-other t
+    asked_kinds = (goal.at.spot-After-by_position t c).After-kind-other
 
     -- whether the parents' children are matched by position
-    position_told : (let a = (begins (met asked_kinds)).args in by_position (row_at (rows_of_input a.first.now) a.above.first).kind ≡ c.by_position.result)
+    position_told : (let a = (begins (met asked_kinds)).args in by_position (row_at (rows_of_input a.first.bytes.now) a.above.first).kind ≡ c.by_position.result)
     position_told =
         let start = begins (met asked_kinds) in
         let x = stands start in
-        sym (c.by_position.ensures ∙ ap by_position (c.kind_at.ensures ∙ x.first.kinds start.args.above.first (omega (arith, x.past_first, x.in_first))))
+        sym (c.by_position.ensures ∙ ap by_position (c.kind.ensures ∙ x.first.kinds start.args.above.first (omega (arith, x.past_first, x.in_first))))
 
     -- their kinds aren't the same
-    unlike_kinds : (let a = (begins (met asked_kinds)).args in (row_at (rows_of_input a.first.now) a.at.first).kind ≡ (row_at (rows_of_input a.second.now) a.at.second).kind → ⊥)
+    unlike_kinds : (let a = (begins (met asked_kinds)).args in (row_at (rows_of_input a.first.bytes.now) a.at.first).kind ≡ (row_at (rows_of_input a.second.bytes.now) a.at.second).kind → ⊥)
     unlike_kinds same = c.if-kind-other.false (first_kind asked_kinds ∙ same ∙ sym (second_kind asked_kinds))
-
-pub both-kind_at-kind-requires : goal.both-kind_at-kind-requires
-both-kind_at-kind-requires t c = ((facing_of t) (goal.at.both-kind_at-kind-requires t c).Start).0
-
-pub both-children-requires : goal.both-children-requires
-both-children-requires t c =
-    let start = (goal.at.both-children-requires t c).Start in
-    let e = start.requires.1 in
-    let x = start.requires.0 in
-    (omega (arith, start.decreases, e.one.there, e.two.there, x.first.sized, x.second.sized), standing_inside x e refl refl refl)
 
 pub both-returns-then-container : goal.both-returns-then-container
 both-returns-then-container t c =
@@ -193,39 +183,11 @@ both-returns-then-container t c =
     let asked = (goal.at.both-returns-then-container t c).After-container in
     step_inside ((standing_of t) start) start.requires.1 (sym ((kind_of_next t) asked) ∙ c.if-container.true) refl refl refl c.children.ensures
 
-pub both-element-here-requires : goal.both-element-here-requires
-both-element-here-requires t c =
-    let start = (goal.at.both-element-here-requires t c).Start in
-    let x = (standing_of t) start in
-    let i = start.args.at.first in
-    let there = ((facing_of t) start).0 in
-    (there, omega (arith, x.first.firsts i there, x.first.wholes i there, x.first.arranged.within i (omega (arith, there, x.first.sized))))
-
-pub both-element-there-requires : goal.both-element-there-requires
-both-element-there-requires t c =
-    let start = (goal.at.both-element-there-requires t c).Start in
-    let x = (standing_of t) start in
-    let j = start.args.at.second in
-    let there = ((facing_of t) start).1 in
-    (there, omega (arith, x.second.firsts j there, x.second.wholes j there, x.second.arranged.within j (omega (arith, there, x.second.sized))))
-
 pub both-returns-then-equal : goal.both-returns-then-equal
 both-returns-then-equal t c =
     let start = (goal.at.both-returns-then-equal t c).Start in
     step_same ((standing_of t) start) start.requires.1 (sym ((kind_of_next t) (goal.at.both-returns-then-equal t c).After-container) ∙ c.if-container.false)
     ((told_same t) (goal.at.both-returns-then-equal t c).After-equal c.if-equal.true) refl refl refl refl
-
-pub both-put-requires : goal.both-put-requires
-both-put-requires t c =
-    let start = (entered t) (goal.at.both-put-requires t c).After-equal in
-    let e = start.requires.1 in
-    let x = start.requires.0 in
-    (omega arith, omega (arith, e.one.there, x.first.sized, x.first.few), omega (arith, e.two.there, x.second.sized, x.second.few), omega (arith, x.few, e.one.there, e.two.there, x.first.sized, x.first.few, x.second.sized, x.second.few))
-
-pub both-overflow_add-result : goal.both-overflow_add-result
-both-overflow_add-result t c =
-    let x = (standing_of t) ((entered t) (goal.at.both-overflow_add-result t c).After-equal) in
-    omega (arith, x.few, x.in_first, x.in_second, x.first.few, x.second.few)
 
 pub both-returns : goal.both-returns
 unfolding entry
@@ -234,39 +196,18 @@ both-returns t c =
     let start = (entered t) compared in
     let asked = (goal.at.both-After-equal t compared).After-container in
     step_differing ((standing_of t) start) start.requires.1 (sym ((kind_of_next t) asked) ∙ compared.if-container.false)
-    ((told_apart t) compared c.if-equal.false) refl refl (omega arith) (c.put.ensures (later_between start.args.first.now start.args.second.now) (leaves_differ start.args.at.first start.args.at.second) (ap (λ (z : ℤ). pos 3 ∷ pos start.args.at.first ∷ pos start.args.at.second ∷ z ∷ []) ((seconds_told t) (goal.at.both-returns t c).After-seconds_later-seconds)))
-
-pub children-loop-above-init : goal.children-loop-above-init
-children-loop-above-init t c =
-    let begun = (goal.at.children-loop-above-init t c).Start in
-    (went_none begun.requires begun.args.from begun.args.list.now, refl)
-
-pub children-spot-at-requires : goal.children-spot-at-requires
-children-spot-at-requires t c =
-    let looping = (goal.at.children-spot-at-requires t c).At-loop-above in
-    let begun = (goal.at.children-At-loop-above t looping).Start in
-    let w = looping.loop-above.invariant.0 in
-    (omega (arith, begun.decreases, w.on_first, w.on_second), (standing_there w begun.requires, ap₂ ◌||◌ (sym c.is_child.ensures) (sym c.is_child-in-loop-above.ensures) ∙ c.loop-above-test.true))
-
-pub children-loop-above-smaller : goal.children-loop-above-smaller
-children-loop-above-smaller t c =
-    let stepped = c.spot-at.ensures in
-    let begun = (goal.at.children-loop-above-smaller t c).Start in
-    omega (arith, stepped.further, stepped.went.in_first, stepped.went.in_second, begun.requires.first.sized, begun.requires.second.sized, stepped.went.on_first, stepped.went.on_second)
+    ((told_apart t) compared c.if-equal.false) refl refl (omega arith) (c.put.ensures (later_between start.args.first.bytes.now start.args.second.bytes.now) (leaves_differ start.args.at.first start.args.at.second) (ap (λ (z : ℤ). pos 3 ∷ pos start.args.at.first ∷ pos start.args.at.second ∷ z ∷ []) ((seconds_told t) (goal.at.both-returns t c).After-seconds_later-seconds)))
 
 pub children-loop-above-preserved : goal.children-loop-above-preserved
 children-loop-above-preserved t c =
     let looping = (goal.at.children-loop-above-preserved t c).At-loop-above in
     (went_on looping.loop-above.invariant.0 c.spot-at.ensures, c.spot-at.auto.list ∙ looping.loop-above.invariant.1)
 
-pub children-shape_of-list : goal.children-shape_of-list
-children-shape_of-list t c = c.loop-above.invariant.1
-
 pub children-returns : goal.children-returns
 children-returns t c =
     let looping = (goal.at.children-returns t c).At-loop-above in
     let begun = (goal.at.children-At-loop-above t looping).Start in
-    let none = neither (child_at begun.args.one.now begun.args.above.first looping.loop-above.at.first) _ (ap₂ ◌||◌ (sym c.is_child.ensures) (sym c.is_child-in-loop-above.ensures) ∙ c.loop-above-test.false) in
+    let none = neither (child_at begun.args.first.rows.now begun.args.above.first looping.loop-above.at.first) _ (ap₂ ◌||◌ (sym c.is_child.ensures) (sym c.is_child-in-loop-above.ensures) ∙ c.loop-above-test.false) in
     gone looping.loop-above.invariant.0 begun.requires none.0 none.1
 
 pub spot-pass_first-requires : goal.spot-pass_first-requires
@@ -289,25 +230,17 @@ spot-returns-then-not-is_child-2 t c =
     let none-of-first = sym c.is_child-2.ensures ∙ c.if-not-is_child-2.true in
     step_second x ((one_of_second t) (goal.at.spot-returns-then-not-is_child-2 t c).Else-not-is_child) (λ d. absurd (table_no_child x.first none-of-first d)) passed.0 passed.1 passed.2 passed.3
 
-pub spot-kind_at-kind-requires : goal.spot-kind_at-kind-requires
-spot-kind_at-kind-requires t c = ((in_one t) (goal.at.spot-kind_at-kind-requires t c).Start ((first_here t) c)).0
+pub spot-kind-kind-requires : goal.spot-kind-kind-requires
+spot-kind-kind-requires t c = ((in_one t) (goal.at.spot-kind-kind-requires t c).Start ((first_here t) c)).0
 
-pub spot-kind_at-other-requires : goal.spot-kind_at-other-requires
-spot-kind_at-other-requires t c = ((in_two t) (goal.at.spot-kind_at-other-requires t c).Start ((second_here t) (goal.at.spot-kind_at-other-requires t c).Else-not-is_child-2)).0
+pub spot-kind-other-requires : goal.spot-kind-other-requires
+spot-kind-other-requires t c = ((in_two t) (goal.at.spot-kind-other-requires t c).Start ((second_here t) (goal.at.spot-kind-other-requires t c).Else-not-is_child-2)).0
 
 pub spot-both-requires : goal.spot-both-requires
 spot-both-requires t c =
-    let asked = (goal.at.spot-both-requires t c).After-kind_at-other in
+    let asked = (goal.at.spot-both-requires t c).After-kind-other in
     let start = (begins t) ((met t) asked) in
     (omega (arith, start.decreases), ((stands t) start, alike ((stands t) start) ((first_here t) ((met t) asked)) ((second_here t) ((met t) asked)) (sym ((first_kind t) asked) ∙ c.if-kind-other.true ∙ (second_kind t) asked)))
-
-pub spot-returns-then-kind-other : goal.spot-returns-then-kind-other
-spot-returns-then-kind-other t c = c.both.ensures
-
-pub spot-kind_at-requires : goal.spot-kind_at-requires
-spot-kind_at-requires t c =
-    let start = (begins t) ((met t) (goal.at.spot-kind_at-requires t c).After-kind_at-other) in
-    omega (arith, ((stands t) start).past_first, ((stands t) start).in_first)
 
 pub spot-pass_first-half-requires : goal.spot-pass_first-half-requires
 spot-pass_first-half-requires t c =
@@ -321,7 +254,7 @@ spot-pass_second-requires-then-by_position t c =
     let x = (stands t) ((begins t) m) in
     let two = (in_two t) ((begins t) m) ((second_here t) m) in
     let ended = table_next x.first half.ensures.0 in
-    (omega (arith, half.ensures.1, two.0), two.1, omega (arith, ended.there, x.first.sized, x.first.few), omega (arith, half.ensures.1, half.ensures.2, ended.past, x.few))
+    (omega (arith, half.ensures.1, two.0), omega (arith, ended.there, x.first.sized, x.first.few), omega (arith, half.ensures.1, half.ensures.2, ended.past, x.few))
 
 pub spot-returns-then-by_position : goal.spot-returns-then-by_position
 spot-returns-then-by_position t c =

@@ -14,17 +14,17 @@ left one two at = (length one - at.first) + (length two - at.second)
 
 -- three times the rows that are left, and one more for a spot, two for a row's children
 abbrev pub decreases-both : goal.decreases-both
-decreases-both l = 3 * left l.one.now l.two.now l.at
+decreases-both l = 3 * left l.first.rows.now l.second.rows.now l.at
 
 abbrev pub decreases-spot : goal.decreases-spot
-decreases-spot l = 3 * left l.one.now l.two.now l.at + 1
+decreases-spot l = 3 * left l.first.rows.now l.second.rows.now l.at + 1
 
 abbrev pub decreases-children : goal.decreases-children
-decreases-children l = 3 * left l.one.now l.two.now l.start + 2
+decreases-children l = 3 * left l.first.rows.now l.second.rows.now l.start + 2
 
 abbrev pub invariant-children-loop-above : goal.invariant-children-loop-above
 invariant-children-loop-above l =
-    Went l.first l.second l.above l.initial.at l.from l.initial.list l.at l.list × (length l.list ≡ length l.initial.list)
+    Went l.first.bytes.now l.second.bytes.now l.above l.initial.at l.from l.initial.list l.at l.list × (length l.list ≡ length l.initial.list)
 
 abbrev pub decreases-children-loop-above : goal.decreases-children-loop-above
-decreases-children-loop-above l = left l.one l.two l.at
+decreases-children-loop-above l = left l.first.rows.now l.second.rows.now l.at

@@ -1,5 +1,5 @@
 -- `crmf::recognise::count_by` meets its contract: it counts over the whole input, from the grammar's first line on. Assumes nothing.
-use mathlib.Core.Path.{sym, ◌∙◌}
+use mathlib.Core.Path.{sym}
 use Rattle.crmf.specs.meaning.Notation.{order}
 use Rattle.crmf.specs.steps.grammar.Lines.{start, starts_from}
 use Rattle.crmf.specs.steps.recognise.Count.{recognised}
@@ -11,4 +11,4 @@ returns-then-bytes-gt-LONGEST c = sym (too_long c.args.edition c.args.bytes.now 
 
 pub returns : goal.returns
 unfolding recognised start starts_from order
-returns c = c.decoded.ensures ∙ c.list.ensures.same 0
+returns c = c.list.ensures.same 0

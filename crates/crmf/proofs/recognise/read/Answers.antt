@@ -2,18 +2,18 @@
 use mathlib.Core.Path.{sym, ◌∙◌}
 use Rattle.crmf.proofs.theorems.recognise.CountWays.{unrecognised_stays, recognised_fills}
 use Rattle.crmf.proofs.recognise.read.Goals as goal
-use Rattle.crmf.proofs.recognise.read.Goals.{After-count_by-recognition, In-Rows}
+use Rattle.crmf.proofs.recognise.read.Goals.{After-count_by}
 
-pub returns-in-Rows : goal.returns-in-Rows
-returns-in-Rows c =
-    let recognised = (goal.at.returns-in-Rows c).In-Rows in
-    let counted = (goal.at.In-Rows recognised).After-count_by-recognition in
+pub returns-in_err-rows : goal.returns-in_err-rows
+returns-in_err-rows c =
+    let counted = (goal.at.returns-in_err-rows c).After-count_by in
     let a = counted.args in
-    let is = sym recognised.in-Rows.is ∙ counted.count_by-recognition.ensures in
-    (is, c.fill.ensures.1 ∙ recognised_fills a.edition a.bytes.now a.out.now _ (sym is))
+    let is = sym counted.count_by.ensures ∙ c.in_err-rows.was in
+    rw c.from_residual.ensures (sym is, unrecognised_stays a.edition a.bytes.now a.out.now is)
 
-pub returns-in_default : goal.returns-in_default
-returns-in_default c =
-    let counted = (goal.at.returns-in_default c).After-count_by-recognition in
+pub returns : goal.returns
+returns c =
+    let counted = (goal.at.returns c).After-count_by in
     let a = counted.args in
-    (counted.count_by-recognition.ensures, unrecognised_stays a.edition a.bytes.now a.out.now (sym counted.count_by-recognition.ensures ∙ c.in_default.is))
+    let is = sym counted.count_by.ensures ∙ c.in_ok-rows.was in
+    (sym is, c.fill.ensures.1 ∙ recognised_fills a.edition a.bytes.now a.out.now _ is)

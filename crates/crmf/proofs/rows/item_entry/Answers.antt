@@ -10,4 +10,4 @@ use Rattle.crmf.proofs.rows.item_entry.Goals as goal
 pub returns : goal.returns
 returns c =
     let around = c.args.around in
-    λ k e. ap (λ (j : ℕ). row_if j (around_extent around) around.up) (c.item_of.ensures ∙ ap item_field e ∙ item_at k)
+    λ k e. c.if_any.ensures ∙ ap (λ (j : ℕ). row_if j (around_extent around) around.up) (c.item_of.ensures ∙ ap item_field e ∙ item_at k)

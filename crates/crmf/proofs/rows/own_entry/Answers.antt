@@ -7,14 +7,10 @@ use Rattle.crmf.specs.meaning.Rows.{row_if, parent_if}
 use Rattle.crmf.specs.steps.rows.Fill.{fit_extent}
 use Rattle.crmf.proofs.theorems.lines.WordFields.{item_at, kind_at}
 use Rattle.crmf.proofs.rows.own_entry.Goals as goal
-use Rattle.crmf.proofs.rows.own_entry.Goals.{After-item_of, After-parent_if-parent}
 
 pub returns : goal.returns
-returns c =
-    let above = (goal.at.returns c).After-parent_if-parent in
-    let items = (goal.at.After-parent_if-parent above).After-item_of in
-    let a = items.args in
-    λ k e.
-    let parent : above.parent_if-parent.result ≡ parent_if (line k).item a.row a.around.up =
-    above.parent_if-parent.ensures ∙ ap (λ (j : ℕ). parent_if j a.row a.around.up) (items.item_of.ensures ∙ ap item_field e ∙ item_at k) in
-    ap₂ (λ (j q : ℕ). row_if j (fit_extent a.fit) q) (c.kind_of.ensures ∙ ap kind_field e ∙ kind_at k) parent
+returns c = λ k e.
+    let a = c.args in
+    let parent : c.parent_if-parent.result ≡ parent_if (line k).item a.row a.around.up =
+    c.parent_if-parent.ensures ∙ ap (λ (j : ℕ). parent_if j a.row a.around.up) (c.item_of.ensures ∙ ap item_field e ∙ item_at k) in
+    c.if_any.ensures ∙ ap₂ (λ (j q : ℕ). row_if j (fit_extent a.fit) q) (c.kind_of.ensures ∙ ap kind_field e ∙ kind_at k) parent

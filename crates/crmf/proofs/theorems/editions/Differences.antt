@@ -8,14 +8,12 @@ use mathlib.Core.Option.{none}
 use lib.Dec.{eqb}
 use borrow.Author.Tests.{eqb-true}
 use Rattle.der.specs.meaning.Tree.{Tree}
-use Rattle.crmf.specs.declared.explain.tally.Tally.{Tally}
-use Rattle.crmf.specs.declared.explain.Walked.{Walked}
-use Rattle.crmf.specs.declared.explain.Walked.TheVariants.{Passed, Broken}
+use Rattle.crmf.specs.steps.explain.Tally.{Tally}
 use Rattle.crmf.specs.meaning.Notation.{Name}
 use Rattle.crmf.specs.meaning.Grammar.{content}
 use Rattle.crmf.specs.meaning.Language.{Matches, Occurrence, occurrences}
 use Rattle.crmf.specs.steps.grammar.Lines.{start}
-use Rattle.crmf.specs.steps.explain.Walk.{walk}
+use Rattle.crmf.specs.steps.explain.Walk.{walk, Walked, Passed, Broken}
 use Rattle.crmf.proofs.theorems.explain.Accepts.{accepts}
 use Rattle.crmf.proofs.theorems.editions.Marks.{trail_occurrences}
 use Rattle.crmf.proofs.theorems.editions.ReadableSets.{first_of, unread, first_here, first_none, Follows, passed_reads, two_sets}

@@ -10,15 +10,13 @@ use borrow.Author.Tests.{eqb-true}
 use Rattle.der.specs.meaning.Tree.{Tree, element}
 use Rattle.der.specs.meaning.Tree as tree
 pub use Rattle.crmf.specs.meaning.Edition.{Edition, first_edition, second_edition}
-use Rattle.crmf.specs.declared.explain.tally.Tally.{Tally}
-use Rattle.crmf.specs.declared.explain.Walked.{Walked}
-use Rattle.crmf.specs.declared.explain.Walked.TheVariants.{Passed, Broken}
+use Rattle.crmf.specs.steps.explain.Tally.{Tally}
 pub use Rattle.crmf.specs.meaning.Edition.{Edition, first_edition, second_edition}
 use Rattle.crmf.specs.meaning.Notation.{Mark, both, alone, mark_of}
 use Rattle.crmf.specs.meaning.Language.{Occurrence, occurs}
 use Rattle.crmf.specs.steps.grammar.Lines.{Line}
 use Rattle.crmf.specs.meaning.Rows.{long_id}
-use Rattle.crmf.specs.steps.explain.Walk.{line, closed, with_long_id, with_form, with_element, walk, trail}
+use Rattle.crmf.specs.steps.explain.Walk.{line, closed, with_long_id, with_form, with_element, walk, trail, Walked, Passed, Broken}
 use Rattle.crmf.proofs.theorems.explain.Passing.{inner_walk, walk_closed, walk_open, walk_nowhere, walk_inner_broken, walk_breaks, walk_next}
 use Rattle.crmf.proofs.theorems.explain.WalkSteps.{trail_in, Way, lost, within, broken, onward, way, trail_end, trail_lost, trail_inside, trail_breaks, trail_on}
 use Rattle.crmf.proofs.theorems.explain.EveryForm.{all, all_read, inner_passed_lem, inner_broken}

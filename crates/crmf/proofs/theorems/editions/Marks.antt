@@ -7,9 +7,8 @@ use mathlib.Core.List.{List, [], ◌++◌}
 use mathlib.Core.Option.{Option}
 use lib.Dec.{T}
 use Rattle.der.specs.meaning.Tree.{Tree, none, element}
-use Rattle.crmf.specs.declared.explain.tally.Tally.{Tally}
-use Rattle.crmf.specs.declared.grammar.judge.Onward.TheVariants.{To}
-use Rattle.crmf.specs.declared.grammar.table.FoundLine.TheVariants.{At}
+use Rattle.crmf.specs.steps.explain.Tally.{Tally}
+use Rattle.std.specs.Prelude.{Ok, Some}
 use Rattle.crmf.specs.meaning.Value.{keeps}
 use Rattle.crmf.specs.meaning.Notation.{mark_of, Name, Inside, free, holds, Form, Occurs, part, Parts, ◌then◌}
 use Rattle.crmf.specs.meaning.Grammar.{content}
@@ -74,14 +73,14 @@ module _ (R : ℕ → Bool) where
   within_trail (holds n) t each (parts m) = rw (starts_past n, trail_in) (each n m)
 
   -- at an element whose line shows the choice that it keeps
-  kept_trail : (k n id first whole : ℕ) (c : List ℕ) (inside rest : Tree) (h : Choice) → find_line k id ≡ At n → Shows h (line n)
+  kept_trail : (k n id first whole : ℕ) (c : List ℕ) (inside rest : Tree) (h : Choice) → find_line k id ≡ Some n → Shows h (line n)
       → (kept : Keeps R h c inside rest) → ((a : Name) (m : Matches R (content a) inside) → trail (start a) inside ≡ occurrences m)
       → ((j : ℕ) (ps : Parts) → Stands j ps → (m : Matches R ps rest) → trail j rest ≡ occurrences m)
       → trail k (element id first whole c inside rest) ≡ kept_occurrences R first h c inside rest kept
   kept_trail k n id first whole c inside rest (taking f ps) found shows kept each further =
       let x = line n in
       let fine : passes_in x.inside inside ≡ true = rw shows.entered (within_pass f.inside inside kept.within) in
-      let to : judged x.judge x.next c ≡ To x.next =
+      let to : judged x.judge x.next c ≡ Ok x.next =
       rw shows.judging (judged_kept f.rule x.next c (holds-true (keeps f.rule c) kept.kept)) in
       trail_on k n id first whole c inside rest found x.next fine to
       ∙ rw (shows.marked, shows.entered, within_trail f.inside inside each kept.within, further x.next ps shows.onward kept.further)
@@ -90,8 +89,8 @@ module _ (R : ℕ → Bool) where
       let b = kept.name in
       let (w, is, there) = (way_selected t c ns b).0 kept.way in
       let fine : passes_in x.inside inside ≡ true = rw shows.entered in
-      let to : judged x.judge x.next c ≡ To (start b) =
-      rw shows.judging (judged_way t x.next c w is ∙ ap To (shows.onward w b there)) in
+      let to : judged x.judge x.next c ≡ Ok (start b) =
+      rw shows.judging (judged_way t x.next c w is ∙ ap Ok (shows.onward w b there)) in
       trail_on k n id first whole c inside rest found (start b) fine to
       ∙ rw (shows.marked, shows.entered) (further (start b) (content b) (stands_start b) kept.further)
 

@@ -8,11 +8,9 @@ use mathlib.Core.Option.{Option, none, some}
 use lib.Dec.{eqb}
 use borrow.Author.Tests.{eqb-true, eqb-false, eq-eqb}
 use Rattle.der.specs.meaning.Tree.{Tree}
-use Rattle.crmf.specs.declared.explain.tally.Tally.{Tally}
-use Rattle.crmf.specs.declared.explain.Walked.{Walked}
-use Rattle.crmf.specs.declared.explain.Walked.TheVariants.{Broken}
+use Rattle.crmf.specs.steps.explain.Tally.{Tally}
 use Rattle.crmf.specs.meaning.Language.{Occurrence}
-use Rattle.crmf.specs.steps.explain.Walk.{walk, passes, trail}
+use Rattle.crmf.specs.steps.explain.Walk.{walk, passes, trail, Walked, Broken}
 use Rattle.crmf.proofs.theorems.explain.EveryForm.{all, is_passed, walk_passes_lem}
 use Rattle.crmf.proofs.theorems.editions.ReadableSets.{first_of, first_here, first_later, unread, Follows, own_walk_lem}
 use Rattle.crmf.proofs.theorems.editions.FairMarks.{fair_all, fair_first, trail_fair}

@@ -11,13 +11,11 @@ use mathlib.Core.Option.{Option, none, some}
 use lib.Dec.{eqb}
 use Rattle.der.specs.meaning.Tree.{Tree, element}
 use Rattle.der.specs.meaning.Tree as tree
-use Rattle.crmf.specs.declared.explain.tally.Tally.{Tally}
-use Rattle.crmf.specs.declared.explain.Walked.{Walked}
-use Rattle.crmf.specs.declared.explain.Walked.TheVariants.{Passed, Broken}
-use Rattle.crmf.specs.declared.grammar.table.FoundLine.TheVariants.{At}
+use Rattle.crmf.specs.steps.explain.Tally.{Tally}
+use Rattle.std.specs.Prelude.{Some}
 use Rattle.crmf.specs.meaning.Notation.{Mark, both, alone, mark_of, detail_of}
 use Rattle.crmf.specs.meaning.Language.{readable, Occurrence, occurs}
-use Rattle.crmf.specs.steps.explain.Walk.{line, find_line, closed, with_element, walk, trail}
+use Rattle.crmf.specs.steps.explain.Walk.{line, find_line, closed, with_element, walk, trail, Walked, Passed, Broken}
 use Rattle.crmf.proofs.theorems.explain.Passing.{inner_walk, walk_closed, walk_open, walk_nowhere, walk_unread, walk_inner_broken, walk_breaks, walk_next}
 use Rattle.crmf.proofs.theorems.explain.WalkSteps.{trail_in, Way, lost, within, broken, onward, way, trail_end, trail_lost, trail_inside, trail_breaks, trail_on}
 use Rattle.crmf.proofs.theorems.explain.EveryForm.{all, all_read, inner_passed_lem, inner_broken}
@@ -123,7 +121,7 @@ follows_within R s j place t inner = go (eqb j 0)
 
 -- at an element that fits a line: the form itself, then the inside, then the rest of the trail
 follows_element : (R : ℕ → Bool) (s : Tally) (k n around id first whole : ℕ) (c : List ℕ) (inside rest : Tree) (tail : List Occurrence)
-    → find_line k id ≡ At n
+    → find_line k id ≡ Some n
     → trail k (element id first whole c inside rest) ≡ occurs (mark_of (line n).marking c) first ++ (trail_in (line n).inside inside ++ tail)
     → Follows (inner_walk R (with_element (line n) c first whole s) (line n).inside first inside) (inner_walk all (with_element (line n) c first whole s) (line n).inside first inside)
     (first_of (unread R) (trail_in (line n).inside inside))

@@ -10,17 +10,14 @@ use mathlib.Core.List.{List, [], ◌∷◌}
 use mathlib.Core.Option.{Option, some, none as absent}
 use lib.ListN.{length, get_elem?}
 use Rattle.der.specs.meaning.Tree.{Tree, none, element}
-use Rattle.crmf.specs.declared.explain.tally.Tally.{Tally}
-use Rattle.crmf.specs.declared.explain.Walked.TheVariants.{Passed}
-use Rattle.crmf.specs.declared.grammar.judge.Onward.TheVariants.{To}
-use Rattle.crmf.specs.declared.grammar.table.FoundLine.{FoundLine}
-use Rattle.crmf.specs.declared.grammar.table.FoundLine.TheVariants.{At, Nowhere}
+use Rattle.crmf.specs.steps.explain.Tally.{Tally}
+use Rattle.std.specs.Prelude.{None, Ok, Some}
 use Rattle.crmf.specs.meaning.Value.{keeps}
 use Rattle.crmf.specs.meaning.Notation.{mark_of, Name, Inside, free, holds, Parts}
 use Rattle.crmf.specs.meaning.Grammar.{content}
 use Rattle.crmf.specs.meaning.Language.{readable, Matches, Within, unseen, parts}
 use Rattle.crmf.specs.steps.grammar.Lines.{Line, start, inside_line}
-use Rattle.crmf.specs.steps.explain.Walk.{line, find_line, judged, with_element, walk}
+use Rattle.crmf.specs.steps.explain.Walk.{line, find_line, judged, with_element, walk, FoundLine, Passed}
 use Rattle.crmf.proofs.theorems.values.ValueRules.{selected_below, way_selected}
 use Rattle.crmf.proofs.theorems.explain.Passing.{inner_walk, Chosen, inner_free, inner_walked, walk_closed, passed_element, element_passes, passed_none, judged_kept, judged_way, kept_onward, way_onward}
 use Rattle.crmf.proofs.theorems.grammar.Choices.{Choice, taking, choosing, choices, chosen, determinate_apart, only_choice, chosen_among}
@@ -38,11 +35,11 @@ name_at (n ∷ ns) zero h = (n, refl)
 name_at (n ∷ ns) (suc w) h = name_at ns w (le_of_suc-le-suc h)
 
 -- two lines that the search finds are one
-same_line : {m n : ℕ} {f : FoundLine} → f ≡ At m → f ≡ At n → m ≡ n
+same_line : {m n : ℕ} {f : FoundLine} → f ≡ Some m → f ≡ Some n → m ≡ n
 same_line p q = cc
 
 -- no search finds both a line and nothing
-found_somewhere : {A : Type 0} {n : ℕ} {f : FoundLine} → f ≡ At n → f ≡ Nowhere → A
+found_somewhere : {A : Type 0} {n : ℕ} {f : FoundLine} → f ≡ Some n → f ≡ None → A
 found_somewhere p q = let z : ◌≡◌ {A = ℕ} 0 1 = cc in absurd (omega arith)
 
 module _ (R : ℕ → Bool) where
@@ -66,7 +63,7 @@ module _ (R : ℕ → Bool) where
 
   -- An element that a line passes keeps the choice that the line shows.
   keeps_sound : (m r : Tally) (x : Line) (h : Choice) (first next : ℕ) (c : List ℕ) (inside rest : Tree) → Shows h x
-      → readable R (mark_of x.marking c) ≡ true → inner_walk R m x.inside first inside ≡ Passed r → judged x.judge x.next c ≡ To next
+      → readable R (mark_of x.marking c) ≡ true → inner_walk R m x.inside first inside ≡ Passed r → judged x.judge x.next c ≡ Ok next
       → ((n : Name) → walk R m (start n) first inside ≡ Passed r → Matches R (content n) inside)
       → ((ps : Parts) → Stands next ps → Matches R ps rest) → Keeps R h c inside rest
   keeps_sound m r x (taking f ps) first next c inside rest shows read inner to each further =
@@ -117,7 +114,7 @@ module _ (R : ℕ → Bool) where
       (λ qs st. walk_sound rest e.seen r e.next around qs st e.further))
 
   -- An element that keeps the choice that its line shows is passed.
-  first_complete : (s : Tally) (k around id first whole n : ℕ) (c : List ℕ) (inside rest : Tree) (h : Choice) → find_line k id ≡ At n → Shows h (line n)
+  first_complete : (s : Tally) (k around id first whole n : ℕ) (c : List ℕ) (inside rest : Tree) (h : Choice) → find_line k id ≡ Some n → Shows h (line n)
       → Keeps R h c inside rest → ((m : Tally) (a : Name) → Matches R (content a) inside → Accepted R m (start a) first inside)
       → ((m : Tally) (j : ℕ) (ps : Parts) → Stands j ps → Matches R ps rest → Accepted R m j around rest)
       → (r : Tally) × Chosen R s k around id first whole c inside rest r
@@ -150,7 +147,7 @@ module _ (R : ℕ → Bool) where
           seen = m;
           inner = ap (λ (i : ℕ). inner_walk R m i first inside) shows.entered ∙ inner_free R m 0 first inside refl;
           next = start kept.name;
-          onward = rw shows.judging (judged_way t x.next c w is ∙ ap To (shows.onward w kept.name there));
+          onward = rw shows.judging (judged_way t x.next c w is ∙ ap Ok (shows.onward w kept.name there));
           further = passed;
         },
       )

@@ -12,8 +12,7 @@ use borrow.Author.Tests.{lt-leb, eqb-false, ne_eqb}
 use Rattle.der.specs.meaning.Tree.{Tree, WellFormed}
 use Rattle.der.specs.meaning.Bounds.{longest}
 use Rattle.der.specs.steps.Reading.{tree}
-use Rattle.crmf.specs.declared.explain.tally.Tally.{Tally}
-use Rattle.crmf.specs.declared.explain.Walked.TheVariants.{Passed, Broken}
+use Rattle.crmf.specs.steps.explain.Tally.{Tally}
 use Rattle.crmf.specs.meaning.Details.{fits_no_part}
 use Rattle.crmf.specs.meaning.Notation.{Top}
 use Rattle.crmf.specs.meaning.Grammar.{content}
@@ -21,7 +20,7 @@ use Rattle.crmf.specs.meaning.Language.{Matches, occurrences}
 use Rattle.crmf.specs.meaning.Rows.{no_extent, batch_rows, FirstLongId}
 use Rattle.crmf.specs.meaning.Stops.{Stops}
 use Rattle.crmf.specs.steps.grammar.Lines.{start}
-use Rattle.crmf.specs.steps.explain.Walk.{walk, every, empty_tally, count_of}
+use Rattle.crmf.specs.steps.explain.Walk.{walk, every, empty_tally, count_of, Passed, Broken}
 use Rattle.crmf.proofs.theorems.explain.Accepts.{accepts}
 use Rattle.crmf.proofs.theorems.explain.Stopping.{stops_exactly}
 use Rattle.crmf.proofs.theorems.explain.LongIds.{walk_long}

@@ -6,12 +6,10 @@ use mathlib.Core.Logic.{◌↔◌}
 use mathlib.Core.Bool.{Bool, true, false}
 use lib.Dec.{eqb}
 use Rattle.der.specs.meaning.Tree.{Tree, none, element}
-use Rattle.crmf.specs.declared.explain.tally.Tally.{Tally}
-use Rattle.crmf.specs.declared.explain.Walked.{Walked}
-use Rattle.crmf.specs.declared.explain.Walked.TheVariants.{Passed, Broken}
+use Rattle.crmf.specs.steps.explain.Tally.{Tally}
 use Rattle.crmf.specs.meaning.Notation.{Mark, both, alone, mark_of}
 use Rattle.crmf.specs.meaning.Language.{readable}
-use Rattle.crmf.specs.steps.explain.Walk.{line, closed, with_element, walk, passes}
+use Rattle.crmf.specs.steps.explain.Walk.{line, closed, with_element, walk, passes, Walked, Passed, Broken}
 pub use Rattle.crmf.specs.steps.explain.Walk.{every as all}
 use Rattle.crmf.proofs.theorems.explain.Passing.{inner_walk, walk_closed, walk_open, walk_nowhere, walk_inner_broken, walk_breaks, walk_next}
 use Rattle.crmf.proofs.theorems.explain.WalkSteps.{passes_in, Way, lost, within, broken, onward, way, passes_end, passes_lost, passes_inside, passes_breaks, passes_on}

@@ -9,14 +9,13 @@ use lib.Dec.{eqb, ltb}
 use lib.ListN.{length}
 use borrow.Author.Tests.{eqb-true, eq-eqb, ltb-true, ne_eqb}
 use Rattle.der.specs.meaning.Tree.{Tree, none, element}
-use Rattle.crmf.specs.declared.explain.tally.Tally.{Tally}
-use Rattle.crmf.specs.declared.explain.Walked.TheVariants.{Passed}
+use Rattle.crmf.specs.steps.explain.Tally.{Tally}
 use Rattle.crmf.specs.meaning.Kinds as kinds
 use Rattle.crmf.specs.meaning.Notation.{Mark, both, alone, mark_of, Name}
 use Rattle.crmf.specs.meaning.Grammar.{content}
 use Rattle.crmf.specs.meaning.Language.{Matches}
 use Rattle.crmf.specs.steps.grammar.Lines.{Line, start}
-use Rattle.crmf.specs.steps.explain.Walk.{line, with_long_id, with_form, with_element, walk}
+use Rattle.crmf.specs.steps.explain.Walk.{line, with_long_id, with_form, with_element, walk, Passed}
 use Rattle.crmf.specs.meaning.Rows.{Row, Extent, extent_of, no_extent, row_if, parent_if, rows, long_id, all_short}
 use Rattle.crmf.specs.steps.explain.LongIds.{longer, first_long}
 use Rattle.crmf.specs.steps.rows.Fill.{rows_from}

@@ -10,19 +10,15 @@ use mathlib.Core.List.{List, [], Memᴰ}
 use mathlib.Core.Option.{Option, some, none as absent}
 use lib.Dec.{T}
 use Rattle.der.specs.meaning.Tree.{Tree, none, element}
-use Rattle.crmf.specs.declared.explain.tally.Tally.{Tally}
-use Rattle.crmf.specs.declared.explain.Walked.{Walked}
-use Rattle.crmf.specs.declared.explain.Walked.TheVariants.{Passed, Broken}
-use Rattle.crmf.specs.declared.grammar.judge.Onward.{Onward}
-use Rattle.crmf.specs.declared.grammar.judge.Onward.TheVariants.{To, Breaks}
-use Rattle.crmf.specs.declared.grammar.table.FoundLine.TheVariants.{At}
+use Rattle.crmf.specs.steps.explain.Tally.{Tally}
+use Rattle.std.specs.Prelude.{Err, Ok, Some}
 use Rattle.crmf.specs.meaning.Value.{Selector, keeps, selected, rule_detail}
 use Rattle.crmf.specs.meaning.Notation.{named, mark_of, Name, Inside, free, holds, Form, part, Parts, done, ◌then◌, select}
 use Rattle.crmf.specs.meaning.Grammar.{content}
 use Rattle.crmf.specs.meaning.Language.{readable, passable, parts_after, way_of, Matches, Within}
 use Rattle.crmf.specs.meaning.Stops.{Choice, taking, choosing, identifiers_of, Reaches, form, value, past, Has, Needed, Stops, missing, misfit, foreign, inner, broken, astray, later, selected_later, StopsIn, parts}
 use Rattle.crmf.specs.steps.grammar.Lines.{start, inside_line}
-use Rattle.crmf.specs.steps.explain.Walk.{line, find_line, closed, judged, with_element, walk, empty_tally}
+use Rattle.crmf.specs.steps.explain.Walk.{line, find_line, closed, judged, with_element, walk, empty_tally, Onward, Walked, Passed, Broken}
 use Rattle.crmf.proofs.theorems.values.ValueRules.{selected_below, way_selected}
 use Rattle.crmf.proofs.theorems.grammar.Names.{not_there}
 use Rattle.crmf.proofs.theorems.grammar.Choices.{takings, choices, skippable, chosen, never_both, determinate, determinate_apart, only_choice, chosen_among}
@@ -147,7 +143,7 @@ module _ (R : ℕ → Bool) where
 
   -- What is met at an element: where the walk breaks, by the choice that the element has.
   module _ (s : Tally) (k around id first whole : ℕ) (c : List ℕ) (inside rest : Tree) (ps : Parts)
-      (n : ℕ) (found : find_line k id ≡ At n) (each : (m r : Tally) (a : Name) (q d : ℕ) → walk R m (start a) first inside ≡ Broken q d r → Stops R (content a) first inside q d)
+      (n : ℕ) (found : find_line k id ≡ Some n) (each : (m r : Tally) (a : Name) (q d : ℕ) → walk R m (start a) first inside ≡ Broken q d r → Stops R (content a) first inside q d)
       (matched : (m r : Tally) (a : Name) → walk R m (start a) first inside ≡ Passed r → Matches R (content a) inside)
       (further : (m r : Tally) (j q d : ℕ) (qs : Parts) → Stands j qs → walk R m j around rest ≡ Broken q d r → Stops R qs around rest q d) where
     abbrev t : Tree
@@ -166,15 +162,15 @@ module _ (R : ℕ → Bool) where
 
         by_value : T (readable R (mark_of f.marking c)) → readable R (mark_of (line n).marking c) ≡ true → (u : Tally) → inner_walk R m (line n).inside first inside ≡ Passed u
             → (o : Onward) → judged (line n).judge (line n).next c ≡ o → (b : Bool) → keeps f.rule c ≡ b → Stops R ps around t p d
-        by_value may read u passed (Breaks e) to false lost =
-            let says : Breaks (rule_detail f.rule c) ≡ Breaks e = sym (judged_lost f.rule (line n).next c lost) ∙ rw shows.judging at to in
+        by_value may read u passed (Err e) to false lost =
+            let says : Err (rule_detail f.rule c) ≡ Err e = sym (judged_lost f.rule (line n).next c lost) ∙ rw shows.judging at to in
             let detail : rule_detail f.rule c ≡ e = cc in
             let stop = broken {qs = qs} has may (within_it u passed) (false_fails lost) in
             stop_at (subst (Stops R ps around t first) detail stop)
             (sym (walk_breaks R s k around id first whole c inside rest n e u found read passed to) ∙ breaks)
-        by_value may read u passed (Breaks e) to true keeps-it =
+        by_value may read u passed (Err e) to true keeps-it =
             let z : ◌≡◌ {A = ℕ} 0 1 = cc (judged_kept f.rule (line n).next c keeps-it, rw shows.judging at to) in absurd (omega arith)
-        by_value may read u passed (To next) to b keeps-it =
+        by_value may read u passed (Ok next) to b keeps-it =
             let (ok, on) = kept_onward f.rule (line n).next next c (rw shows.judging at to) in
             later has (record { read = may; within = within_it u passed; kept = true_holds (keeps f.rule c) ok })
             (further u r next p d qs (subst (λ (j : ℕ). Stands j qs) on shows.onward)
@@ -207,15 +203,15 @@ module _ (R : ℕ → Bool) where
         unentered = inner_at m first inside shows.entered ∙ inner_free R m 0 first inside refl
 
         by_value : (o : Onward) → judged (line n).judge (line n).next c ≡ o → (w : Option ℕ) → selected v c ≡ w → Stops R ps around t p d
-        by_value (Breaks e) to absent lost =
-            let says : Breaks 3 ≡ Breaks e = sym (judged_astray v (line n).next c lost) ∙ rw shows.judging at to in
+        by_value (Err e) to absent lost =
+            let says : Err 3 ≡ Err e = sym (judged_astray v (line n).next c lost) ∙ rw shows.judging at to in
             let detail : 3 ≡ e = cc in
             let stop = astray {ns = ns} has (no_name v ns c lost) in
             stop_at (subst (Stops R ps around t first) detail stop)
             (sym (walk_breaks R s k around id first whole c inside rest n e m found read unentered to) ∙ breaks)
-        by_value (Breaks e) to (some w) is =
+        by_value (Err e) to (some w) is =
             let z : ◌≡◌ {A = ℕ} 0 1 = cc (judged_way v (line n).next c w is, rw shows.judging at to) in absurd (omega arith)
-        by_value (To next) to o is =
+        by_value (Ok next) to o is =
             let (w, found-way, on) = way_onward v (line n).next next c (rw shows.judging at to) in
             let (name, there) = name_at ns w (omega (arith, selected_below v c w found-way, shows.counted)) in
             let place : start name ≡ next = sym (shows.onward w name there) ∙ on in
@@ -250,7 +246,7 @@ module _ (R : ℕ → Bool) where
           (λ m u a. walk_sound R inside m u (start a) first (content a) (stands_start a)) further h (chosen_has ps id h is) shows p d r breaks
 
   -- the line of the choice that an element has
-  line_of : (k id : ℕ) (ps : Parts) → Stands k ps → (h : Choice) → Has ps id h → (n : ℕ) × (find_line k id ≡ At n) × Shows h (line n)
+  line_of : (k id : ℕ) (ps : Parts) → Stands k ps → (h : Choice) → Has ps id h → (n : ℕ) × (find_line k id ≡ Some n) × Shows h (line n)
   line_of k id ps stands h has =
       subst (λ (o : Option Choice). Finds o (find_line k id)) (has_chosen ps id h stands.determined has) (find_line_chooses ps k stands id)
 
@@ -277,7 +273,7 @@ module _ (R : ℕ → Bool) where
       (further : (m : Tally) (j p d : ℕ) (qs : Parts) → Stands j qs → Stops R qs around rest p d → Breaks-at m j around rest p d) where
     -- an element in a form whose line is found
     taking_breaks : (f : Form) (qs : Parts) → Has ps id (taking f qs) → T (readable R (mark_of f.marking c))
-        → (n : ℕ) × (find_line k id ≡ At n) × Takes f qs (line n) × (readable R (mark_of (line n).marking c) ≡ true)
+        → (n : ℕ) × (find_line k id ≡ Some n) × Takes f qs (line n) × (readable R (mark_of (line n).marking c) ≡ true)
     taking_breaks f qs has may =
         let (n, found, shows) = line_of k id ps stands (taking f qs) has in
         (n, found, shows, rw shows.marked (holds-true (readable R (mark_of f.marking c)) may))
@@ -349,7 +345,7 @@ module _ (R : ℕ → Bool) where
         let (r, breaks) = further m (start name) p d (content name) (stands_start name) stop in (
           r,
           walk_next R s k around id first whole c inside rest n (start name) m found (rw shows.marked) (unentered a v ns n shows)
-              (rw shows.judging (judged_way v (line n).next c w is ∙ ap To (shows.onward w name there))) ∙ breaks,
+              (rw shows.judging (judged_way v (line n).next c w is ∙ ap Ok (shows.onward w name there))) ∙ breaks,
         )
 
   -- at a container's end

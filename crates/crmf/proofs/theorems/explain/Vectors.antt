@@ -11,9 +11,7 @@ use Rattle.der.specs.meaning.Length.{value_from, shortest, long_form, length_of,
 use Rattle.der.specs.steps.Header.{sized_by, head_of}
 use Rattle.der.specs.meaning.Content.{boolean, integer, last_of, bit_string}
 use Rattle.der.specs.steps.Reading.{nothing_at, given, read, tree_of, tree}
-use Rattle.crmf.specs.declared.explain.tally.Tally.{Tally}
-use Rattle.crmf.specs.declared.explain.Walked.{Walked}
-use Rattle.crmf.specs.declared.explain.Walked.TheVariants.{Passed, Broken}
+use Rattle.crmf.specs.steps.explain.Tally.{Tally}
 use Rattle.time.specs.meaning.Calendar.{leap, month_days, days_in, total, days_before_year, days_before_month, is_day, is_real, days_before, seconds, moment}
 use Rattle.time.specs.meaning.Time.{digit, pair_at, date_at, century, utc_date, generalized_date, utc_moment, generalized_moment, time_moment}
 use Rattle.time.specs.meaning.Validity.{is_short, element_moment, shown_moment, first_element, further_elements, in_order, forwards}
@@ -23,7 +21,7 @@ use Rattle.crmf.specs.meaning.Value.{type_number, selected}
 use Rattle.crmf.specs.meaning.Notation.{Top, among, named, order}
 use Rattle.crmf.specs.meaning.Grammar.{content}
 use Rattle.crmf.specs.steps.grammar.Lines.{part_size, size, starts_from, start, inside_line, pass_of, form_lines, next_line, way_line, part_lines, container_lines, lines_from, lines}
-use Rattle.crmf.specs.steps.explain.Walk.{line, find_line_in, find_line, closed_in, closed, judged, with_form, with_long_id, with_element, walk}
+use Rattle.crmf.specs.steps.explain.Walk.{line, find_line_in, find_line, closed_in, closed, judged, with_form, with_long_id, with_element, walk, Walked, Passed, Broken}
 
 -- A batch, its octets as the digits of a number, and what three walks answer: the one that reads every form, edition 1's and edition 2's.
 record Example : Type 0 where

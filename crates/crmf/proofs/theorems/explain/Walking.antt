@@ -16,20 +16,16 @@ use Rattle.der.specs.meaning.Bounds.{longest}
 use Rattle.der.specs.steps.Reading.{reading_at, tree}
 use Rattle.der.proofs.Laws.{constructed_bit_lem, element_at, tree_end, tree_at}
 use Rattle.crmf.specs.declared.grammar.element.Fit.{Fit}
-use Rattle.crmf.specs.declared.grammar.judge.Onward.{Onward}
-use Rattle.crmf.specs.declared.grammar.judge.Onward.TheVariants.{To, Breaks}
-use Rattle.crmf.specs.declared.grammar.table.FoundLine.TheVariants.{At, Nowhere}
-use Rattle.crmf.specs.declared.explain.tally.Tally.{Tally}
+use Rattle.std.specs.Prelude.{Result, Err, None, Ok, Some}
+use Rattle.crmf.specs.declared.explain.tally.Tally.{Tally as Kept}
+use Rattle.crmf.specs.steps.explain.Tally.{Tally, tally_of}
 use Rattle.crmf.specs.declared.explain.Cursor.{Cursor}
-use Rattle.crmf.specs.declared.explain.WalkStep.{WalkStep}
-use Rattle.crmf.specs.declared.explain.WalkStep.TheVariants.{Stop}
-use Rattle.crmf.specs.declared.explain.Walked.{Walked}
-use Rattle.crmf.specs.declared.explain.Walked.TheVariants.{Passed, Broken}
+use Rattle.crmf.specs.declared.explain.Break.{Break}
 use Rattle.crmf.specs.meaning.Notation.{Identifiers, octet, general_name, anything, nothing, named, mark_of, order}
 use Rattle.crmf.specs.steps.grammar.Lines.{Line, start, starts_from}
-use Rattle.crmf.specs.steps.explain.Walk.{line, find_line, judged, with_element, walk, every, closed, empty_tally, count_of}
+use Rattle.crmf.specs.steps.explain.Walk.{line, find_line, judged, with_element, walk, every, closed, empty_tally, count_of, Onward, Walked, Passed, Broken}
 use Rattle.crmf.specs.steps.grammar.Fitting.{FitsAt}
-use Rattle.crmf.specs.steps.explain.Inner.{inside_walk, walk_from, stepped, continued, Forward, Stepped}
+use Rattle.crmf.specs.steps.explain.Inner.{inside_walk, walk_from, stop, stepped, continued, Forward, Stepped}
 use Rattle.crmf.proofs.theorems.lines.WordFields.{computed, at_line}
 use Rattle.crmf.proofs.theorems.lines.Fitting.{fitted, fit_read, fit_order}
 use Rattle.crmf.proofs.theorems.lines.Search.{found_names}
@@ -64,11 +60,11 @@ octet_constructed n id some fits = go (line n).identifiers (rw (inside_octet, so
     go nothing h e = absurd (false≢true e)
 
 -- an element in the form of a line that has an inside is constructed
-pub found_constructed : (k id n : ℕ) → find_line k id ≡ At n → eqb (line n).inside 0 ≡ false → constructed id ≡ true
+pub found_constructed : (k id n : ℕ) → find_line k id ≡ Some n → eqb (line n).inside 0 ≡ false → constructed id ≡ true
 found_constructed k id n e some = octet_constructed n id some (found_names k id n e)
 
 -- the inside of an element in a line's form is the tree's, or is not looked at
-within_found : (k id n : ℕ) (s : Tally) (around : ℕ) (t : Tree) → find_line k id ≡ At n
+within_found : (k id n : ℕ) (s : Tally) (around : ℕ) (t : Tree) → find_line k id ≡ Some n
     → inside_walk n s around (elim (constructed id) [ true ↦ t | false ↦ none ]) ≡ inside_walk n s around t
 unfolding line
 within_found k id n s around t e = by_inside (eqb (line n).inside 0) refl
@@ -86,9 +82,9 @@ unfolding inner_walk
 inner_within n m p t = refl
 
 -- the step that a value's answer makes goes forward
-forward_step : (at to end : ℕ) (r : Tally) (o : Onward) → at < to → to ≤ end → r.count ≤ 2 * to → Forward at end (stepped at to r o)
-forward_step at to end r (To n) a b c = (a, b, c)
-forward_step at to end r (Breaks d) a b c = tt
+forward_step : (at to end : ℕ) (r : Kept) (o : Onward) → at < to → to ≤ end → r.count ≤ 2 * to → Forward at end (stepped at to r o)
+forward_step at to end r (Ok n) a b c = (a, b, c)
+forward_step at to end r (Err d) a b c = tt
 
 -- The walk by places, over the element that is read from p before e.
 module _ (s : List ℕ) (p e : ℕ) (some : p < e) (fits : e ≤ length s) (high : length s ≤ longest) (x : Element) (is : x ≡ reading_at s p e) where
@@ -103,11 +99,11 @@ module _ (s : List ℕ) (p e : ℕ) (some : p < e) (fits : e ≤ length s) (high
 -- The step over the element at a cursor before e.
 module _ (s : List ℕ) (c : Cursor) (e : ℕ) (some : c.at < e) (fits : e ≤ length s) (high : length s ≤ longest) where
   -- it fits no line
-  pub at_misfit : find_line c.state (reading_at s c.at e).identifier ≡ Nowhere → Stepped s c e (Stop c.at 1 c.tally)
+  pub at_misfit : find_line c.state (reading_at s c.at e).identifier ≡ None → Stepped s c e (stop c.at 1 c.tally)
   at_misfit f =
       record {
         same = λ around. rw (tree_read s c.at e some fits high (reading_at s c.at e) refl)
-            (sym (walk_nowhere every c.tally c.state around _ c.at _ _ _ _ f));
+            (sym (walk_nowhere every (tally_of c.tally) c.state around _ c.at _ _ _ _ f));
         forward = tt;
       }
 
@@ -124,7 +120,7 @@ module _ (s : List ℕ) (c : Cursor) (e : ℕ) (some : c.at < e) (fits : e ≤ l
 
     -- its inside as code walks it, by the place that code has for the element
     abbrev inner : ℕ → Walked
-    inner p = inside_walk n (with_element (line n) octets p (f.end - p) c.tally) p (tree f.content octets)
+    inner p = inside_walk n (with_element (line n) octets p (f.end - p) (tally_of c.tally)) p (tree f.content octets)
 
     -- the elements from its first byte on
     from_it : tree c.at (slice c.at e s)
@@ -133,31 +129,31 @@ module _ (s : List ℕ) (c : Cursor) (e : ℕ) (some : c.at < e) (fits : e ≤ l
 
     -- the walk over its inside
     inner_walk_lem : (w : Walked) → inner f.first ≡ w
-        → inner_walk every (with_element (line n) octets c.at (f.end - c.at) c.tally) (line n).inside c.at (elim (constructed (reading_at s c.at e).identifier) [ true ↦ tree f.content octets | false ↦ none ]) ≡ w
+        → inner_walk every (with_element (line n) octets c.at (f.end - c.at) (tally_of c.tally)) (line n).inside c.at (elim (constructed (reading_at s c.at e).identifier) [ true ↦ tree f.content octets | false ↦ none ]) ≡ w
     inner_walk_lem w g = inner_within n _ c.at _ ∙ within_found c.state _ n _ c.at _ h.found ∙ ap inner (sym h.first) ∙ g
 
     -- its inside breaks
-    pub at_broken : (q d : ℕ) (r : Tally)
-        → inside_walk h.number (with_element (line h.number) (slice f.content f.end s) f.first (f.end - f.first) c.tally) f.first (tree f.content (slice f.content f.end s)) ≡ Broken q d r
-        → Stepped s c e (Stop q d r)
+    pub at_broken : (q d : ℕ) (r : Kept)
+        → inside_walk h.number (with_element (line h.number) (slice f.content f.end s) f.first (f.end - f.first) (tally_of c.tally)) f.first (tree f.content (slice f.content f.end s)) ≡ Broken q d (tally_of r)
+        → Stepped s c e (stop q d r)
     at_broken q d r g =
         record {
           same = λ around. rw from_it
-              (sym (walk_inner_broken every c.tally c.state around _ c.at _ _ _ _ n q d r h.found (all_read (mark_of (line n).marking octets)) (inner_walk_lem (Broken q d r) g)));
+              (sym (walk_inner_broken every (tally_of c.tally) c.state around _ c.at _ _ _ _ n q d (tally_of r) h.found (all_read (mark_of (line n).marking octets)) (inner_walk_lem (Broken q d (tally_of r)) g)));
           forward = tt;
         }
 
     -- its inside passes: the walk goes on as its value says
-    goes_on : (r : Tally) → inner f.first ≡ Passed r → (around : ℕ) (o : Onward) → value ≡ o
+    goes_on : (r : Kept) → inner f.first ≡ Passed (tally_of r) → (around : ℕ) (o : Onward) → value ≡ o
         → continued s e around (stepped c.at f.end r o) ≡ walk_from s c e around
-    goes_on r g around (To m) v =
-        rw from_it (sym (walk_next every c.tally c.state around _ c.at _ _ _ _ n m r h.found (all_read (mark_of (line n).marking octets)) (inner_walk_lem (Passed r) g) v))
-    goes_on r g around (Breaks d) v =
-        rw from_it (sym (walk_breaks every c.tally c.state around _ c.at _ _ _ _ n d r h.found (all_read (mark_of (line n).marking octets)) (inner_walk_lem (Passed r) g) v))
+    goes_on r g around (Ok m) v =
+        rw from_it (sym (walk_next every (tally_of c.tally) c.state around _ c.at _ _ _ _ n m (tally_of r) h.found (all_read (mark_of (line n).marking octets)) (inner_walk_lem (Passed (tally_of r)) g) v))
+    goes_on r g around (Err d) v =
+        rw from_it (sym (walk_breaks every (tally_of c.tally) c.state around _ c.at _ _ _ _ n d (tally_of r) h.found (all_read (mark_of (line n).marking octets)) (inner_walk_lem (Passed (tally_of r)) g) v))
 
-    pub at_passed : (r : Tally)
-        → inside_walk h.number (with_element (line h.number) (slice f.content f.end s) f.first (f.end - f.first) c.tally) f.first (tree f.content (slice f.content f.end s)) ≡ Passed r
-        → r.count ≤ 2 * f.end → (o : WalkStep)
+    pub at_passed : (r : Kept)
+        → inside_walk h.number (with_element (line h.number) (slice f.content f.end s) f.first (f.end - f.first) (tally_of c.tally)) f.first (tree f.content (slice f.content f.end s)) ≡ Passed (tally_of r)
+        → r.count ≤ 2 * f.end → (o : Result Cursor Break)
         → o ≡ stepped f.first f.end r (judged (line h.number).judge (line h.number).next (slice f.content f.end s)) → Stepped s c e o
     at_passed r g few o is =
         let o_is : o ≡ stepped c.at f.end r value = is ∙ ap (λ (p : ℕ). stepped p f.end r value) h.first in
@@ -174,11 +170,11 @@ at_end s p e h = rw h (ap (tree e) (slice_empty e s) ∙ tree_end e)
 
 -- the container may end at the line, or a part is missing
 module _ (s : List ℕ) (c : Cursor) (e : ℕ) (h : c.at ≡ e) (around : ℕ) where
-  pub at_closed : closed c.state ≡ true → Passed c.tally ≡ walk_from s c e around
-  at_closed closes = rw (at_end s c.at e h) (sym (walk_closed every c.tally c.state around closes))
+  pub at_closed : closed c.state ≡ true → Passed (tally_of c.tally) ≡ walk_from s c e around
+  at_closed closes = rw (at_end s c.at e h) (sym (walk_closed every (tally_of c.tally) c.state around closes))
 
-  pub at_open : closed c.state ≡ false → Broken around 2 c.tally ≡ walk_from s c e around
-  at_open opens = rw (at_end s c.at e h) (sym (walk_open every c.tally c.state around opens))
+  pub at_open : closed c.state ≡ false → Broken around 2 (tally_of c.tally) ≡ walk_from s c e around
+  at_open opens = rw (at_end s c.at e h) (sym (walk_open every (tally_of c.tally) c.state around opens))
 
 -- the inside of an element in a line's form, by the number that code finds for it: if that is 0 the answer is what was met before, and
 -- otherwise the walk from there

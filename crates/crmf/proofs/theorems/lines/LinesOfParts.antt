@@ -12,15 +12,14 @@ use lib.Dec.{eqb}
 use lib.ListN.{length, get_or, get_elem?, drop, length-append, length-map}
 use lib.Seq.{drop-drop, get_or-drop, drop_at}
 use borrow.Author.Tests.{eqb-true, not-true}
-use Rattle.crmf.specs.declared.grammar.table.FoundLine.{FoundLine}
-use Rattle.crmf.specs.declared.grammar.table.FoundLine.TheVariants.{At, Nowhere}
+use Rattle.std.specs.Prelude.{None, Some}
 use Rattle.crmf.specs.meaning.Kinds as kinds
 use Rattle.crmf.specs.meaning.Value.{Selector}
 use Rattle.crmf.specs.meaning.Notation.{octet, named, both, whatever, Name, names, order, Form, Occurs, once, optional, repeated, Part, part, Parts, done, ◌then◌, select}
 use Rattle.crmf.specs.meaning.Grammar.{content}
 use Rattle.crmf.specs.meaning.Language.{passable, parts_after}
 use Rattle.crmf.specs.steps.grammar.Lines.{keep, choose, needed, Line, end_line, part_size, size, starts_from, start, inside_line, pass_of, form_lines, line_of, next_line, way_line, part_lines, container_lines, lines_from, lines}
-use Rattle.crmf.specs.steps.explain.Walk.{line, walk_goes_on, find_line, closed_in, closed, ways}
+use Rattle.crmf.specs.steps.explain.Walk.{line, walk_goes_on, find_line, closed_in, closed, ways, FoundLine}
 use Rattle.crmf.proofs.theorems.lists.Tests.{all}
 use Rattle.crmf.proofs.theorems.grammar.Names.{at_each, in_order, not_there}
 use Rattle.crmf.proofs.theorems.lines.Search.{find_line_found, find_line_on, find_line_off}
@@ -168,8 +167,8 @@ Shows (choosing id s ns) x = Selects id s ns x
 
 -- The search finds the line of the choice, or nothing if there is none.
 abbrev pub Finds : Option Choice → FoundLine → Type 0
-Finds absent f = f ≡ Nowhere
-Finds (some h) f = (n : ℕ) × (f ≡ At n) × Shows h (line n)
+Finds absent f = f ≡ None
+Finds (some h) f = (n : ℕ) × (f ≡ Some n) × Shows h (line n)
 
 -- the search among the lines from k on finds what is chosen
 abbrev Tracks : ℕ → List Choice → Type 0

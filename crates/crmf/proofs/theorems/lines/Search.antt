@@ -11,7 +11,8 @@ use lib.Dec.{eqb, leb, ltb}
 use lib.ListN.{get_or, drop, drop_of_length-le}
 use lib.Seq.{get_or-drop, drop-cons}
 use Rattle.der.proofs.theorems.lists.Range.{every, each}
-use Rattle.crmf.specs.declared.grammar.table.FoundLine.TheVariants.{At, Nowhere}
+use Rattle.std.specs.Bool.{then_some}
+use Rattle.std.specs.Prelude.{None, Some}
 use Rattle.crmf.specs.steps.grammar.Codes as codes
 use Rattle.crmf.specs.meaning.Notation.{Identifiers, octet, general_name, anything, nothing, named}
 use Rattle.crmf.specs.steps.grammar.Lines.{Pass, ends, needed, another, over, Line, end_line, lines}
@@ -80,7 +81,7 @@ passing x xs = go x.pass
 -- with a line that stands at k, and those after it
 module _ (k : ℕ) (x : Line) (xs : List Line) (there : drop k lines ≡ x ∷ xs) (id : ℕ) where
   -- the search finds a line that has the identifier
-  pub find_line_found : named x.identifiers id ≡ true → find_line k id ≡ At k
+  pub find_line_found : named x.identifiers id ≡ true → find_line k id ≡ Some k
   unfolding find_line find_line_in
   find_line_found fits = rw there (rw (fits, find_line_in))
 
@@ -90,7 +91,7 @@ module _ (k : ℕ) (x : Line) (xs : List Line) (there : drop k lines ≡ x ∷ x
   find_line_on fails on after = rw there (rw (fails, find_line_in) (rw (on, after)))
 
   -- and otherwise ends
-  pub find_line_off : named x.identifiers id ≡ false → walk_goes_on x.pass ≡ false → find_line k id ≡ Nowhere
+  pub find_line_off : named x.identifiers id ≡ false → walk_goes_on x.pass ≡ false → find_line k id ≡ None
   unfolding find_line find_line_in
   find_line_off fails off = rw there (rw (fails, find_line_in) (rw off))
 
@@ -100,10 +101,10 @@ module _ (k : ℕ) (h : k < line_count) where
   unfolding line
   from_line = drop-cons lines k end_line (rw lines_count h)
 
-  pub find_line_here : (id : ℕ) → named (line k).identifiers id ≡ true → At k ≡ find_line k id
+  pub find_line_here : (id : ℕ) → named (line k).identifiers id ≡ true → Some k ≡ find_line k id
   find_line_here id e = sym (find_line_found k _ _ from_line id e)
 
-  pub find_line_stops : (id : ℕ) → named (line k).identifiers id ≡ false → walk_goes_on (line k).pass ≡ false → Nowhere ≡ find_line k id
+  pub find_line_stops : (id : ℕ) → named (line k).identifiers id ≡ false → walk_goes_on (line k).pass ≡ false → None ≡ find_line k id
   find_line_stops id e g = sym (find_line_off k _ _ from_line id e g)
 
   pub find_line_next : (id : ℕ) → named (line k).identifiers id ≡ false → walk_goes_on (line k).pass ≡ true → find_line (suc k) id ≡ find_line k id
@@ -122,7 +123,7 @@ module _ (k : ℕ) (h : line_count ≤ k) where
   none_left : drop k lines ≡ []
   none_left = drop_of_length-le lines {i = k} (rw lines_count h)
 
-  pub find_line_past : (id : ℕ) → Nowhere ≡ find_line k id
+  pub find_line_past : (id : ℕ) → None ≡ find_line k id
   unfolding find_line find_line_in
   find_line_past id = rw (find_line, none_left)
 
@@ -153,17 +154,17 @@ bar k h low on =
 
 -- at a line for identifiers of a code other than an octet's the search ends
 pub find_line_ends : (k : ℕ) → k < line_count → (id : ℕ) → identifiers_code (line k).identifiers < codes.octet
-    → (elim (named (line k).identifiers id) [ true ↦ At k | false ↦ Nowhere ]) ≡ find_line k id
+    → then_some (named (line k).identifiers id) k ≡ find_line k id
 find_line_ends k h id low = by_name (named (line k).identifiers id) refl
   where
-    by_pass : (b : Bool) → named (line k).identifiers id ≡ false → walk_goes_on (line k).pass ≡ b → Nowhere ≡ find_line k id
+    by_pass : (b : Bool) → named (line k).identifiers id ≡ false → walk_goes_on (line k).pass ≡ b → None ≡ find_line k id
     by_pass false e g = find_line_stops k h id e g
     by_pass true e g =
         let (i, b) = bar k h low g in
         let (none, stops) = (and-eq-true_iff _ _).0 b in
         find_line_stops (k + 1) i id (no_code _ id (eqb-true _ _ none)) (not-true _ stops) ∙ rw add-one (find_line_next k h id e g)
 
-    by_name : (b : Bool) → named (line k).identifiers id ≡ b → (elim b [ true ↦ At k | false ↦ Nowhere ]) ≡ find_line k id
+    by_name : (b : Bool) → named (line k).identifiers id ≡ b → then_some b k ≡ find_line k id
     by_name true e = find_line_here k h id e
     by_name false e = by_pass (walk_goes_on (line k).pass) e refl
 
@@ -172,24 +173,24 @@ abbrev Named : List Line → ℕ → ℕ → ℕ → Type 0
 Named xs k id n = (m : ℕ) × (n ≡ k + m) × (named (get_or xs m end_line).identifiers id ≡ true)
 
 -- the search finds a line that has the identifier
-find_line_names : (xs : List Line) (k id n : ℕ) → find_line_in xs k id ≡ At n → Named xs k id n
+find_line_names : (xs : List Line) (k id n : ℕ) → find_line_in xs k id ≡ Some n → Named xs k id n
 unfolding find_line_in
 find_line_names [] k id n e = let z : ◌≡◌ {A = ℕ} 0 1 = cc in absurd (omega arith)
 find_line_names (x ∷ xs) k id n e = by_name (named x.identifiers id) refl (find_line_names xs (suc k) id n)
   where
-    by_pass : (b : Bool) → named x.identifiers id ≡ false → walk_goes_on x.pass ≡ b → (find_line_in xs (suc k) id ≡ At n → Named xs (suc k) id n)
+    by_pass : (b : Bool) → named x.identifiers id ≡ false → walk_goes_on x.pass ≡ b → (find_line_in xs (suc k) id ≡ Some n → Named xs (suc k) id n)
         → Named (x ∷ xs) k id n
     by_pass true f g further = let (m, place, fits) = further (rw g at (rw (find_line_in, f) at e)) in (suc m, omega arith, fits)
     by_pass false f g further = let h = rw (find_line_in, f, g) at e in let z : ◌≡◌ {A = ℕ} 0 1 = cc in absurd (omega arith)
 
-    by_name : (b : Bool) → named x.identifiers id ≡ b → (find_line_in xs (suc k) id ≡ At n → Named xs (suc k) id n) → Named (x ∷ xs) k id n
+    by_name : (b : Bool) → named x.identifiers id ≡ b → (find_line_in xs (suc k) id ≡ Some n → Named xs (suc k) id n) → Named (x ∷ xs) k id n
     by_name true f further =
-        let here : k ≡ n = let h : At k ≡ At n = rw (find_line_in, f) at e in cc in
+        let here : k ≡ n = let h : Some k ≡ Some n = rw (find_line_in, f) at e in cc in
         (0, omega arith, f)
     by_name false f further = by_pass (walk_goes_on x.pass) f refl further
 
 -- The line that is found has the identifier.
-pub found_names : (k id n : ℕ) → find_line k id ≡ At n → named (line n).identifiers id ≡ true
+pub found_names : (k id n : ℕ) → find_line k id ≡ Some n → named (line n).identifiers id ≡ true
 unfolding find_line line
 found_names k id n e =
     let (m, place, fits) = find_line_names (drop k lines) k id n e in
@@ -198,21 +199,21 @@ found_names k id n e =
 -- What holds at the line where a search begins, and is kept past every line that may be passed over, holds at the line that is found.
 module _ (P : ℕ → Type 0) (on : (k : ℕ) → P k → walk_goes_on (line k).pass ≡ true → P (suc k)) (id n : ℕ) where
   -- by the number of lines to the table's end
-  kept_from : (f k : ℕ) → line_count ≤ k + f → P k → find_line k id ≡ At n → P n
+  kept_from : (f k : ℕ) → line_count ≤ k + f → P k → find_line k id ≡ Some n → P n
   kept_from zero k h p e = let past = find_line_past k (omega arith) id in let z : ◌≡◌ {A = ℕ} 0 1 = cc in absurd (omega arith)
   kept_from (suc f) k h p e = by_place (ltb k line_count) refl (kept_from f (suc k) (omega arith))
     where
-      by_pass : k < line_count → named (line k).identifiers id ≡ false → (b : Bool) → walk_goes_on (line k).pass ≡ b → (P (suc k) → find_line (suc k) id ≡ At n → P n) → P n
+      by_pass : k < line_count → named (line k).identifiers id ≡ false → (b : Bool) → walk_goes_on (line k).pass ≡ b → (P (suc k) → find_line (suc k) id ≡ Some n → P n) → P n
       by_pass l f true g further = further (on k p g) (find_line_next k l id f g ∙ e)
       by_pass l f false g further = let stops = find_line_stops k l id f g in let z : ◌≡◌ {A = ℕ} 0 1 = cc in absurd (omega arith)
 
-      by_name : k < line_count → (b : Bool) → named (line k).identifiers id ≡ b → (P (suc k) → find_line (suc k) id ≡ At n → P n) → P n
+      by_name : k < line_count → (b : Bool) → named (line k).identifiers id ≡ b → (P (suc k) → find_line (suc k) id ≡ Some n → P n) → P n
       by_name l true f further = let here = find_line_here k l id f in let same : k ≡ n = cc in rw same at p
       by_name l false f further = by_pass l f (walk_goes_on (line k).pass) refl further
 
-      by_place : (b : Bool) → ltb k line_count ≡ b → (P (suc k) → find_line (suc k) id ≡ At n → P n) → P n
+      by_place : (b : Bool) → ltb k line_count ≡ b → (P (suc k) → find_line (suc k) id ≡ Some n → P n) → P n
       by_place true l further = by_name (ltb-true _ _ l) (named (line k).identifiers id) refl further
       by_place false l further = let past = find_line_past k (ltb-false _ _ l) id in let z : ◌≡◌ {A = ℕ} 0 1 = cc in absurd (omega arith)
 
-  pub found_kept : (k : ℕ) → P k → find_line k id ≡ At n → P n
+  pub found_kept : (k : ℕ) → P k → find_line k id ≡ Some n → P n
   found_kept k = kept_from line_count k (omega arith)

@@ -11,17 +11,14 @@ use borrow.Author.Tests.{eqb-true}
 use lib.Dec.{eqb}
 use lib.ListN.{length, get_or}
 use Rattle.der.proofs.theorems.lists.Range.{every, each}
-use Rattle.crmf.specs.declared.grammar.judge.Onward.{Onward}
-use Rattle.crmf.specs.declared.grammar.judge.Onward.TheVariants.{To, Breaks}
-use Rattle.crmf.specs.declared.grammar.table.FoundLine.{FoundLine}
-use Rattle.crmf.specs.declared.grammar.table.FoundLine.TheVariants.{At, Nowhere}
+use Rattle.std.specs.Prelude.{Err, None, Ok, Some}
 use Rattle.crmf.specs.meaning.Kinds as kinds
 use Rattle.crmf.specs.meaning.Value.{keeps, Selector, selected}
 use Rattle.crmf.specs.meaning.Notation.{Identifiers, octet, general_name, anything, nothing, named, among, order, names, Name, Top}
 use Rattle.crmf.specs.meaning.Kinds.{row_kinds}
 use Rattle.crmf.specs.steps.grammar.Lines.{Judge, keep, choose, Pass, ends, needed, another, over, Line, end_line, lines, start}
 use Rattle.crmf.specs.steps.grammar.Packed.{pass_code, identifiers_code}
-use Rattle.crmf.specs.steps.explain.Walk.{line, find_line_in, find_line, closed_in, closed, rule_detail, ways, judged}
+use Rattle.crmf.specs.steps.explain.Walk.{line, find_line_in, find_line, closed_in, closed, rule_detail, ways, judged, Onward, FoundLine}
 use Rattle.crmf.proofs.theorems.lists.Tests.{any, any_get_d, all_among, either}
 use Rattle.crmf.proofs.theorems.lines.WordFields.{computed, at_line, line_count, next_small}
 use Rattle.crmf.proofs.theorems.grammar.Names.{at_each}
@@ -59,7 +56,7 @@ kind_given n h =
 
 -- a container may end at the line, or some identifier is found from it on
 abbrev pub Lives : ℕ → Type 0
-Lives n = (closed n ≡ true) ⊎ ((id : ℕ) × (m : ℕ) × (find_line n id ≡ At m))
+Lives n = (closed n ≡ true) ⊎ ((id : ℕ) × (m : ℕ) × (find_line n id ≡ Some m))
 
 -- its test: one of the line's own identifiers is tried
 abbrev one_of : Identifiers → ℕ
@@ -69,15 +66,15 @@ one_of anything = 0
 one_of nothing = 0
 
 abbrev found : FoundLine → Bool
-found (At k) = true
-found Nowhere = false
+found (Some k) = true
+found None = false
 
 abbrev lives : ℕ → Bool
 lives n = closed n || found (find_line n (one_of (line n).identifiers))
 
-at_found : (r : FoundLine) → found r ≡ true → (m : ℕ) × (r ≡ At m)
-at_found (At k) e = (k, refl)
-at_found Nowhere e = absurd (false≢true e)
+at_found : (r : FoundLine) → found r ≡ true → (m : ℕ) × (r ≡ Some m)
+at_found (Some k) e = (k, refl)
+at_found None e = absurd (false≢true e)
 
 lives_right : (n : ℕ) → lives n ≡ true → Lives n
 lives_right n e =
@@ -137,23 +134,23 @@ unfolding computed line find_line find_line_in closed closed_in named among
 going = at_line (λ x. goes_well x.judge x.next) refl
 
 -- a judgement that goes on has passed its test
-to : (b : Bool) (d next n : ℕ) → (elim b [ true ↦ To next | false ↦ Breaks d ]) ≡ To n → (b ≡ true) × (next ≡ n)
+to : (b : Bool) (d next n : ℕ) → (elim b as (λ x. Onward) [ true ↦ Ok next | false ↦ Err d ]) ≡ Ok n → (b ≡ true) × (next ≡ n)
 to true d next n e = (refl, cc)
 to false d next n e = let z : ◌≡◌ {A = ℕ} 0 1 = cc in absurd (omega arith)
 
 -- After an element, whatever its value, the walk goes on with a line of the table where the container may end or an element is found.
-pub onward_lives : (k : ℕ) (c : List ℕ) (n : ℕ) → judged (line k).judge (line k).next c ≡ To n → (n < line_count) × Lives n
+pub onward_lives : (k : ℕ) (c : List ℕ) (n : ℕ) → judged (line k).judge (line k).next c ≡ Ok n → (n < line_count) × Lives n
 unfolding judged
 onward_lives k c n = go (line k).judge (line k).next (going k) (next_small k)
   where
     there : (m : ℕ) → m < line_count → lives m ≡ true → m ≡ n → (n < line_count) × Lives n
     there m h t e = (rw e at h, rw e at (lives_right m t))
 
-    go : (j : Judge) (next : ℕ) → goes_well j next ≡ true → next < line_count → judged j next c ≡ To n → (n < line_count) × Lives n
+    go : (j : Judge) (next : ℕ) → goes_well j next ≡ true → next < line_count → judged j next c ≡ Ok n → (n < line_count) × Lives n
     go (keep r) next t h e = there next h t (to (keeps r c) (rule_detail r c) next n e).1
     go (choose s) next t h e = by_way (selected s c) refl e
       where
-        by_way : (o : Option ℕ) → selected s c ≡ o → (elim o as (λ x. Onward) [ some w ↦ To (line (next + w)).next | none ↦ Breaks 3 ]) ≡ To n
+        by_way : (o : Option ℕ) → selected s c ≡ o → (elim o as (λ x. Onward) [ some w ↦ Ok (line (next + w)).next | none ↦ Err 3 ]) ≡ Ok n
             → (n < line_count) × Lives n
         by_way none is e = let z : ◌≡◌ {A = ℕ} 0 1 = cc in absurd (omega arith)
         by_way (some w) is e =

@@ -11,20 +11,17 @@ use borrow.Author.Tests.{eqb-true, not-true}
 use Rattle.der.specs.meaning.Tree.{Tree}
 use Rattle.der.specs.steps.Reading.{tree}
 use Rattle.der.specs.steps.Recognise.{is_list}
-use Rattle.crmf.specs.declared.recognise.Recognition.{Recognition}
-use Rattle.crmf.specs.declared.recognise.Recognition.TheVariants.{Rows, Unrecognised}
-use Rattle.crmf.specs.declared.explain.tally.Tally.{Tally}
-use Rattle.crmf.specs.declared.explain.Walked.TheVariants.{Passed}
+use Rattle.std.specs.Prelude.{Option, Some, None}
+use Rattle.crmf.specs.steps.explain.Tally.{Tally}
 use Rattle.crmf.specs.meaning.Notation.{Mark, both, alone, mark_of}
 use Rattle.crmf.specs.meaning.Language.{readable}
 use Rattle.crmf.specs.meaning.Rows.{long_id}
 use Rattle.crmf.specs.steps.grammar.Lines.{Line}
-use Rattle.crmf.specs.steps.explain.Walk.{rows_by, with_form, with_long_id, with_rows, with_element, walk}
+use Rattle.crmf.specs.steps.explain.Walk.{rows_by, with_form, with_long_id, with_rows, with_element, walk, Passed}
 use Rattle.crmf.specs.steps.recognise.Count.{neither, may_stand, counts, counts_at}
-use Rattle.crmf.specs.steps.recognise.Inner.{decode, ListCounted}
+use Rattle.crmf.specs.steps.recognise.Inner.{ListCounted}
 use Rattle.crmf.specs.steps.explain.Inner.{Tried}
 use Rattle.crmf.proofs.theorems.recognise.CountSteps.{not_recognised}
-use Rattle.crmf.proofs.theorems.recognise.CountPlaces.{decode_more}
 use Rattle.crmf.proofs.theorems.recognise.CountedWalks.{counts_walk}
 use Rattle.crmf.proofs.theorems.explain.EveryForm.{all}
 
@@ -61,37 +58,37 @@ more_on n m k s r v (up, one) (further, two) =
     (omega arith, two ∙ ap (with_rows (k - m)) one ∙ ap (λ (c : ℕ). record { count = c; one = s.one; two = s.two; long = s.long }) sum)
 
 -- The walk that reads every form passes over such elements, and only the rows are new.
-pub common_walk : (t : Tree) (s : Tally) (k around r : ℕ) → counts neither k 0 t ≡ Rows r → walk all s k around t ≡ Passed (with_rows r s)
+pub common_walk : (t : Tree) (s : Tally) (k around r : ℕ) → counts neither k 0 t ≡ Some r → walk all s k around t ≡ Passed (with_rows r s)
 common_walk t s k around r some =
     let (v, passed, more) = counts_walk neither MoreRows more_none more_on more_met t s k around 0 r some in
     passed ∙ ap Passed more.1 ∙ ap (λ (n : ℕ). Passed (with_rows n s)) (let all : r - 0 ≡ r = omega arith in all)
 
 -- octets that are recognised are elements that are
-counted_octets : (e left k n p r : ℕ) (bs : List ℕ) → counts_at e left k n p bs ≡ Rows r → counts e k n (tree p bs) ≡ Rows r
+counted_octets : (e left k n p r : ℕ) (bs : List ℕ) → counts_at e left k n p bs ≡ Some r → counts e k n (tree p bs) ≡ Some r
 unfolding counts_at
 counted_octets e left k n p r bs some = go (is_list left bs) some
   where
-    go : (b : Bool) → (elim b as (λ x. Recognition) [ true ↦ counts e k n (tree p bs) | false ↦ Unrecognised ]) ≡ Rows r → counts e k n (tree p bs) ≡ Rows r
+    go : (b : Bool) → (elim b as (λ x. Option ℕ) [ true ↦ counts e k n (tree p bs) | false ↦ None ]) ≡ Some r → counts e k n (tree p bs) ≡ Some r
     go true is = is
     go false nothing = not_recognised nothing
 
 -- What the recogniser answers of octets is what trying them has come to, wherever they are.
-pub tried_octets : (left state place r : ℕ) (bs : List ℕ) → ListCounted neither left state 0 bs r → Tried state place bs r
+pub tried_octets : (left state place : ℕ) (r : Option ℕ) (bs : List ℕ) → ListCounted neither left state 0 bs r → Tried state place bs r
 tried_octets left state place r bs counted =
     record {
       counted = λ n is.
-          counted_octets neither left state 0 place n bs (sym (counted.same place) ∙ ap decode (let one : r ≡ n + 1 = omega (arith, is) in one) ∙ decode_more n);
-      few = omega (arith, counted.few);
+          counted_octets neither left state 0 place n bs (sym (counted.same place) ∙ is);
+      few = λ n is. omega (arith, counted.few n is);
     }
 
 -- and nothing is known of octets that aren't tried
-pub not_tried : (state place : ℕ) (bs : List ℕ) → Tried state place bs 0
-not_tried state place bs = record { counted = λ n is. absurd (omega (arith, is)); few = omega arith }
+pub not_tried : (state place : ℕ) (bs : List ℕ) → Tried state place bs None
+not_tried state place bs = record { counted = λ n is. not_recognised is; few = λ n is. not_recognised is }
 
 -- The walk over octets that were tried, and are recognised, has as many rows more.
-module _ (state place r : ℕ) (bs : List ℕ) (tried : Tried state place bs r) (some : r ≡ 0 → ⊥) where
-  pub tried_walk : (s : Tally) (around : ℕ) → Passed (with_rows (r - 1) s) ≡ walk all s state around (tree place bs)
-  tried_walk s around = sym (common_walk (tree place bs) s state around (r - 1) (tried.counted (r - 1) (omega arith)))
+module _ (state place n : ℕ) {r : Option ℕ} (bs : List ℕ) (tried : Tried state place bs r) (some : r ≡ Some n) where
+  pub tried_walk : (s : Tally) (around : ℕ) → Passed (with_rows n s) ≡ walk all s state around (tree place bs)
+  tried_walk s around = sym (common_walk (tree place bs) s state around n (tried.counted n some))
 
-  pub tried_few : r - 1 ≤ length bs
-  tried_few = omega (arith, tried.few)
+  pub tried_few : n ≤ length bs
+  tried_few = tried.few n some

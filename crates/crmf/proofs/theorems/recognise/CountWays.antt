@@ -18,10 +18,7 @@ use Rattle.der.specs.steps.Span.{span_of}
 use Rattle.der.specs.steps.Order.{closes}
 use Rattle.der.specs.steps.Recognise.{is_list, is_element}
 use Rattle.der.proofs.Laws.{tree_end, is_list_none, is_list_short, is_list_deep, is_list_lost, is_list_step, span_tree, is_element_refused, is_element_inside}
-use Rattle.crmf.specs.declared.recognise.Recognition.{Recognition}
-use Rattle.crmf.specs.declared.recognise.Recognition.TheVariants.{Rows, Unrecognised}
-use Rattle.crmf.specs.declared.grammar.judge.Onward.TheVariants.{To, Breaks}
-use Rattle.crmf.specs.declared.grammar.table.FoundLine.TheVariants.{At, Nowhere}
+use Rattle.std.specs.Prelude.{Option, Some, None, Err, Ok}
 use Rattle.crmf.specs.meaning.Notation.{named}
 use Rattle.crmf.specs.steps.explain.Walk.{line, find_line, closed, judged, rows_by}
 use Rattle.crmf.specs.steps.rows.Fill.{filled}
@@ -34,16 +31,16 @@ use Rattle.crmf.proofs.theorems.recognise.Actions.{inside_constructed}
 
 -- an element's own nest, in the form of line j
 module _ (e j whole left n p id : ℕ) (c : List ℕ) (fits : named (line j).identifiers id ≡ true) where
-  content_wrong : may_stand e (line j) c whole ≡ false → content_count e j whole left n p id c ≡ Unrecognised
+  content_wrong : may_stand e (line j) c whole ≡ false → content_count e j whole left n p id c ≡ None
   unfolding content_count
   content_wrong bad = rw (content_count, bad)
 
   -- one with a fault isn't recognised
-  content_fault : is_element id left c ≡ false → content_count e j whole left n p id c ≡ Unrecognised
+  content_fault : is_element id left c ≡ false → content_count e j whole left n p id c ≡ None
   unfolding content_count counts_at
   content_fault fault = go (may_stand e (line j) c whole) refl (eqb (line j).inside 0) refl
     where
-      go : (b : Bool) → may_stand e (line j) c whole ≡ b → (f : Bool) → eqb (line j).inside 0 ≡ f → content_count e j whole left n p id c ≡ Unrecognised
+      go : (b : Bool) → may_stand e (line j) c whole ≡ b → (f : Bool) → eqb (line j).inside 0 ≡ f → content_count e j whole left n p id c ≡ None
       go false bad f test = content_wrong bad
       go true good true free = rw (content_count, good, free, fault)
       go true good false lined =
@@ -51,7 +48,7 @@ module _ (e j whole left n p id : ℕ) (c : List ℕ) (fits : named (line j).ide
           by_end good lined (closes id c) refl (is_list left c) refl (sym (is_element_inside id left c may made) ∙ fault)
         where
           by_end : may_stand e (line j) c whole ≡ true → eqb (line j).inside 0 ≡ false → (t : Bool) → closes id c ≡ t → (l : Bool) → is_list left c ≡ l
-              → (is_list left c && closes id c) ≡ false → content_count e j whole left n p id c ≡ Unrecognised
+              → (is_list left c && closes id c) ≡ false → content_count e j whole left n p id c ≡ None
           by_end good lined false lost l is fails = rw (content_count, good, lined, lost)
           by_end good lined true kept false is fails = rw (content_count, good, lined, kept, counts_at, is)
           by_end good lined true kept true is fails = absurd (false≢true (sym fails ∙ rw (is, kept)))
@@ -107,42 +104,42 @@ module _ (e left k n p : ℕ) (bs : List ℕ) (short : length bs ≤ longest) (m
       record { whole = both.0; after = both.1; read = span_tree p bs short measured (permitted both.0) }
 
   -- octets aren't recognised if, without a fault, their tree isn't
-  unrecognised_if : (Parts → counts e k n (element id p to content inside (tree (p + to) (drop to bs))) ≡ Unrecognised)
-      → counts_at e (suc left) k n p bs ≡ Unrecognised
+  unrecognised_if : (Parts → counts e k n (element id p to content inside (tree (p + to) (drop to bs))) ≡ None)
+      → counts_at e (suc left) k n p bs ≡ None
   unfolding counts_at
   unrecognised_if nothing = go (is_list (suc left) bs) refl
     where
-      go : (b : Bool) → is_list (suc left) bs ≡ b → counts_at e (suc left) k n p bs ≡ Unrecognised
+      go : (b : Bool) → is_list (suc left) bs ≡ b → counts_at e (suc left) k n p bs ≡ None
       go false fault = rw (counts_at, fault)
       go true sound = let x = parts sound in rw (counts_at, sound, x.read) (nothing x)
 
   -- no line fits
-  pub at_nowhere : find_line k id ≡ Nowhere → counts_at e (suc left) k n p bs ≡ Unrecognised
+  pub at_nowhere : find_line k id ≡ None → counts_at e (suc left) k n p bs ≡ None
   at_nowhere missing = unrecognised_if (λ x. counts_nowhere e k n id p to content inside _ missing)
 
-  module _ (j : ℕ) (found : find_line k id ≡ At j) where
-    abbrev counted : Recognition
+  module _ (j : ℕ) (found : find_line k id ≡ Some j) where
+    abbrev counted : Option ℕ
     counted = content_count e j to left (n + rows_by (line j)) (p + from) id content
 
     abbrev fits : named (line j).identifiers id ≡ true
     fits = found_names k id j found
 
     -- the value breaks its rule
-    pub at_breaks : (d : ℕ) → judged (line j).judge (line j).next content ≡ Breaks d → counts_at e (suc left) k n p bs ≡ Unrecognised
+    pub at_breaks : (d : ℕ) → judged (line j).judge (line j).next content ≡ Err d → counts_at e (suc left) k n p bs ≡ None
     at_breaks d breaks = unrecognised_if (λ x. counts_breaks e k n id p to content inside _ j found d breaks)
 
     -- the content isn't recognised
-    pub at_nothing : counted ≡ Unrecognised → counts_at e (suc left) k n p bs ≡ Unrecognised
+    pub at_nothing : counted ≡ None → counts_at e (suc left) k n p bs ≡ None
     at_nothing nothing = unrecognised_if (λ x. go x (may_stand e (line j) content to) refl)
       where
-        go : Parts → (b : Bool) → may_stand e (line j) content to ≡ b → counts e k n (element id p to content inside (tree (p + to) (drop to bs))) ≡ Unrecognised
+        go : Parts → (b : Bool) → may_stand e (line j) content to ≡ b → counts e k n (element id p to content inside (tree (p + to) (drop to bs))) ≡ None
         go x false bad = counts_wrong e k n id p to content inside _ j found bad
         go x true good =
             counts_none e k n id p to content inside _ j found
             (sym (content_sound e j to left _ (p + from) id content fits x.whole good) ∙ nothing)
 
     -- the count goes on after it
-    pub at_on : (next m : ℕ) → counted ≡ Rows m → judged (line j).judge (line j).next content ≡ To next
+    pub at_on : (next m : ℕ) → counted ≡ Some m → judged (line j).judge (line j).next content ≡ Ok next
         → counts_at e (suc left) k n p bs ≡ counts_at e (suc left) next m (p + to) (drop to bs)
     unfolding counts_at
     at_on next m some on = go (is_list (suc left) bs) refl
@@ -164,43 +161,43 @@ module _ (e left k n p : ℕ) (bs : List ℕ) (short : length bs ≤ longest) (m
         go false fault = rw (counts_at, fault) (by (is_list (suc left) (drop to bs)) refl (is_element id left content) refl)
           where
             by : (b : Bool) → is_list (suc left) (drop to bs) ≡ b → (w : Bool) → is_element id left content ≡ w
-                → Unrecognised ≡ (elim (is_list (suc left) (drop to bs)) [ true ↦ counts e next m (tree (p + to) (drop to bs)) | false ↦ Unrecognised ])
+                → ◌≡◌ {A = Option ℕ} None (elim (is_list (suc left) (drop to bs)) [ true ↦ counts e next m (tree (p + to) (drop to bs)) | false ↦ None ])
             by false broken w is = rw broken
             by true sound false is = not_recognised (sym (content_fault e j to left _ (p + from) id content fits is) ∙ some)
             by true sound true is = absurd (false≢true (sym fault ∙ is_list_step left bs short measured ∙ rw (is, sound)))
 
 -- at the end of the octets the container may end, or may not
-pub at_end : (e left k n p : ℕ) → closed k ≡ true → counts_at e left k n p [] ≡ Rows n
+pub at_end : (e left k n p : ℕ) → closed k ≡ true → counts_at e left k n p [] ≡ Some n
 unfolding counts_at
 at_end e left k n p ends = rw (counts_at, is_list_none left, tree_end p) (counts_closed e k n ends)
 
-pub at_open : (e left k n p : ℕ) → closed k ≡ false → counts_at e left k n p [] ≡ Unrecognised
+pub at_open : (e left k n p : ℕ) → closed k ≡ false → counts_at e left k n p [] ≡ None
 unfolding counts_at
 at_open e left k n p stays = rw (counts_at, is_list_none left, tree_end p) (counts_open e k n stays)
 
 -- if no length is read, or no level is left, there is no element
-pub at_lost : (e left k n p : ℕ) (bs : List ℕ) → 0 < length bs → (span_of bs).octets ≡ 0 → counts_at e left k n p bs ≡ Unrecognised
+pub at_lost : (e left k n p : ℕ) (bs : List ℕ) → 0 < length bs → (span_of bs).octets ≡ 0 → counts_at e left k n p bs ≡ None
 unfolding counts_at
 at_lost e left k n p bs more nothing = rw (counts_at, is_list_lost left bs more nothing)
 
-pub at_deep : (e k n p : ℕ) (bs : List ℕ) → 0 < length bs → counts_at e 0 k n p bs ≡ Unrecognised
+pub at_deep : (e k n p : ℕ) (bs : List ℕ) → 0 < length bs → counts_at e 0 k n p bs ≡ None
 unfolding counts_at
 at_deep e k n p bs more = rw (counts_at, is_list_deep bs more)
 
 -- a longer input isn't recognised
-pub too_long : (e : ℕ) (s : List ℕ) → longest < length s → recognised e s ≡ Unrecognised
+pub too_long : (e : ℕ) (s : List ℕ) → longest < length s → recognised e s ≡ None
 unfolding recognised counts_at
 too_long e s over = go (is_list depth s) refl
   where
-    go : (b : Bool) → is_list depth s ≡ b → recognised e s ≡ Unrecognised
+    go : (b : Bool) → is_list depth s ≡ b → recognised e s ≡ None
     go false fault = rw (recognised, counts_at, fault)
     go true sound = absurd (omega (arith, is_list_short depth s sound))
 
 -- the table that a reading leaves: as it was if the input isn't recognised, and otherwise filled
-pub unrecognised_stays : (e : ℕ) (s old : List ℕ) → recognised e s ≡ Unrecognised → old ≡ recognised_table e s old
+pub unrecognised_stays : (e : ℕ) (s old : List ℕ) → recognised e s ≡ None → old ≡ recognised_table e s old
 unfolding recognised_table
 unrecognised_stays e s old nothing = rw (recognised_table, nothing)
 
-pub recognised_fills : (e : ℕ) (s old : List ℕ) (n : ℕ) → recognised e s ≡ Rows n → filled s n old ≡ recognised_table e s old
+pub recognised_fills : (e : ℕ) (s old : List ℕ) (n : ℕ) → recognised e s ≡ Some n → filled s n old ≡ recognised_table e s old
 unfolding recognised_table
 recognised_fills e s old n counted = rw (recognised_table, counted)

@@ -5,20 +5,19 @@ use mathlib.Core.Bool.{Bool, true, false, and-eq-true_iff}
 use mathlib.Core.List.{List}
 use lib.Dec.{eqb}
 use lib.ListN.{length}
-use Rattle.der.specs.declared.explain.Nest.TheVariants.{End}
+use Rattle.der.specs.steps.Nest.{End}
 use Rattle.der.specs.meaning.Tree.{Tree, none, element}
 use Rattle.der.specs.meaning.Bounds.{depth}
 use Rattle.der.specs.steps.Explain.{walk_at}
 use Rattle.der.specs.steps.Reading.{tree}
 use Rattle.der.proofs.Laws.{is_list_short, single_is_list}
-use Rattle.crmf.specs.declared.recognise.Recognition.TheVariants.{Rows}
-use Rattle.crmf.specs.declared.explain.tally.Tally.{Tally}
-use Rattle.crmf.specs.declared.explain.Walked.TheVariants.{Passed}
+use Rattle.std.specs.Prelude.{Some}
+use Rattle.crmf.specs.steps.explain.Tally.{Tally}
 use Rattle.crmf.specs.meaning.Notation.{Top}
 use Rattle.crmf.specs.meaning.Rows.{no_extent}
 use Rattle.crmf.specs.steps.explain.LongIds.{first_long}
 use Rattle.crmf.specs.steps.grammar.Lines.{start}
-use Rattle.crmf.specs.steps.explain.Walk.{line, rows_by, with_element, walk, empty_tally}
+use Rattle.crmf.specs.steps.explain.Walk.{line, rows_by, with_element, walk, empty_tally, Passed}
 use Rattle.crmf.specs.steps.rows.Fill.{rows_of_input}
 use Rattle.crmf.specs.steps.recognise.Count.{counts, counts_at, recognised}
 use Rattle.crmf.proofs.theorems.recognise.CountSteps.{counts_in, counts_closed, counts_next}
@@ -33,7 +32,7 @@ own e x = eqb x e
 -- whether elements that an edition's walk passes are recognised, if no long certReqId is met
 abbrev Counts : ℕ → Tree → Type 0
 Counts e t =
-    (s r : Tally) (k around n : ℕ) → walk (own e) s k around t ≡ Passed r → r.long.whole ≡ 0 → (m : ℕ) × (counts e k n t ≡ Rows m)
+    (s r : Tally) (k around n : ℕ) → walk (own e) s k around t ≡ Passed r → r.long.whole ≡ 0 → (m : ℕ) × (counts e k n t ≡ Some m)
 
 -- at the end of the elements
 counts_end : (e : ℕ) → Counts e none
@@ -41,10 +40,10 @@ counts_end e s r k around n passed short = (n, counts_closed e k n (passed_none 
 
 -- inside an element, from the elements inside it
 counts_within : (e : ℕ) (inside : Tree) → Counts e inside → (m r : Tally) (i place n : ℕ) → inner_walk (own e) m i place inside ≡ Passed r
-    → r.long.whole ≡ 0 → (j : ℕ) × (counts_in e i n inside ≡ Rows j)
+    → r.long.whole ≡ 0 → (j : ℕ) × (counts_in e i n inside ≡ Some j)
 counts_within e inside inner m r i place n passed short = go (eqb i 0) refl
   where
-    go : (b : Bool) → eqb i 0 ≡ b → (j : ℕ) × (counts_in e i n inside ≡ Rows j)
+    go : (b : Bool) → eqb i 0 ≡ b → (j : ℕ) × (counts_in e i n inside ≡ Some j)
     go true free = (n, rw (free, counts_in))
     go false starts =
         let (j, some) = inner m r i place n (sym (inner_walked (own e) m i place inside starts) ∙ passed) short in
@@ -56,7 +55,7 @@ counts_element : (e id first whole : ℕ) (c : List ℕ) (inside rest : Tree) �
 counts_element e id first whole c inside rest inner later s r k around n passed short =
     go (passed_element (own e) s k around id first whole c inside rest r passed)
   where
-    go : Chosen (own e) s k around id first whole c inside rest r → (j : ℕ) × (counts e k n (element id first whole c inside rest) ≡ Rows j)
+    go : Chosen (own e) s k around id first whole c inside rest r → (j : ℕ) × (counts e k n (element id first whole c inside rest) ≡ Some j)
     go f =
         let x = line f.at in
         let m = with_element x c first whole s in
@@ -74,7 +73,7 @@ walk_counted e (element id first whole c inside rest) =
 
 -- An input is recognised if it is one element without a fault, the edition's own walk passes, and none of its rows is a long certReqId.
 pub walk_recognised : (e : ℕ) (s : List ℕ) → walk_at s 0 (length s) ≡ End (length s) → (r : Tally)
-    → walk (λ x. eqb x e) empty_tally (start Top) 0 (tree 0 s) ≡ Passed r → (first_long (0, 0) (rows_of_input s)).0 ≡ 0 → (n : ℕ) × (recognised e s ≡ Rows n)
+    → walk (λ x. eqb x e) empty_tally (start Top) 0 (tree 0 s) ≡ Passed r → (first_long (0, 0) (rows_of_input s)).0 ≡ 0 → (n : ℕ) × (recognised e s ≡ Some n)
 unfolding recognised counts_at empty_tally
 walk_recognised e s ends r passed short =
     let sound = single_is_list s ends in

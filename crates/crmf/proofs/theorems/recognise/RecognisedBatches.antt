@@ -15,21 +15,19 @@ use Rattle.der.specs.meaning.Tree.{Tree, none, element, WellFormed, Single, enco
 use Rattle.der.specs.meaning.Bounds.{depth, longest}
 use Rattle.der.specs.steps.Reading.{tree}
 use Rattle.der.proofs.Laws.{is_list_exact, is_list_single, tree_encode}
-use Rattle.crmf.specs.declared.recognise.Recognition.{Recognition}
-use Rattle.crmf.specs.declared.recognise.Recognition.TheVariants.{Rows, Unrecognised}
-use Rattle.crmf.specs.declared.explain.tally.Tally.{Tally}
-use Rattle.crmf.specs.declared.explain.Walked.{Walked}
-use Rattle.crmf.specs.declared.explain.Walked.TheVariants.{Passed}
+use Rattle.std.specs.Prelude.{Option, Some, None}
+use Rattle.std.proofs.lemmas.Option.{same_Some}
+use Rattle.crmf.specs.steps.explain.Tally.{Tally}
 use Rattle.crmf.specs.meaning.Notation.{mark_of, Top}
 use Rattle.crmf.specs.meaning.Grammar.{content}
 use Rattle.crmf.specs.meaning.Language.{readable, Matches}
 use Rattle.crmf.specs.meaning.Rows.{Row, no_extent, long_id, all_short, batch_rows}
 use Rattle.crmf.specs.steps.explain.LongIds.{longer, first_long}
 use Rattle.crmf.specs.steps.grammar.Lines.{start}
-use Rattle.crmf.specs.steps.explain.Walk.{line, closed, rows_by, with_element, walk, empty_tally}
+use Rattle.crmf.specs.steps.explain.Walk.{line, closed, rows_by, with_element, walk, empty_tally, Walked, Passed}
 use Rattle.crmf.specs.steps.rows.Fill.{rows_of_input}
 use Rattle.crmf.specs.steps.recognise.Count.{counts, recognised}
-use Rattle.crmf.proofs.theorems.recognise.CountSteps.{not_recognised, same_rows, counts_in, counts_closed, counts_open}
+use Rattle.crmf.proofs.theorems.recognise.CountSteps.{not_recognised, counts_in, counts_closed, counts_open}
 use Rattle.crmf.proofs.theorems.recognise.CountedWalks.{FirstCounted, counted_element}
 use Rattle.crmf.proofs.theorems.recognise.RecognisedCounts.{one_matched, recognised_sound}
 use Rattle.crmf.proofs.theorems.recognise.PassedCounts.{walk_recognised}
@@ -63,11 +61,11 @@ record Passes (n m : ℕ) (s : Tally) (w : Walked) : Type 0 where
 
 -- whether the edition's own walk passes so over elements that are counted
 abbrev Counted : ℕ → Tree → Type 0
-Counted e t = (s : Tally) (k around n m : ℕ) → counts e k n t ≡ Rows m → Passes n m s (walk (own e) s k around t)
+Counted e t = (s : Tally) (k around n m : ℕ) → counts e k n t ≡ Some m → Passes n m s (walk (own e) s k around t)
 
 -- where there is nothing more to count
-counted_stay : {n m : ℕ} (s : Tally) {w : Walked} → w ≡ Passed s → Rows n ≡ Rows m → Passes n m s w
-counted_stay s passed same = record { seen = s; passed = passed; rows = omega (arith, same_rows same); short = refl }
+counted_stay : {n m : ℕ} (s : Tally) {w : Walked} → w ≡ Passed s → Some n ≡ Some m → Passes n m s w
+counted_stay s passed same = record { seen = s; passed = passed; rows = omega (arith, same_Some _ _ same); short = refl }
 
 -- at the end of the elements
 counted_end : (e : ℕ) → Counted e none
@@ -78,12 +76,12 @@ counted_end e s k around n m some = go (closed k) refl
     go false gap = not_recognised (sym (counts_open e k n gap) ∙ some)
 
 -- inside an element, from the elements inside it
-counted_within : (e : ℕ) (inside : Tree) → Counted e inside → (s : Tally) (i place n m : ℕ) → counts_in e i n inside ≡ Rows m
+counted_within : (e : ℕ) (inside : Tree) → Counted e inside → (s : Tally) (i place n m : ℕ) → counts_in e i n inside ≡ Some m
     → Passes n m s (inner_walk (own e) s i place inside)
 unfolding inner_walk
 counted_within e inside inner s i place n m some = go (eqb i 0) some
   where
-    go : (b : Bool) → (elim b as (λ x. Recognition) [ true ↦ Rows n | false ↦ counts e i n inside ]) ≡ Rows m
+    go : (b : Bool) → (elim b as (λ x. Option ℕ) [ true ↦ Some n | false ↦ counts e i n inside ]) ≡ Some m
         → Passes n m s (elim b [ true ↦ Passed s | false ↦ walk (own e) s i place inside ])
     go true free = counted_stay s refl free
     go false starts = inner s i place n m starts
@@ -125,7 +123,7 @@ read_back s t fits formed encoded =
 
 module _ (e : ℕ) (s : List ℕ) (octets : Octets s) where
   -- What is recognised is such a batch, with as many rows.
-  recognised_batch : (n : ℕ) → recognised e s ≡ Rows n → (b : ShortBatch e s) × (length (batch_rows b.batch) ≡ n)
+  recognised_batch : (n : ℕ) → recognised e s ≡ Some n → (b : ShortBatch e s) × (length (batch_rows b.batch) ≡ n)
   unfolding empty_tally batch_rows content
   recognised_batch n is =
       let (sound, counted) = recognised_sound e n s is in
@@ -152,7 +150,7 @@ module _ (e : ℕ) (s : List ℕ) (octets : Octets s) where
       (read_back s b.nest b.fits b.formed b.encoded) (λ m. rows_of s b.fits m) b.batch
 
   -- Such a batch is recognised, with as many rows.
-  batch_recognised : (b : ShortBatch e s) → recognised e s ≡ Rows (length (batch_rows b.batch))
+  batch_recognised : (b : ShortBatch e s) → recognised e s ≡ Some (length (batch_rows b.batch))
   batch_recognised b =
       let same = read_back s b.nest b.fits b.formed b.encoded in
       let sound = (is_list_exact depth 0 s octets).1 (record { short = b.fits; tree = b.nest; formed = b.formed; encoded = b.encoded }) in
@@ -163,16 +161,16 @@ module _ (e : ℕ) (s : List ℕ) (octets : Octets s) where
       let (found, counted) = recognised_batch n is in
       let as_many : n ≡ length (batch_rows b.batch) =
       sym counted ∙ ap (λ (rs : List Row). length rs) (sym (batch_rows_lem found) ∙ batch_rows_lem b) in
-      is ∙ ap Rows as_many
+      is ∙ ap Some as_many
 
   -- An input is recognised with n rows exactly when it is such a batch with n rows.
-  pub recognised_exact : (n : ℕ) → (recognised e s ≡ Rows n) ↔ ((b : ShortBatch e s) × (length (batch_rows b.batch) ≡ n))
-  recognised_exact n = (recognised_batch n, λ (b, counted). batch_recognised b ∙ ap Rows counted)
+  pub recognised_exact : (n : ℕ) → (recognised e s ≡ Some n) ↔ ((b : ShortBatch e s) × (length (batch_rows b.batch) ≡ n))
+  recognised_exact n = (recognised_batch n, λ (b, counted). batch_recognised b ∙ ap Some counted)
 
   -- Any other input is unrecognised.
-  pub unrecognised_exact : (recognised e s ≡ Unrecognised) ↔ (ShortBatch e s → ⊥)
+  pub unrecognised_exact : (recognised e s ≡ None) ↔ (ShortBatch e s → ⊥)
   unrecognised_exact = (λ nothing b. not_recognised (sym nothing ∙ batch_recognised b), λ other. go other (recognised e s) refl)
     where
-      go : (ShortBatch e s → ⊥) → (r : Recognition) → recognised e s ≡ r → recognised e s ≡ Unrecognised
-      go other Unrecognised is = is
-      go other (Rows n) is = absurd (other (recognised_batch n is).0)
+      go : (ShortBatch e s → ⊥) → (r : Option ℕ) → recognised e s ≡ r → recognised e s ≡ None
+      go other None is = is
+      go other (Some n) is = absurd (other (recognised_batch n is).0)

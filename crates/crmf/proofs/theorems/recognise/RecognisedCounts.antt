@@ -8,23 +8,22 @@ use mathlib.Core.List.{List}
 use lib.Dec.{eqb}
 use lib.ListN.{length}
 use borrow.Author.Tests.{eqb-true, not-true}
-use Rattle.der.specs.declared.explain.Nest.TheVariants.{End}
+use Rattle.der.specs.steps.Nest.{End}
 use Rattle.der.specs.meaning.Tree.{Tree, none, Single}
 use Rattle.der.specs.meaning.Bounds.{depth, longest}
 use Rattle.der.specs.steps.Explain.{walk_at}
 use Rattle.der.specs.steps.Recognise.{is_list}
 use Rattle.der.specs.steps.Reading.{tree}
 use Rattle.der.proofs.Laws.{is_list_short, is_list_single, single_element}
-use Rattle.crmf.specs.declared.recognise.Recognition.TheVariants.{Rows, Unrecognised}
-use Rattle.crmf.specs.declared.explain.tally.Tally.{Tally}
-use Rattle.crmf.specs.declared.explain.Walked.TheVariants.{Passed}
+use Rattle.std.specs.Prelude.{Some, None}
+use Rattle.crmf.specs.steps.explain.Tally.{Tally}
 use Rattle.crmf.specs.meaning.Notation.{Mark, both, alone, mark_of, Top, Form, once, part, done, ◌then◌}
 use Rattle.crmf.specs.meaning.Grammar.{content}
 use Rattle.crmf.specs.meaning.Language.{readable, occurs, Matches, end, pass, take}
 use Rattle.crmf.specs.meaning.Rows.{long_id}
 use Rattle.crmf.specs.steps.explain.LongIds.{longer}
 use Rattle.crmf.specs.steps.grammar.Lines.{Line, start}
-use Rattle.crmf.specs.steps.explain.Walk.{rows_by, with_element, walk, empty_tally, count_of}
+use Rattle.crmf.specs.steps.explain.Walk.{rows_by, with_element, walk, empty_tally, count_of, Passed}
 use Rattle.crmf.specs.steps.recognise.Count.{may_stand, counts, counts_at, recognised}
 use Rattle.crmf.proofs.theorems.recognise.CountSteps.{not_recognised}
 use Rattle.crmf.proofs.theorems.recognise.CountedWalks.{counts_walk}
@@ -75,7 +74,7 @@ adds_on e n m k s r v g h = record { rows = omega (arith, g.rows, h.rows); short
 
 -- The walk that reads every form passes over elements that are recognised, with as many rows; it meets no long certReqId and no form of the
 -- other edition.
-recognised_passes : {e : ℕ} → Edition e → (t : Tree) (s : Tally) (k around n r : ℕ) → counts e k n t ≡ Rows r
+recognised_passes : {e : ℕ} → Edition e → (t : Tree) (s : Tally) (k around n r : ℕ) → counts e k n t ≡ Some r
     → (v : Tally) × (walk all s k around t ≡ Passed v) × Adds e n r s v
 recognised_passes {e} ed = counts_walk e (Adds e) (adds_none e) (adds_on e) (adds_met ed)
 
@@ -89,20 +88,20 @@ one_matched (pass ok m) = absurd ok
 one_matched (take f among fits read kept within m) = (single_element _ _ _ _ _ _).1 (none_left m)
 
 -- What is recognised from the grammar's top on is a single element.
-counts_single : {e : ℕ} → Edition e → (n m : ℕ) (t : Tree) → counts e (start Top) n t ≡ Rows m → Single t
+counts_single : {e : ℕ} → Edition e → (n m : ℕ) (t : Tree) → counts e (start Top) n t ≡ Some m → Single t
 unfolding content
 counts_single ed n m t some =
     let (r, passed, more) = recognised_passes ed t empty_tally (start Top) 0 n m some in
     one_matched (accepts_sound all empty_tally r Top 0 t passed)
 
 -- an input that is recognised has no fault in its nest
-pub recognised_sound : (e n : ℕ) (s : List ℕ) → recognised e s ≡ Rows n → (is_list depth s ≡ true) × (counts e (start Top) 0 (tree 0 s) ≡ Rows n)
+pub recognised_sound : (e n : ℕ) (s : List ℕ) → recognised e s ≡ Some n → (is_list depth s ≡ true) × (counts e (start Top) 0 (tree 0 s) ≡ Some n)
 unfolding recognised counts_at
 recognised_sound e n s is = go (is_list depth s) refl
   where
-    go : (b : Bool) → is_list depth s ≡ b → (is_list depth s ≡ true) × (counts e (start Top) 0 (tree 0 s) ≡ Rows n)
+    go : (b : Bool) → is_list depth s ≡ b → (is_list depth s ≡ true) × (counts e (start Top) 0 (tree 0 s) ≡ Some n)
     go true sound = (sound, sym (rw (recognised, counts_at, sound)) ∙ is)
-    go false faulty = let nothing : recognised e s ≡ Unrecognised = rw (recognised, counts_at, faulty) in not_recognised (sym nothing ∙ is)
+    go false faulty = let nothing : recognised e s ≡ None = rw (recognised, counts_at, faulty) in not_recognised (sym nothing ∙ is)
 
 -- What the recogniser says of an input with n rows: it is one element that is not too long, without a fault in its nest, and the walk
 -- that reads every form passes with as many rows, no long certReqId and no form of the other edition.
@@ -122,7 +121,7 @@ none_met first_edition = refl
 none_met second_edition = refl
 
 -- An input that is recognised with n rows is such an input.
-pub recognised_walk : {e : ℕ} → Edition e → (s : List ℕ) (n : ℕ) → recognised e s ≡ Rows n → Quick e s n
+pub recognised_walk : {e : ℕ} → Edition e → (s : List ℕ) (n : ℕ) → recognised e s ≡ Some n → Quick e s n
 unfolding empty_tally
 recognised_walk {e} ed s n is =
     let (sound, counted) = recognised_sound e n s is in

@@ -7,8 +7,8 @@ use mathlib.Core.List.{List, []}
 use native.Mathlib.Nat.{add-zero}
 use native.Mathlib.Omega.{arith}
 use lib.Dec.{eqb}
-use lib.ListN.{length, take, drop, get_or, length-drop}
-use lib.Seq.{slice, drop-length, drop-drop}
+use lib.ListN.{length, take, drop, get_or}
+use lib.Seq.{slice, drop-length}
 use Rattle.der.specs.declared.element.length.Span.{Span}
 use Rattle.der.specs.meaning.Bounds.{longest}
 use Rattle.der.specs.meaning.Identifier.{allowed, constructed}
@@ -18,9 +18,7 @@ use Rattle.der.specs.steps.Span.{span_of}
 use Rattle.der.specs.steps.Order.{closes}
 use Rattle.der.specs.steps.Recognise.{is_element}
 use Rattle.der.proofs.Laws.{is_element_value, closes_free, closes_one, holds_object_identifier, holds_bit_string, constructed_octet, known_allowed, take_slice, take_from}
-use Rattle.crmf.specs.declared.recognise.Recognition.TheVariants.{Rows}
-use Rattle.crmf.specs.declared.grammar.judge.Onward.TheVariants.{To}
-use Rattle.crmf.specs.declared.grammar.table.FoundLine.TheVariants.{At}
+use Rattle.std.specs.Prelude.{Some, Ok}
 use Rattle.crmf.specs.meaning.Value.{keeps}
 use Rattle.crmf.specs.meaning.Notation.{named, AlgId, Spki, OneName, RdnSequence, Rdn, Attribute}
 use Rattle.crmf.specs.steps.grammar.Lines.{start}
@@ -32,11 +30,11 @@ use Rattle.crmf.proofs.theorems.recognise.CountWays.{at_on, at_end}
 
 -- A line that an identifier leads to from a line on: of every edition, without a row, with the lines inside it and the line after it.
 record RowlessLine (k id j within next : ℕ) : Type 0 where
-  found : find_line k id ≡ At j
+  found : find_line k id ≡ Some j
   stood : (e whole : ℕ) (c : List ℕ) → may_stand e (line j) c whole ≡ true
   rowless : rows_by (line j) ≡ 0
   inside : (line j).inside ≡ within
-  goes : (c : List ℕ) → judged (line j).judge (line j).next c ≡ To next
+  goes : (c : List ℕ) → judged (line j).judge (line j).next c ≡ Ok next
 
 -- the empty list of octets is recognised if the container may end there
 rowless_end : (k levels : ℕ) → closed k ≡ true → RowlessFrom k levels []
@@ -55,7 +53,7 @@ module _ (bs : List ℕ) (short : length bs ≤ longest) (some_octets : (span_of
 
   module _ (k j within next levels : ℕ) (found : RowlessLine k (get_or bs 0 0) j within next) where
     -- its content is recognised, and so is what is after it
-    rowless_element : ((e left n p : ℕ) → levels ≤ left → content_count e j end_of left n p (get_or bs 0 0) content ≡ Rows n)
+    rowless_element : ((e left n p : ℕ) → levels ≤ left → content_count e j end_of left n p (get_or bs 0 0) content ≡ Some n)
         → RowlessFrom next (suc levels) (drop end_of bs) → RowlessFrom k (suc levels) bs
     rowless_element itself after e zero n p deep = absurd (omega arith)
     rowless_element itself after e (suc left) n p deep =
@@ -239,32 +237,13 @@ unfolding computed
 rowless_key bs short {s} first inner =
     rw (take_from (s.octets + s.length) bs) (λ bits. leading_nested bs short first key_alg_id refl (closes_free 0x30 _ refl) inner (λ e left n p deep. bits e left n p (omega arith)))
 
--- The element at a place of the octets.
-module _ (bs : List ℕ) (short : length bs ≤ longest) (at : ℕ) {i : ℕ} {s : Span} (first : Leading (take (length bs - at) (drop at bs)) i s) where
-  abbrev from : ℕ
-  from = at + s.octets
-
-  abbrev to : ℕ
-  to = from + s.length
-
-  -- it leads the octets from the place on
-  there : Leading (drop at bs) i s
-  there = rw (take_from at bs) at first
-
-  -- it ends with the octets at most
-  pub ends_within : at ≤ length bs → (2 ≤ s.octets) × (to ≤ length bs)
-  ends_within inside = (there.fits.0, omega (arith, there.fits.1, length-drop at bs))
-
 -- a RelativeDistinguishedName before others
-pub rowless_rdn_from : (bs : List ℕ) (short : length bs ≤ longest) (at : ℕ) {s : Span} (first : Leading (take (length bs - at) (drop at bs)) 0x31 s)
-    → (let c = take (to bs short at first - from bs short at first) (drop (from bs short at first) bs) in RowlessFrom (start Rdn) 2 c × (closes 0x31 c ≡ true))
-    → RowlessFrom (start RdnSequence) 3 (drop (to bs short at first) bs) → RowlessFrom (start RdnSequence) 3 (drop at bs)
+pub rowless_rdn_from : (bs : List ℕ) (short : length bs ≤ longest) {s : Span} (first : Leading bs 0x31 s)
+    → (let c = take (s.octets + s.length - s.octets) (drop s.octets bs) in RowlessFrom (start Rdn) 2 c × (closes 0x31 c ≡ true))
+    → RowlessFrom (start RdnSequence) 3 (take (length bs - (s.octets + s.length)) (drop (s.octets + s.length) bs)) → RowlessFrom (start RdnSequence) 3 bs
 unfolding computed
-rowless_rdn_from bs short at {s} first inner later =
-    let size : s.octets + s.length - s.octets ≡ to bs short at first - from bs short at first = omega arith in
-    let place : at + (s.octets + s.length) ≡ to bs short at first = omega arith in
-    leading_nested (drop at bs) (omega (arith, length-drop at bs)) (there bs short at first) sequence_rdn refl
-    (rw (drop-drop s.octets at bs, size) inner.1) (rw (drop-drop s.octets at bs, size) inner.0) (rw (drop-drop (s.octets + s.length) at bs, place) later)
+rowless_rdn_from bs short {s} first inner later =
+    leading_nested bs short first sequence_rdn refl inner.1 inner.0 (rw (take_from (s.octets + s.length) bs) at later)
 
 -- an RDNSequence may be empty
 pub rowless_none : RowlessFrom (start RdnSequence) 3 []

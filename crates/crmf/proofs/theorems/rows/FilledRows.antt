@@ -11,12 +11,11 @@ use lib.Seq.{take_all, take_at, drop_at}
 use borrow.Author.Tests.{le-leb, leb-true}
 use Rattle.der.specs.meaning.Bounds.{longest}
 use Rattle.der.specs.steps.Reading.{tree}
-use Rattle.crmf.specs.declared.explain.tally.Tally.{Tally}
-use Rattle.crmf.specs.declared.explain.Walked.TheVariants.{Passed}
+use Rattle.crmf.specs.steps.explain.Tally.{Tally}
 use Rattle.crmf.specs.meaning.Notation.{Top}
 use Rattle.crmf.specs.meaning.Grammar.{content}
 use Rattle.crmf.specs.meaning.Language.{Matches}
-use Rattle.crmf.specs.steps.explain.Walk.{every, empty_tally, count_of}
+use Rattle.crmf.specs.steps.explain.Walk.{every, empty_tally, count_of, Passed}
 use Rattle.crmf.specs.meaning.Rows.{Row, no_extent, width, numbers, batch_rows}
 pub use Rattle.crmf.specs.meaning.Rows.{Holds}
 use Rattle.crmf.specs.steps.rows.Fill.{written, fits, rows_of_input, filled}

@@ -6,15 +6,14 @@ use mathlib.Core.List.{List, ◌∷◌, ◌++◌}
 use lib.Dec.{eqb}
 use lib.ListN.{length, get_or}
 use Rattle.der.specs.meaning.Tree.{Tree, none, element}
-use Rattle.crmf.specs.declared.grammar.table.FoundLine.{FoundLine}
-use Rattle.crmf.specs.declared.grammar.table.FoundLine.TheVariants.{At, Nowhere}
+use Rattle.std.specs.Prelude.{None, Some}
 use Rattle.crmf.specs.meaning.Kinds as kinds
 use Rattle.crmf.specs.meaning.Kinds.{row_kinds}
 use Rattle.crmf.specs.meaning.Notation.{among, Top}
 use Rattle.crmf.specs.meaning.Grammar.{content}
 use Rattle.crmf.specs.meaning.Language.{Matches}
 use Rattle.crmf.specs.meaning.Rows.{Row, Extent, extent_of, no_extent, row_if, parent_if, batch_rows}
-use Rattle.crmf.specs.steps.explain.Walk.{line, find_line}
+use Rattle.crmf.specs.steps.explain.Walk.{line, find_line, FoundLine}
 use Rattle.crmf.specs.steps.rows.Fill.{goes, rows_from}
 use Rattle.crmf.proofs.theorems.lists.Tests.{all, all_append, all_get_d}
 use Rattle.crmf.proofs.theorems.lines.TableChecks.{kind_known, item_known}
@@ -68,8 +67,8 @@ line_known k id p w c inside rest n up extent within further = by_line (find_lin
         go false e = rw (inner_rows_lem i inside j u x e) (within i j u x)
 
     by_line : (f : FoundLine) → find_line k id ≡ f → are_all_known (rows_from k (element id p w c inside rest) n up extent) ≡ true
-    by_line Nowhere e = rw (rows_nowhere k id p w c inside rest n up extent e)
-    by_line (At m) e =
+    by_line None e = rw (rows_nowhere k id p w c inside rest n up extent e)
+    by_line (Some m) e =
         rw (rows_found k id p w c inside rest n up extent m e)
         (one_known (line m).kind (line m).item (extent_of p w c) (λ j u. rows_within (line m).inside inside j u (extent_of p w c))
         (λ j. rows_from (goes (line m).judge (line m).next c) rest j up extent) n up extent (kind_known m) (item_known m)

@@ -8,14 +8,13 @@ use borrow.Author.Tests.{eqb-true, ltb-true, not-true}
 use lib.Dec.{eqb, ltb}
 use Rattle.der.specs.meaning.Tree.{Tree, none, element}
 use Rattle.crmf.specs.declared.rows.Around.{Around}
-use Rattle.crmf.specs.declared.grammar.table.FoundLine.{FoundLine}
-use Rattle.crmf.specs.declared.grammar.table.FoundLine.TheVariants.{At, Nowhere}
+use Rattle.std.specs.Prelude.{None, Some}
 use Rattle.crmf.specs.steps.grammar.Codes as codes
 use Rattle.crmf.specs.meaning.Notation.{among, Name, Time, AlgId, Spki, OneName, RdnSequence, Rdn, Attribute, Extension}
 use Rattle.crmf.specs.meaning.Grammar.{content}
 use Rattle.crmf.specs.steps.grammar.Lines.{start, size}
 use Rattle.crmf.specs.steps.grammar.Packed.{judge_code}
-use Rattle.crmf.specs.steps.explain.Walk.{line, walk_goes_on, find_line}
+use Rattle.crmf.specs.steps.explain.Walk.{line, walk_goes_on, find_line, FoundLine}
 use Rattle.crmf.specs.meaning.Rows.{Row, Extent, extent_of}
 use Rattle.crmf.specs.steps.rows.Fill.{goes, rows_from, around_extent, inner_rows, rowless}
 use Rattle.crmf.proofs.theorems.lists.Tests.{all, all_among, either}
@@ -94,8 +93,8 @@ quiet_rows (element id p w c inside rest) k n up extent q =
 
     go : (r : FoundLine) → find_line k id ≡ r → ((j m u : ℕ) → among quiet j ≡ true → rows_from j inside m u (extent_of p w c) ≡ [])
         → ((j m : ℕ) → among quiet j ≡ true → rows_from j rest m up extent ≡ []) → rows_from k (element id p w c inside rest) n up extent ≡ []
-    go Nowhere e inner later = rows_nowhere k id p w c inside rest n up extent e
-    go (At m) e inner later =
+    go None e inner later = rows_nowhere k id p w c inside rest n up extent e
+    go (Some m) e inner later =
         let x = calm_line m (found_kept (λ j. among quiet j ≡ true) (λ j s g. (calm_line j s).after g) id m k q e) in
         let o = goes (line m).judge (line m).next c in
         let here = extent_of p w c in

@@ -8,13 +8,12 @@ use lib.Dec.{eqb}
 use lib.ListN.{length-map}
 use Rattle.der.specs.meaning.Tree.{Tree, none, element, moved}
 use Rattle.der.proofs.Laws.{moved_none, moved_element}
-use Rattle.crmf.specs.declared.grammar.table.FoundLine.{FoundLine}
-use Rattle.crmf.specs.declared.grammar.table.FoundLine.TheVariants.{At, Nowhere}
+use Rattle.std.specs.Prelude.{None, Some}
 use Rattle.crmf.specs.meaning.Notation.{Name}
 use Rattle.crmf.specs.meaning.Grammar.{content}
 use Rattle.crmf.specs.meaning.Language.{Matches}
 use Rattle.crmf.specs.steps.grammar.Lines.{start}
-use Rattle.crmf.specs.steps.explain.Walk.{line, find_line}
+use Rattle.crmf.specs.steps.explain.Walk.{line, find_line, FoundLine}
 use Rattle.crmf.specs.meaning.Rows.{Row, Extent, header_length, extent_of, row_if, rows, moved_row}
 use Rattle.crmf.specs.steps.rows.Fill.{goes, rows_from}
 use Rattle.crmf.proofs.theorems.rows.RowsOfLines.{rows_one, rows_within, inner_no_rows, inner_rows_lem, rows_nowhere, rows_found, row_mapped, rows_lines}
@@ -65,10 +64,10 @@ rows_from_moved d (element id p w c inside rest) k n up extent =
         → (f : FoundLine) → find_line k id ≡ f
         → rows_from k (element id (d + p) w c (moved d inside) (moved d rest)) n up (shifted d extent)
         ≡ map (moved_row d) (rows_from k (element id p w c inside rest) n up extent)
-    go each further Nowhere e =
+    go each further None e =
         rows_nowhere k id (d + p) w c (moved d inside) (moved d rest) n up (shifted d extent) e
         ∙ sym (ap (map (moved_row d)) (rows_nowhere k id p w c inside rest n up extent e))
-    go each further (At m) e =
+    go each further (Some m) e =
         let x = line m in
         let o = goes x.judge x.next c in
         let here = extent_of p w c in

@@ -10,17 +10,15 @@ use mathlib.Core.Option.{Option}
 use lib.Dec.{T, eqb}
 use lib.ListN.{length, length-append}
 use Rattle.der.specs.meaning.Tree.{Tree, none, element}
-use Rattle.crmf.specs.declared.explain.tally.Tally.{Tally}
-use Rattle.crmf.specs.declared.explain.Walked.TheVariants.{Passed}
-use Rattle.crmf.specs.declared.grammar.judge.Onward.TheVariants.{To}
-use Rattle.crmf.specs.declared.grammar.table.FoundLine.TheVariants.{At, Nowhere}
+use Rattle.crmf.specs.steps.explain.Tally.{Tally}
+use Rattle.std.specs.Prelude.{None, Ok, Some}
 use Rattle.crmf.specs.meaning.Value.{keeps}
 use Rattle.crmf.specs.meaning.Notation.{Mark, both, alone, mark_of, Name, Inside, free, holds, Form, Occurs, part, Parts, ◌then◌}
 use Rattle.crmf.specs.meaning.Grammar.{content}
 use Rattle.crmf.specs.meaning.Language.{passable, Matches, end, pass, take, choose, Within, unseen, parts}
 use Rattle.crmf.specs.steps.grammar.Lines
 use Rattle.crmf.specs.steps.grammar.Lines.{Judge, keep, Line, start, inside_line}
-use Rattle.crmf.specs.steps.explain.Walk.{line, find_line, judged, rows_of_kind, with_long_id, with_form, with_element, walk}
+use Rattle.crmf.specs.steps.explain.Walk.{line, find_line, judged, rows_of_kind, with_long_id, with_form, with_element, walk, Passed}
 use Rattle.crmf.specs.meaning.Rows.{Row, Extent, extent_of, row_with, row_if, parent_if, rows, rows_in, long_id}
 use Rattle.crmf.specs.steps.rows.Fill.{goes, rows_from}
 use Rattle.crmf.proofs.theorems.explain.Passing.{judged_kept, judged_way, kept_onward, way_onward, inner_walk, inner_free, inner_walked, passed_element, passed_none}
@@ -57,13 +55,13 @@ unfolding rows_within
 inner_rows_lem i inside n up extent e = rw (e, rows_within)
 
 -- the rows of an element that fits no part
-pub rows_nowhere : (k id p w : ℕ) (c : List ℕ) (inside rest : Tree) (n up : ℕ) (extent : Extent) → find_line k id ≡ Nowhere
+pub rows_nowhere : (k id p w : ℕ) (c : List ℕ) (inside rest : Tree) (n up : ℕ) (extent : Extent) → find_line k id ≡ None
     → rows_from k (element id p w c inside rest) n up extent ≡ []
 unfolding rows_from
 rows_nowhere k id p w c inside rest n up extent e = rw (e, rows_from)
 
 -- the rows of an element whose line is found
-pub rows_found : (k id p w : ℕ) (c : List ℕ) (inside rest : Tree) (n up : ℕ) (extent : Extent) (m : ℕ) → find_line k id ≡ At m
+pub rows_found : (k id p w : ℕ) (c : List ℕ) (inside rest : Tree) (n up : ℕ) (extent : Extent) (m : ℕ) → find_line k id ≡ Some m
     → rows_from k (element id p w c inside rest) n up extent
     ≡ rows_one (line m).kind (line m).item (extent_of p w c) (λ j u. rows_within (line m).inside inside j u (extent_of p w c))
     (λ j. rows_from (goes (line m).judge (line m).next c) rest j up extent) n up extent
@@ -71,14 +69,14 @@ unfolding rows_from rows_within rows_one
 rows_found k id p w c inside rest n up extent m e = rw (e, rows_from)
 
 -- a value that keeps its rule goes on as it is judged
-judged_goes : (j : Judge) (next : ℕ) (c : List ℕ) (onward : ℕ) → judged j next c ≡ To onward → goes j next c ≡ onward
+judged_goes : (j : Judge) (next : ℕ) (c : List ℕ) (onward : ℕ) → judged j next c ≡ Ok onward → goes j next c ≡ onward
 unfolding goes
 judged_goes (keep r) next c onward e = (kept_onward r next onward c e).1
 judged_goes (Lines.choose s) next c onward e = let (w, is, goes_on) = way_onward s next onward c e in rw (goes, is) goes_on
 
 -- the rows from a line on, if the element's line and the line after it are known
-pub rows_from_element : (k id p w : ℕ) (c : List ℕ) (inside rest : Tree) (n up : ℕ) (extent : Extent) (m onward : ℕ) → find_line k id ≡ At m
-    → judged (line m).judge (line m).next c ≡ To onward
+pub rows_from_element : (k id p w : ℕ) (c : List ℕ) (inside rest : Tree) (n up : ℕ) (extent : Extent) (m onward : ℕ) → find_line k id ≡ Some m
+    → judged (line m).judge (line m).next c ≡ Ok onward
     → rows_from k (element id p w c inside rest) n up extent
     ≡ rows_one (line m).kind (line m).item (extent_of p w c) (λ j u. rows_within (line m).inside inside j u (extent_of p w c))
     (λ j. rows_from onward rest j up extent) n up extent
@@ -142,7 +140,7 @@ module _ (R : ℕ → Bool) where
       inner_rows_lem (start a) inside n up extent (starts_past a) ∙ each a m n up extent
 
   -- the rows from the line of the choice that an element keeps
-  rows_first : (k id p w m : ℕ) (c : List ℕ) (inside rest : Tree) (h : Choice) → find_line k id ≡ At m → Shows h (line m)
+  rows_first : (k id p w m : ℕ) (c : List ℕ) (inside rest : Tree) (h : Choice) → find_line k id ≡ Some m → Shows h (line m)
       → (kept : Keeps R h c inside rest)
       → ((a : Name) (d : Matches R (content a) inside) (n up : ℕ) (extent : Extent) → rows_from (start a) inside n up extent ≡ rows d n up extent)
       → ((j : ℕ) (ps : Parts) → Stands j ps → (d : Matches R ps rest) (n up : ℕ) (extent : Extent)
@@ -152,7 +150,7 @@ module _ (R : ℕ → Bool) where
   rows_first k id p w m c inside rest (taking f ps) found shows kept each further n up extent =
       let x = line m in
       let here = extent_of p w c in
-      let onward : judged x.judge x.next c ≡ To x.next =
+      let onward : judged x.judge x.next c ≡ Ok x.next =
       rw shows.judging (judged_kept f.rule x.next c (holds-true (keeps f.rule c) kept.kept)) in
       rows_from_element k id p w c inside rest n up extent m x.next found onward
       ∙ rw (shows.kinded, shows.itemed, shows.entered)
@@ -164,8 +162,8 @@ module _ (R : ℕ → Bool) where
       let x = line m in
       let here = extent_of p w c in
       let (way, is, there) = (way_selected t c ns kept.name).0 kept.way in
-      let onward : judged x.judge x.next c ≡ To (start kept.name) =
-      rw shows.judging (judged_way t x.next c way is ∙ ap To (shows.onward way kept.name there)) in
+      let onward : judged x.judge x.next c ≡ Ok (start kept.name) =
+      rw shows.judging (judged_way t x.next c way is ∙ ap Ok (shows.onward way kept.name there)) in
       rows_from_element k id p w c inside rest n up extent m (start kept.name) found onward
       ∙ rw (shows.kinded, shows.itemed, shows.entered)
       (rows_one_none here (λ j u. rows_within 0 inside j u here) (λ j. rows_from (start kept.name) rest j up extent) n up extent

@@ -1,6 +1,6 @@
 -- The rows of one element by the places that code finds: its own, those inside it, and those of the elements after it. Assumes nothing.
 use Prim.Native.Nat.{ℕ, ◌+◌, ◌-◌, ◌*◌, ◌≤◌, ◌<◌}
-use mathlib.Core.Path.{◌≡◌, refl, sym, ap, ap₂, subst, ◌∙◌}
+use mathlib.Core.Path.{◌≡◌, refl, sym, ap, ap₂, ◌∙◌}
 use mathlib.Core.Bool.{Bool, true, false}
 use mathlib.Core.List.{List, [], ◌++◌, append_assoc}
 use native.Mathlib.Omega.{arith}
@@ -14,20 +14,19 @@ use Rattle.der.specs.meaning.Bounds.{longest}
 use Rattle.der.specs.steps.Reading.{reading_at, tree}
 use Rattle.crmf.specs.declared.grammar.element.Fit.{Fit}
 use Rattle.crmf.specs.declared.rows.Around.{Around}
-use Rattle.crmf.specs.declared.rows.Bounds.{Bounds}
 use Rattle.crmf.specs.declared.rows.Numbers.{Numbers}
 use Rattle.crmf.specs.declared.rows.Spot.{Spot}
-use Rattle.crmf.specs.declared.grammar.table.FoundLine.TheVariants.{At, Nowhere}
+use Rattle.std.specs.Prelude.{None, Some}
 use Rattle.crmf.specs.meaning.Notation.{order}
 use Rattle.crmf.specs.steps.grammar.Lines.{start, starts_from}
 use Rattle.crmf.specs.steps.explain.Walk.{line, find_line}
 use Rattle.crmf.specs.steps.grammar.Fitting.{FitsAt}
 use Rattle.crmf.specs.meaning.Rows.{Row, Extent, extent_of, no_extent, row_if, parent_if, width}
-use Rattle.crmf.specs.steps.rows.Fill.{goes, rows_from, around_extent, fit_extent, rows_at, own_rows, row_above, inner_rows, place_in, written_in, written, fits, rows_of_input, filled, Wrote, Going, Shown, Inner, around_inside}
-use Rattle.crmf.proofs.theorems.lines.Fitting.{fitted, fit_read, fit_order, fit_content}
+use Rattle.crmf.specs.steps.rows.Fill.{goes, rows_from, around_extent, fit_extent, rows_at, own_rows, row_above, inner_rows, written, fits, rows_of_input, filled, around_inside}
+use Rattle.crmf.proofs.theorems.lines.Fitting.{fitted, fit_read, fit_content}
 use Rattle.crmf.proofs.theorems.explain.Walking.{tree_read, found_constructed, at_end}
 use Rattle.crmf.proofs.theorems.rows.RowsOfLines.{rows_one, rows_within, inner_no_rows, rows_nowhere, rows_found}
-use Rattle.crmf.proofs.theorems.rows.Writing.{rows_given, wrote_none, wrote_two}
+use Rattle.crmf.proofs.theorems.rows.Writing.{rows_given}
 
 -- the extent of an element that fits a line, and the element around its inside, by its first byte
 abbrev fitted_at : ℕ → Fit → Extent
@@ -46,7 +45,7 @@ module _ (k id p w : ℕ) (c : List ℕ) (inside rest : Tree) (row : ℕ) (a : A
       rows_within (line n).inside inside i u extent
       ++ rows_from (goes (line n).judge (line n).next c) rest (i + length (rows_within (line n).inside inside i u extent)) a.up (around_extent a)
 
-  rows_split : find_line k id ≡ At n → rows_from k (element id p w c inside rest) row a.up (around_extent a)
+  rows_split : find_line k id ≡ Some n → rows_from k (element id p w c inside rest) row a.up (around_extent a)
       ≡ own_rows (line n) extent row a ++ tail (row + length (own_rows (line n) extent row a)) (row_above (line n) row a.up)
   unfolding rows_one tail
   rows_split e =
@@ -61,7 +60,7 @@ module _ (k id p w : ℕ) (c : List ℕ) (inside rest : Tree) (row : ℕ) (a : A
       ∙ ap (λ (l : List Row). (item ++ own) ++ l) (ap₂ tail i u)
 
 -- an inside that has rows is the tree's
-inside_found : (k id n i u : ℕ) (extent : Extent) (t : Tree) → find_line k id ≡ At n
+inside_found : (k id n i u : ℕ) (extent : Extent) (t : Tree) → find_line k id ≡ Some n
     → rows_within (line n).inside (elim (constructed id) [ true ↦ t | false ↦ none ]) i u extent ≡ rows_within (line n).inside t i u extent
 inside_found k id n i u extent t e = by_inside (eqb (line n).inside 0) refl
   where
@@ -78,31 +77,15 @@ unfolding rows_from
 shown_end s q e a h = rw (at_end s q.at e h)
 
 -- The same by places, over the element at a spot.
-module _ (s : List ℕ) (q : Spot) (z : Bounds) (some : q.at < z.end) (fits : z.end ≤ length s) (high : length s ≤ longest) (a : Around) where
+module _ (s : List ℕ) (q : Spot) (end : ℕ) (some : q.at < end) (fits : end ≤ length s) (high : length s ≤ longest) (a : Around) where
   -- it fits no line: there are no rows
-  pub misfit_rows : find_line q.state (reading_at s q.at z.end).identifier ≡ Nowhere → rows_at s q z.end a ≡ []
+  pub misfit_rows : find_line q.state (reading_at s q.at end).identifier ≡ None → rows_at s q end a ≡ []
   misfit_rows f =
-      rw (tree_read s q.at z.end some fits high (reading_at s q.at z.end) refl)
+      rw (tree_read s q.at end some fits high (reading_at s q.at end) refl)
       (rows_nowhere q.state _ q.at _ _ _ _ q.row a.up (around_extent a) f)
 
-  -- so none is written, and nothing is left
-  pub shown_misfit : (old : List ℕ) → q.row ≤ 2 * q.at → find_line q.state (reading_at s q.at z.end).identifier ≡ Nowhere
-      → Shown s q z a old (record { state = q.state; at = z.end; row = q.row }) old
-  shown_misfit old few f =
-      record {
-        going = record {
-          these = [];
-          split = misfit_rows f ∙ sym (shown_end s (record { state = q.state; at = z.end; row = q.row }) z.end a refl);
-          wrote = wrote_none z.packed q.row z.limit old;
-          past = omega arith;
-          within = omega arith;
-          few = omega arith;
-        };
-        forward = some;
-      }
-
   -- it fits a line
-  module _ (f : Fit) (h : FitsAt (reading_at s q.at z.end) q.at q.state f) where
+  module _ (f : Fit) (h : FitsAt (reading_at s q.at end) q.at q.state f) where
     abbrev n : ℕ
     n = h.number
 
@@ -118,13 +101,13 @@ module _ (s : List ℕ) (q : Spot) (z : Bounds) (some : q.at < z.end) (fits : z.
 
     -- the rows after it, by the line and the number of the first
     abbrev rest_of : ℕ → ℕ → List Row
-    rest_of j i = rows_at s (record { state = j; at = f.end; row = i }) z.end a
+    rest_of j i = rows_at s (record { state = j; at = f.end; row = i }) end a
 
     -- its extent by the element that is read
     extent_read : extent_of q.at (f.end - q.at) octets ≡ fitted_at q.at f
     extent_read =
         ap (λ (c : ℕ). record { first = q.at; whole = f.end - q.at; content = c })
-        (sym (fit_content s q.at z.end q.state f h some fits high))
+        (sym (fit_content s q.at end q.state f h some fits high))
 
     -- the element's rows and those after it, by its extent and by what is inside it
     abbrev parted : Extent → Tree → List Row
@@ -133,20 +116,20 @@ module _ (s : List ℕ) (q : Spot) (z : Bounds) (some : q.at < z.end) (fits : z.
         let within = rows_within (line n).inside t (q.row + length own) (row_above (line n) q.row a.up) x in
         own ++ (within ++ rest_of (goes (line n).judge (line n).next octets) (q.row + length own + length within))
 
-    shown_found : rows_at s q z.end a
+    shown_found : rows_at s q end a
         ≡ (own_of ++ inner_of (q.row + length own_of))
         ++ rest_of (goes (line n).judge (line n).next octets) (q.row + length own_of + length (inner_of (q.row + length own_of)))
     unfolding tail rows_within
     shown_found =
         let p = q.at in
         let t = tree f.content octets in
-        let kept : Tree = elim (constructed (reading_at s p z.end).identifier) [ true ↦ t | false ↦ none ] in
-        let rest = tree f.end (slice f.end z.end s) in
+        let kept : Tree = elim (constructed (reading_at s p end).identifier) [ true ↦ t | false ↦ none ] in
+        let rest = tree f.end (slice f.end end s) in
         let i = q.row + length own_of in
         let u = row_above (line n) q.row a.up in
         let onward = goes (line n).judge (line n).next octets in
         let same : rows_within (line n).inside kept i u (fitted_at p f) ≡ inner_of i = inside_found q.state _ n i u (fitted_at p f) t h.found in
-        rw (tree_read s p z.end some fits high (fitted s p z.end f) (fit_read s p z.end q.state f h))
+        rw (tree_read s p end some fits high (fitted s p end f) (fit_read s p end q.state f h))
         (rows_split q.state _ p (f.end - p) octets kept rest q.row a n h.found
         ∙ ap (λ (x : Extent). parted x kept) extent_read
         ∙ ap (λ (l : List Row). own_of ++ (l ++ rows_from onward rest (i + length l) a.up (around_extent a))) same
@@ -157,7 +140,7 @@ module _ (s : List ℕ) (q : Spot) (z : Bounds) (some : q.at < z.end) (fits : z.
         let m = q.row + length own in
         let inner = inner_rows h.number s f.content f.end m (around_inside (line h.number) f (record { up = a.up; row = q.row; next = m })) in
         let st = goes (line h.number).judge (line h.number).next (slice f.content f.end s) in
-        rows_at s q z.end a ≡ (own ++ inner) ++ rows_at s (record { state = st; at = f.end; row = m + length inner }) z.end a)
+        rows_at s q end a ≡ (own ++ inner) ++ rows_at s (record { state = st; at = f.end; row = m + length inner }) end a)
     fit_rows =
         let all : ℕ → List Row =
         λ p.
@@ -165,35 +148,6 @@ module _ (s : List ℕ) (q : Spot) (z : Bounds) (some : q.at < z.end) (fits : z.
         let inner = inner_rows n s f.content f.end (q.row + length own) (here n p f q.row a) in
         (own ++ inner) ++ rest_of (goes (line n).judge (line n).next octets) (q.row + length own + length inner)) in
         shown_found ∙ ap all (sym h.first)
-
-    -- The rows of the element are written: its own, then those inside it.
-    pub shown_step : (old mid new : List ℕ) (m b st : ℕ)
-        → Wrote z.packed (own_rows (line h.number) (fit_extent f) q.row a) q.row z.limit old m mid
-        → Inner z.packed h.number s f (record { up = a.up; row = q.row; next = m }) z.limit mid b new
-        → st ≡ goes (line h.number).judge (line h.number).next (slice f.content f.end s)
-        → place_in z.packed z.limit ≤ length old → b ≤ 2 * f.end
-        → Shown s q z a old (record { state = st; at = f.end; row = b }) new
-    shown_step old mid new m b st own inner onward room few =
-        let order = fit_order s q.at z.end q.state f h some fits high in
-        let outer : Wrote z.packed own_of q.row z.limit old m mid =
-        subst (λ (p : ℕ). Wrote z.packed (own_rows (line n) (fitted_at p f) q.row a) q.row z.limit old m mid) h.first own in
-        let within_it : Wrote z.packed (inner_of m) m z.limit mid b new =
-        subst (λ (p : ℕ). Wrote z.packed (inner_rows n s f.content f.end m (here n p f q.row a)) m z.limit mid b new) h.first inner in
-        let i = q.row + length own_of in
-        let same : inner_of m ≡ inner_of i = ap inner_of outer.next_row in
-        let size = ap length same in
-        let number : i + length (inner_of i) ≡ b = omega (arith, outer.next_row, within_it.next_row) in
-        record {
-          going = record {
-            these = own_of ++ inner_of m;
-            split = shown_found ∙ ap₂ (λ (l r : List Row). (own_of ++ l) ++ r) (sym same) (ap₂ rest_of (sym onward) number);
-            wrote = wrote_two z.packed old mid new q.row m b z.limit own_of (inner_of m) room outer within_it;
-            past = omega (arith, order.headed, order.ordered);
-            within = order.within;
-            few = few;
-          };
-          forward = omega (arith, order.headed, order.ordered);
-        }
 
 -- The rows of a list that is an element's inside are those inside the element.
 pub held_inner : (k : ℕ) (s : List ℕ) (f : Fit) (m : Numbers) (start above : ℕ) → start ≡ (line k).inside
@@ -207,27 +161,6 @@ held_inner k s f m start above starts is some =
     rw (inner_rows, ne_eqb _ _ some) in
     ap₂ rows starts is ∙ held
 
-pub held_rows : (packed : Bool) (k : ℕ) (s : List ℕ) (f : Fit) (m : Numbers) (limit : ℕ) (old new : List ℕ) (next start above : ℕ) → start ≡ (line k).inside
-    → above ≡ row_above (line k) m.row m.up → ((line k).inside ≡ 0 → ⊥)
-    → Wrote packed (rows_at s (record { state = start; at = f.content; row = m.next }) f.end (record { up = above; place = f.first; whole = f.end - f.first; content = f.content })) m.next limit old next new
-    → Inner packed k s f m limit old next new
-held_rows packed k s f m limit old new next start above starts is some wrote =
-    subst (λ (l : List Row). Wrote packed l m.next limit old next new) (held_inner k s f m start above starts is some) wrote
-
--- A step after rows that are written already.
-pub going_on : (s : List ℕ) (p : Spot) (z : Bounds) (a : Around) (old mid new : List ℕ) (q r : Spot) → place_in z.packed z.limit ≤ length old
-    → Going s p z a old q mid → Going s q z a mid r new → Going s p z a old r new
-going_on s p z a old mid new q r room first then =
-    record {
-      these = first.these ++ then.these;
-      split = first.split ∙ ap (λ (l : List Row). first.these ++ l) then.split
-          ∙ sym (append_assoc first.these then.these (rows_at s r z.end a));
-      wrote = wrote_two z.packed old mid new p.row q.row r.row z.limit first.these then.these room first.wrote then.wrote;
-      past = omega (arith, first.past, then.past);
-      within = then.within;
-      few = then.few;
-    }
-
 -- The rows of a whole input: none if it is too long, and otherwise those of the list of elements from 0 to its end.
 module _ (s : List ℕ) where
   pub no_rows : longest < length s → rows_of_input s ≡ []
@@ -238,16 +171,6 @@ module _ (s : List ℕ) where
       → rows_of_input s ≡ rows_at s (record { state = 1; at = 0; row = 0 }) (length s) (record { up = 0; place = 0; whole = 0; content = 0 })
   unfolding rows_of_input start starts_from order
   all_rows short = rw (rows_of_input, le-leb _ _ short) (ap (λ (l : List ℕ). rows_from 1 (tree 0 l) 0 0 no_extent) (sym (take-length s)))
-
--- They are written into a table of a layout: an input that is too long leaves it as it is, and otherwise the list's rows are the input's.
-module _ (s : List ℕ) (packed : Bool) (limit : ℕ) (old : List ℕ) where
-  pub walk_long : longest < length s → old ≡ written_in packed old 0 limit (rows_of_input s)
-  walk_long long = (wrote_none packed 0 limit old).kept ∙ ap (written_in packed old 0 limit) (sym (no_rows s long))
-
-  pub walk_rows : length s ≤ longest → (new : List ℕ)
-      → new ≡ written_in packed old 0 limit (rows_at s (record { state = 1; at = 0; row = 0 }) (length s) (record { up = 0; place = 0; whole = 0; content = 0 }))
-      → new ≡ written_in packed old 0 limit (rows_of_input s)
-  walk_rows short new e = e ∙ ap (written_in packed old 0 limit) (sym (all_rows s short))
 
 -- A table without room for a count of rows, and one with room.
 module _ (s : List ℕ) (count : ℕ) (old : List ℕ) where

@@ -1,7 +1,7 @@
 -- Rows written into a table of either layout, one run after another: what is written over a list twice in a row is written at once. Assumes
 -- nothing.
 use Prim.Native.Nat.{ℕ, zero, suc, ◌+◌, ◌-◌, ◌*◌, ◌≤◌, ◌<◌}
-use mathlib.Core.Path.{◌≡◌, refl, sym, ap, ap₂, subst, ◌∙◌}
+use mathlib.Core.Path.{◌≡◌, refl, sym, ap, ap₂, ◌∙◌}
 use mathlib.Core.Bool.{Bool, true, false}
 use mathlib.Core.List.{List, [], ◌∷◌, ◌++◌, append_assoc, append-nil, map-append}
 use native.Mathlib.Nat.{add-zero}
@@ -9,13 +9,14 @@ use native.Mathlib.Decide.{dec_le}
 use native.Mathlib.Numerals.{add-one, add-two, add-three, add-four}
 use native.Mathlib.Omega.{arith}
 use lib.ListN.{length, take, drop, set, length-append, length-map, length-take, length-drop, take-append-drop}
+use Rattle.std.proofs.lemmas.List.{drop-append-le}
 use lib.Seq.{take_all, take-nil, take_at, drop_at, drop-drop, length-take-le, sets-eq}
 use lib.Dec.{eqb}
-use borrow.Author.Tests.{eq-eqb, ne_eqb}
+use Rattle.std.specs.Prelude.{Option, Some, None}
 use Rattle.crmf.specs.declared.rows.Entry.{Entry}
 use Rattle.crmf.specs.meaning.Rows.{Row, Extent, row_if, width, numbers}
 use Rattle.crmf.specs.steps.explain.Walk.{rows_of_kind as rowsGiven}
-use Rattle.crmf.specs.steps.rows.Fill.{place_in, numbers_in, written_in, entry_row, row_of, Wrote}
+use Rattle.crmf.specs.steps.rows.Fill.{place_in, numbers_in, written_in, row_of}
 use Rattle.crmf.specs.steps.rows.Packing.{pack_row, packed_rows}
 use Rattle.crmf.specs.meaning.Lists.{over}
 
@@ -153,99 +154,65 @@ module _ (packed : Bool) (old : List ℕ) (n limit : ℕ) where
             ∙ ap (λ (l : List ℕ). length (over old (place n) l)) (numbers_in_none packed)
             ∙ ap length (over_nothing old (place n))
 
--- a row below the limit is within a table with room for it: packed, and with five numbers
-module _ {packed : Bool} {n limit size : ℕ} where
-  pub one_fits : packed ≡ true → n < limit → place_in packed limit ≤ size → n < size
-  one_fits is below room = omega (arith, ap (λ (b : Bool). place_in b limit) is)
-
-  pub five_fit : packed ≡ false → n < limit → place_in packed limit ≤ size → width * n + width ≤ size
-  five_fit is below room = omega (arith, ap (λ (b : Bool). place_in b limit) is)
-
 -- nothing is written
-pub wrote_none : (packed : Bool) (n limit : ℕ) (old : List ℕ) → Wrote packed [] n limit old n old
-wrote_none packed n limit old =
-    record {
-      next_row = sym (add-zero n);
-      kept = rw (take-nil (limit - n), numbers_in_none packed) (sym (over_nothing old (place_in packed n)));
-    }
+pub written_none : (packed : Bool) (n limit : ℕ) (old : List ℕ) → old ≡ written_in packed old n limit []
+written_none packed n limit old = rw (take-nil (limit - n), numbers_in_none packed) (sym (over_nothing old (place_in packed n)))
 
--- an entry of no kind writes nothing, and so does a row past the limit
-module _ (packed : Bool) (old : List ℕ) (n limit : ℕ) (new : Entry) where
-  pub put_none : new.kind ≡ 0 → Wrote packed (row_of new) n limit old n old
-  put_none none =
-      let no_row : [] ≡ row_of new = rw (row_if, eq-eqb new.kind 0 none) in
-      subst (λ (rs : List Row). Wrote packed rs n limit old n old) no_row (wrote_none packed n limit old)
+-- a row past the limit writes nothing
+pub written_past : (packed : Bool) (old : List ℕ) (n limit : ℕ) (q : Row) → limit ≤ n → old ≡ written_in packed old n limit (q ∷ [])
+written_past packed old n limit q past =
+    let none : limit - n ≡ 0 = omega arith in
+    sym (ap (λ (k : ℕ). over old (place_in packed n) (numbers_in packed (take k (q ∷ [])))) none
+    ∙ ap (over old (place_in packed n)) (numbers_in_none packed)
+    ∙ over_nothing old (place_in packed n))
 
-  module _ (some : new.kind ≡ 0 → ⊥) where
-    abbrev row : List Row
-    row = entry_row new ∷ []
+-- a row below the limit is written into a table of either layout
+module _ (old : List ℕ) (n limit : ℕ) (q : Row) (below : n < limit) where
+  all : take (limit - n) (q ∷ []) ≡ q ∷ []
+  all = take_all (limit - n) (q ∷ []) (omega arith)
 
-    one_row : row_of new ≡ row
-    one_row = rw (row_if, ne_eqb new.kind 0 some)
+  -- what is stored where the row's numbers begin is the row
+  stored_row : (packed : Bool) (after : List ℕ) → after ≡ over old (place_in packed n) (numbers_in packed (q ∷ [])) → after ≡ written_in packed old n limit (q ∷ [])
+  stored_row packed after stored = stored ∙ ap (λ (rs : List Row). over old (place_in packed n) (numbers_in packed rs)) (sym all)
 
-    -- a row is written if its numbers are
-    put_written : (after : List ℕ) → after ≡ written_in packed old n limit row → Wrote packed (row_of new) n limit old (n + 1) after
-    put_written after e = subst (λ (rs : List Row). Wrote packed rs n limit old (n + 1) after) (sym one_row) (record { next_row = refl; kept = e })
+  -- one number
+  pub written_packed : limit ≤ length old → set old n (pack_row q) ≡ written_in true old n limit (q ∷ [])
+  unfolding packed_rows over
+  written_packed fits =
+      let values = pack_row q ∷ [] in
+      stored_row true (set old n (pack_row q))
+      (sets-eq values old n (omega arith) ∙ append_assoc (take n old) values (drop (n + 1) old))
 
-    pub put_past : limit ≤ n → Wrote packed (row_of new) n limit old (n + 1) old
-    put_past past =
-        let none : limit - n ≡ 0 = omega arith in
-        put_written old
-        (sym (ap (λ (k : ℕ). over old (place_in packed n) (numbers_in packed (take k row))) none
-        ∙ ap (over old (place_in packed n)) (numbers_in_none packed)
-        ∙ over_nothing old (place_in packed n)))
+  -- five numbers
+  pub written_row : width * limit ≤ length old
+      → set (set (set (set (set old (width * n) q.kind) (width * n + 1) q.first) (width * n + 2) q.whole) (width * n + 3) q.parent) (width * n + 4) q.content
+      ≡ written_in false old n limit (q ∷ [])
+  unfolding numbers over
+  written_row fits =
+      let b = width * n in
+      let values = q.kind ∷ q.first ∷ q.whole ∷ q.parent ∷ q.content ∷ [] in
+      stored_row false _
+      (simp (add-one, add-two, add-three, add-four) (sets-eq values old b (omega arith) ∙ append_assoc (take b old) values (drop (b + width) old)))
 
-    module _ (below : n < limit) (room : place_in packed limit ≤ length old) where
-      all : take (limit - n) row ≡ row
-      all = take_all (limit - n) row (omega arith)
+-- a list's first numbers are written over, and the others stay
+pub over_first : (old : List ℕ) (m : ℕ) (p : List ℕ) → length p ≤ m → m ≤ length old → over (take m old) 0 p ++ drop m old ≡ over old 0 p
+unfolding over
+over_first old m p few fits =
+    let none : 0 + length p ≡ length p = omega arith in
+    let size : length (take m old) ≡ m = length-take-le m old fits in
+    let rest : drop (length p) (take m old) ++ drop m old ≡ drop (length p) old =
+    sym (drop-append-le (length p) (take m old) (drop m old) (omega (arith, size))) ∙ ap (drop (length p)) (take-append-drop m old) in
+    rw none (append_assoc p (drop (length p) (take m old)) (drop m old) ∙ ap (λ (l : List ℕ). p ++ l) rest)
 
-      -- what is stored where the row's numbers begin, if there is room for it, is the row
-      put_stored : (b : Bool) → packed ≡ b → (after : List ℕ) → (place_in b limit ≤ length old → after ≡ over old (place_in b n) (numbers_in b row))
-          → Wrote packed (row_of new) n limit old (n + 1) after
-      put_stored b is after stored =
-          let here = stored (subst (λ (x : Bool). place_in x limit ≤ length old) is room) in
-          put_written after
-          (here ∙ ap (λ (x : Bool). over old (place_in x n) (numbers_in x row)) (sym is)
-          ∙ ap (λ (rs : List Row). over old (place_in packed n) (numbers_in packed rs)) (sym all))
+-- an entry has at most one row
+pub one_at_most : (entry : Option Entry) → length (row_of entry) ≤ 1
+one_at_most None = omega arith
+one_at_most (Some new) = omega arith
 
-      -- one number
-      pub put_packed : packed ≡ true → Wrote packed (row_of new) n limit old (n + 1) (set old n (pack_row (entry_row new)))
-      unfolding packed_rows over
-      put_packed is =
-          let values = pack_row (entry_row new) ∷ [] in
-          put_stored true is (set old n (pack_row (entry_row new)))
-          (λ fits. sets-eq values old n (omega arith) ∙ append_assoc (take n old) values (drop (n + 1) old))
-
-      -- five numbers
-      pub put_row : packed ≡ false → Wrote packed (row_of new) n limit old (n + 1)
-          (set (set (set (set (set old (width * n) new.kind) (width * n + 1) new.first) (width * n + 2) new.whole) (width * n + 3) new.parent) (width * n + 4) new.content)
-      unfolding numbers over
-      put_row is =
-          let b = width * n in
-          let values = new.kind ∷ new.first ∷ new.whole ∷ new.parent ∷ new.content ∷ [] in
-          put_stored false is _
-          (λ fits. simp (add-one, add-two, add-three, add-four) (sets-eq values old b (omega arith) ∙ append_assoc (take b old) values (drop (b + width) old)))
-
--- a kind gives at most one row, as many as are counted for it
-pub one_at_most : (kind : ℕ) (extent : Extent) (parent : ℕ) → length (row_if kind extent parent) ≤ 1
-one_at_most kind extent parent = go (eqb kind 0) refl
-  where
-    go : (b : Bool) → eqb kind 0 ≡ b → length (row_if kind extent parent) ≤ 1
-    go true e = rw (row_if, e) (omega arith)
-    go false e = rw (row_if, e) (omega arith)
-
+-- a kind gives as many rows as are counted for it
 pub rows_given : (kind : ℕ) (extent : Extent) (parent : ℕ) → length (row_if kind extent parent) ≡ rowsGiven kind
 rows_given kind extent parent = go (eqb kind 0) refl
   where
     go : (b : Bool) → eqb kind 0 ≡ b → length (row_if kind extent parent) ≡ rowsGiven kind
     go true e = rw (row_if, rowsGiven, e)
     go false e = rw (row_if, rowsGiven, e)
-
--- two runs of rows
-pub wrote_two : (packed : Bool) (old mid new : List ℕ) (n m k limit : ℕ) (rs ss : List Row) → place_in packed limit ≤ length old
-    → Wrote packed rs n limit old m mid → Wrote packed ss m limit mid k new → Wrote packed (rs ++ ss) n limit old k new
-wrote_two packed old mid new n m k limit rs ss room a b =
-    record {
-      next_row = omega (arith, a.next_row, b.next_row, length-append rs ss);
-      kept = b.kept ∙ ap₂ (λ (l : List ℕ) (i : ℕ). written_in packed l i limit ss) a.kept a.next_row ∙ written_written packed old n limit room rs ss;
-    }

@@ -8,11 +8,14 @@ use mathlib.Core.Logic.{◌↔◌}
 use mathlib.Core.Option
 use mathlib.Core.Option.{Option, some, none, some-injective, none-ne-some, bind-eq-some_iff}
 use mathlib.Core.Path.{◌≡◌, refl, sym, ap, ap₂, ◌∙◌}
-use borrow.Author.Tests.{leb-true, le-leb, eqb-true, eq-eqb}
+use borrow.Author.Tests.{leb-true, le-leb, lt-leb, eqb-true, eq-eqb, ne_eqb}
 use native.Mathlib.Omega.{arith}
 use lib.Dec.{leb, eqb, lit<}
 use lib.ListN.{length, get_or, get_elem?, take, drop, drop_of_length-le}
 use lib.Seq.{drop-cons}
+use Rattle.std.specs.Prelude.{Option as Maybe, Some, None, IfSome, unwrap_or}
+use Rattle.time.specs.steps.Moments.{as_option}
+use Rattle.time.proofs.Laws.{some_told, none_told}
 use Rattle.crmf.specs.meaning.Value.{is_up_to, number, type_number, Selector, action, method, control_type, info_type, selected}
 use Rattle.crmf.specs.meaning.Lists.{same}
 use Rattle.crmf.specs.meaning.Notation.{Name}
@@ -23,10 +26,18 @@ use Rattle.crmf.specs.steps.explain.Walk.{ways}
 pub both : (a b : Bool) → a && b ≡ true → (a ≡ true) × (b ≡ true)
 both a b e = (and-eq-true_iff a b).0 e
 
--- a number of at most d, coded with d for none, is at most d
-coded_most : (o : Option ℕ) (d : ℕ) → ((n : ℕ) → o ≡ some n → n ≤ d) → Option.get_or o d ≤ d
-coded_most none d most = omega arith
-coded_most (some n) d most = most n refl
+-- a single octet is at most n, or above it; any other content is no number
+pub up_to : (n : ℕ) (c : List ℕ) → length c ≡ 1 → get_or c 0 0 ≤ n → is_up_to n c ≡ true
+unfolding is_up_to
+up_to n c one low = rw (is_up_to, eq-eqb _ _ one, le-leb _ _ low)
+
+pub above : (n : ℕ) (c : List ℕ) → n < get_or c 0 0 → is_up_to n c ≡ false
+unfolding is_up_to
+above n c high = rw (is_up_to, lt-leb _ _ high) (and-false _)
+
+pub not_one : (n : ℕ) (c : List ℕ) → (length c ≡ 1 → ⊥) → is_up_to n c ≡ false
+unfolding is_up_to
+not_one n c other = rw (is_up_to, ne_eqb _ _ other)
 
 number_most : (n : ℕ) (c : List ℕ) (w : ℕ) → number n c ≡ some w → w ≤ n
 unfolding number is_up_to
@@ -37,7 +48,7 @@ number_most n c w = go _ refl
         omega (arith, leb-true (get_or c 0 0) n (both (eqb (length c) 1) (leb (get_or c 0 0) n) e).1, some-injective _ _ is)
     go false e is = absurd (none-ne-some w is)
 
-type_most : (a most : ℕ) (c : List ℕ) → Option.get_or (type_number a most c) 0 ≤ most
+pub type_most : (a most : ℕ) (c : List ℕ) → Option.get_or (type_number a most c) 0 ≤ most
 unfolding type_number
 type_most a most c = go _ refl
   where
@@ -59,35 +70,30 @@ selected_below method c w is = omega (arith, number_most 3 c w is)
 selected_below control_type c w is = omega (arith, type_most 1 6 c, some-injective _ _ is)
 selected_below info_type c w is = omega (arith, type_most 2 2 c, some-injective _ _ is)
 
--- what codes the way, with the number of ways for none, is at most 6
-pub selected_bound : (s : Selector) (c : List ℕ) → Option.get_or (selected s c) (ways s) ≤ 6
-unfolding selected
-selected_bound action c = omega (arith, coded_most (number 1 c) 2 (λ w is. omega (arith, number_most 1 c w is)))
-selected_bound method c = omega (arith, coded_most (number 3 c) 4 (λ w is. omega (arith, number_most 3 c w is)))
-selected_bound control_type c = type_most 1 6 c
-selected_bound info_type c = omega (arith, type_most 2 2 c)
+-- the way that it selects, as code tells it, is at most 6
+pub way_few : (s : Selector) (c : List ℕ) → IfSome (as_option (selected s c)) (λ w. w ≤ 6)
+way_few s c = go (selected s c) refl
+  where
+    ways_few : (s : Selector) → ways s ≤ 7
+    ways_few action = omega arith
+    ways_few method = omega arith
+    ways_few control_type = omega arith
+    ways_few info_type = omega arith
+
+    go : (o : Option ℕ) → selected s c ≡ o → IfSome (as_option o) (λ w. w ≤ 6)
+    go none is = rw none_told tt
+    go (some w) is = rw (some_told w) (omega (arith, selected_below s c w is, ways_few s))
+
+-- what code tells of a number, with another for none
+pub told_or : (o : Option ℕ) (d : ℕ) → unwrap_or (as_option o) d ≡ Option.get_or o d
+told_or none d = rw none_told refl
+told_or (some n) d = rw (some_told n) refl
 
 -- a value selects a name exactly by the number of its way
 pub way_selected : (s : Selector) (c : List ℕ) (ns : List Name) (n : Name)
     → (way_of s c ns ≡ some n) ↔ ((w : ℕ) × (selected s c ≡ some w) × (get_elem? ns w ≡ some n))
 unfolding way_of
 way_selected s c ns n = bind-eq-some_iff (selected s c) (get_elem? ns)
-
--- a number that is 0 for an unknown type needs no test that it is at least 1
-number_coded : (known : Bool) (n most : ℕ) (t : Bool) → known && leb n most ≡ t
-    → ◌≡◌ {A = ℕ} (elim t as (λ x. ℕ) [ true ↦ n | false ↦ 0 ])
-    (Option.get_or (elim (known && leb 1 n && leb n most) as (λ x. Option ℕ) [ true ↦ some n | false ↦ none ]) 0)
-number_coded known zero most t is = rw (and-false known) (go t)
-  where
-    go : (b : Bool) → ◌≡◌ {A = ℕ} (elim b as (λ x. ℕ) [ true ↦ 0 | false ↦ 0 ]) 0
-    go true = refl
-    go false = refl
-number_coded known (suc n) most t is = rw (le-leb 1 (suc n) (omega arith), and-true known, is) (go t)
-  where
-    go : (b : Bool) → ◌≡◌ {A = ℕ} (elim b as (λ x. ℕ) [ true ↦ suc n | false ↦ 0 ])
-        (Option.get_or (elim b as (λ x. Option ℕ) [ true ↦ some (suc n) | false ↦ none ]) 0)
-    go true = refl
-    go false = refl
 
 -- lists of other lengths are not the same
 pub other_length : (a b : List ℕ) → (length a ≡ length b → ⊥) → same a b ≡ false
@@ -154,11 +160,15 @@ module _ (c : List ℕ) (h : length c ≡ 9) where
       )
       (simp (and_assoc, and-true))
 
-  -- what codes a type's number, with 0 for none, by the test of the nine octets
-  pub type_coded : (a most : ℕ) (t : Bool) → typed a && leb (get_or c 8 0) most ≡ t
-      → ◌≡◌ {A = ℕ} (elim t as (λ x. ℕ) [ true ↦ get_or c 8 0 | false ↦ 0 ]) (Option.get_or (type_number a most c) 0)
+  -- a type's number, by the test of the nine octets
+  pub type_told : (a most : ℕ) (t : Bool) → typed a && leb 1 (get_or c 8 0) && leb (get_or c 8 0) most ≡ t
+      → (elim t as (λ x. Maybe ℕ) [ true ↦ Some (get_or c 8 0) | false ↦ None ]) ≡ as_option (type_number a most c)
   unfolding type_number
-  type_coded a most t is = rw (type_number, same_type a) (number_coded (typed a) (get_or c 8 0) most t is)
+  type_told a most t is = rw (type_number, same_type a, is) (go t)
+    where
+      go : (b : Bool) → (elim b as (λ x. Maybe ℕ) [ true ↦ Some (get_or c 8 0) | false ↦ None ]) ≡ as_option (elim b as (λ x. Option ℕ) [ true ↦ some (get_or c 8 0) | false ↦ none ])
+      go true = sym (some_told _)
+      go false = sym none_told
 
 -- Lists compare as the same exactly when they are.
 pub same_octets : (a b : List ℕ) → same a b ≡ true → a ≡ b

@@ -1,17 +1,13 @@
 -- The walk of document 01 over an element tree (SPECIFICATION 3.1): parts left to right, insides first, a part chosen by identifier alone.
 -- Assumes nothing.
-use Rattle.std.specs.Prelude.{ℕ, suc, ◌+◌, Bool, true, false, ◌&&◌, List, [], ◌∷◌, ◌++◌, leb, eqb, length, get_or, drop}
+use Rattle.std.specs.Prelude.{ℕ, suc, ◌+◌, Bool, true, false, ◌&&◌, List, [], ◌∷◌, ◌++◌, leb, eqb, length, get_or, drop, Option, Some, None, Result, Ok, Err}
 use Rattle.std.proofs.Math.Option.{some as present, none as absent}
 use Rattle.der.specs.meaning.Tree.{Tree, none, element}
 use Rattle.der.specs.meaning.Bounds.{longest}
 use Rattle.der.specs.steps.Reading.{tree}
-use Rattle.crmf.specs.declared.explain.tally.Tally.{Tally}
-use Rattle.crmf.specs.declared.explain.Walked.{Walked}
-use Rattle.crmf.specs.declared.explain.Walked.TheVariants.{Passed, Broken}
-use Rattle.crmf.specs.declared.grammar.judge.Onward.{Onward}
-use Rattle.crmf.specs.declared.grammar.judge.Onward.TheVariants.{To, Breaks}
-use Rattle.crmf.specs.declared.grammar.table.FoundLine.{FoundLine}
-use Rattle.crmf.specs.declared.grammar.table.FoundLine.TheVariants.{At, Nowhere}
+use Rattle.crmf.specs.declared.explain.Break.{Break}
+use Rattle.crmf.specs.declared.explain.tally.Tally.{Tally as Kept}
+use Rattle.crmf.specs.steps.explain.Tally.{Tally, tally_of}
 use Rattle.crmf.specs.meaning.Kinds as kinds
 use Rattle.crmf.specs.meaning.Value.{keeps, Selector, action, method, control_type, info_type, selected}
 use Rattle.crmf.specs.meaning.Notation.{named, Mark, both, alone, mark_of, detail_of, Top}
@@ -19,6 +15,16 @@ use Rattle.crmf.specs.meaning.Language.{readable, Occurrence, occurs}
 pub use Rattle.crmf.specs.meaning.Value.{rule_detail}
 use Rattle.crmf.specs.meaning.Rows.{long_id}
 use Rattle.crmf.specs.steps.grammar.Lines.{Judge, keep, choose, Pass, ends, needed, another, over, Line, end_line, lines, start}
+
+-- What a walk over a container answers: all of it is in the grammar; or the place of the first break, request A9's detail, and the tally before it.
+pub data Walked : Type 0 where
+  Passed : Tally → Walked
+  Broken : (place detail : ℕ) → Tally → Walked
+
+-- what the code's result answers
+abbrev pub walked_of : Result Kept Break → Walked
+walked_of (Ok s) = Passed (tally_of s)
+walked_of (Err b) = Broken b.place b.detail (tally_of b.tally)
 
 -- the line of a number
 unfoldable pub line : ℕ → Line
@@ -31,11 +37,19 @@ walk_goes_on needed = false
 walk_goes_on another = true
 walk_goes_on over = true
 
+-- what the search for an element's line finds: the line's number, if there is one
+abbrev pub FoundLine : Type 0
+FoundLine = Option ℕ
+
+-- what judging a value comes to: the line to go on with, or the detail of the rule that it breaks
+abbrev pub Onward : Type 0
+Onward = Result ℕ ℕ
+
 -- "the element that fits no part it can reach, a needed part never being passed over": the first line from k on that has the identifier
 unfoldable pub find_line_in : List Line → ℕ → ℕ → FoundLine
-find_line_in [] k id = Nowhere
+find_line_in [] k id = None
 find_line_in (x ∷ xs) k id =
-    elim (named x.identifiers id) [ true ↦ At k | false ↦ elim (walk_goes_on x.pass) [ true ↦ find_line_in xs (suc k) id | false ↦ Nowhere ] ]
+    elim (named x.identifiers id) [ true ↦ Some k | false ↦ elim (walk_goes_on x.pass) [ true ↦ find_line_in xs (suc k) id | false ↦ None ] ]
 
 unfoldable pub find_line : ℕ → ℕ → FoundLine
 find_line k id = find_line_in (drop k lines) k id
@@ -57,8 +71,8 @@ ways info_type = 3
 
 -- what is judged after an element's inside: the line to go on with, or the detail of the rule that its value breaks
 unfoldable pub judged : Judge → ℕ → List ℕ → Onward
-judged (keep r) next c = elim (keeps r c) [ true ↦ To next | false ↦ Breaks (rule_detail r c) ]
-judged (choose s) next c = elim (selected s c) [ present w ↦ To (line (next + w)).next | absent ↦ Breaks 3 ]
+judged (keep r) next c = elim (keeps r c) [ true ↦ Ok next | false ↦ Err (rule_detail r c) ]
+judged (choose s) next c = elim (selected s c) [ present w ↦ Ok (line (next + w)).next | absent ↦ Err 3 ]
 
 -- how many rows a kind gives: 0 for none, 1 for any other
 abbrev pub rows_of_kind : ℕ → ℕ
@@ -102,8 +116,8 @@ unfoldable pub walk : (ℕ → Bool) → Tally → ℕ → ℕ → Tree → Walk
 walk R s k around none = elim (closed k) [ true ↦ Passed s | false ↦ Broken around 2 s ]
 walk R s k around (element id first whole c inside rest) =
     elim (find_line k id) [
-      | Nowhere ↦ Broken first 1 s
-      | At n ↦
+      | None ↦ Broken first 1 s
+      | Some n ↦
           let x = line n in
           let m = with_element x c first whole s in
           elim (readable R (mark_of x.marking c)) [
@@ -112,7 +126,7 @@ walk R s k around (element id first whole c inside rest) =
                 let within : Walked = elim (eqb x.inside 0) [ true ↦ Passed m | false ↦ walk R m x.inside first inside ] in
                 elim within [
                   | Broken q d r ↦ Broken q d r
-                  | Passed r ↦ elim (judged x.judge x.next c) [ Breaks d ↦ Broken first d r | To next ↦ walk R r next around rest ]
+                  | Passed r ↦ elim (judged x.judge x.next c) [ Err d ↦ Broken first d r | Ok next ↦ walk R r next around rest ]
                 ]
           ]
     ]
@@ -122,11 +136,11 @@ unfoldable pub passes : ℕ → Tree → Bool
 passes k none = closed k
 passes k (element id first whole c inside rest) =
     elim (find_line k id) [
-      | Nowhere ↦ false
-      | At n ↦
+      | None ↦ false
+      | Some n ↦
           let x = line n in
           let within : Bool = elim (eqb x.inside 0) [ true ↦ true | false ↦ passes x.inside inside ] in
-          elim within [ false ↦ false | true ↦ elim (judged x.judge x.next c) [ Breaks d ↦ false | To next ↦ passes next rest ] ]
+          elim within [ false ↦ false | true ↦ elim (judged x.judge x.next c) [ Err d ↦ false | Ok next ↦ passes next rest ] ]
     ]
 
 -- the elements in a form of one edition alone that the walk that reads every form meets, up to its first break
@@ -134,12 +148,12 @@ unfoldable pub trail : ℕ → Tree → List Occurrence
 trail k none = []
 trail k (element id first whole c inside rest) =
     elim (find_line k id) [
-      | Nowhere ↦ []
-      | At n ↦
+      | None ↦ []
+      | Some n ↦
           let x = line n in
           let within : List Occurrence = elim (eqb x.inside 0) [ true ↦ [] | false ↦ trail x.inside inside ] in
           let whole : Bool = elim (eqb x.inside 0) [ true ↦ true | false ↦ passes x.inside inside ] in
-          let onward : List Occurrence = elim (judged x.judge x.next c) [ Breaks d ↦ [] | To next ↦ trail next rest ] in
+          let onward : List Occurrence = elim (judged x.judge x.next c) [ Err d ↦ [] | Ok next ↦ trail next rest ] in
           occurs (mark_of x.marking c) first ++ (within ++ (elim whole [ false ↦ [] | true ↦ onward ]))
     ]
 

@@ -1,5 +1,5 @@
 -- The rows as the walk over the lines finds them, for a tree that it passes. Assumes nothing.
-use Rattle.std.specs.Prelude.{ℕ, ◌+◌, ◌-◌, ◌*◌, ◌≤◌, ◌<◌, Bool, true, false, List, [], ◌∷◌, ◌++◌, eqb, leb, length, take, ◌≡◌}
+use Rattle.std.specs.Prelude.{ℕ, ◌+◌, ◌-◌, ◌*◌, Bool, true, false, List, [], ◌∷◌, ◌++◌, eqb, leb, length, take, None, Some, Option}
 use Rattle.std.proofs.Math.Option.{get_or}
 use Rattle.std.proofs.Math.Seq.{slice}
 use Rattle.der.specs.meaning.Tree.{Tree, none, element}
@@ -8,15 +8,12 @@ use Rattle.der.specs.steps.Reading.{tree}
 use Rattle.crmf.specs.meaning.Lists.{over}
 use Rattle.crmf.specs.declared.grammar.element.Fit.{Fit}
 use Rattle.crmf.specs.declared.rows.Around.{Around}
-use Rattle.crmf.specs.declared.rows.Bounds.{Bounds}
 use Rattle.crmf.specs.declared.rows.Entry.{Entry}
 use Rattle.crmf.specs.declared.rows.Numbers.{Numbers}
 use Rattle.crmf.specs.declared.rows.Spot.{Spot}
-use Rattle.crmf.specs.declared.grammar.table.FoundLine.TheVariants.{At, Nowhere}
 use Rattle.crmf.specs.meaning.Value.{selected}
 use Rattle.crmf.specs.meaning.Notation.{among, Top, Time, AlgId, Spki, OneName, Extension}
 use Rattle.crmf.specs.steps.grammar.Lines.{Judge, keep, choose, Line, start}
-use Rattle.crmf.specs.steps.grammar.Packed.{packed as words}
 use Rattle.crmf.specs.steps.explain.Walk.{line, find_line, ways, rows_of_kind as rowsGiven}
 use Rattle.crmf.specs.meaning.Rows.{Row, Extent, extent_of, no_extent, row_with, row_if, parent_if, width, numbers}
 use Rattle.crmf.specs.steps.rows.Packing.{packed_rows}
@@ -32,8 +29,8 @@ unfoldable pub rows_from : ℕ → Tree → (n up : ℕ) (extent : Extent) → L
 rows_from k none n up extent = []
 rows_from k (element id p w c inside rest) n up extent =
     elim (find_line k id) [
-      | Nowhere ↦ []
-      | At m ↦
+      | None ↦ []
+      | Some m ↦
           let x = line m in
           let item = row_if x.item extent up in
           let above = parent_if x.item n up in
@@ -79,16 +76,6 @@ rows_of_input s = elim (leb (length s) longest) [ true ↦ rows_from (start Top)
 unfoldable pub filled : List ℕ → ℕ → List ℕ → List ℕ
 filled s count old = elim (fits count old) [ true ↦ written old 0 count (rows_of_input s) | false ↦ old ]
 
--- What the inner functions are lent: a part of an input, the number of the next row, at most two for each byte before it, the lines, and a
--- table of a layout with room up to the limit.
-pub record Room (bytes : List ℕ) (at end row limit : ℕ) (packed : Bool) (lines out : List ℕ) : Type 0 where
-  pub short : length bytes ≤ longest
-  pub order : at ≤ end
-  pub inside : end ≤ length bytes
-  pub few : row ≤ 2 * at
-  pub right : lines ≡ words
-  pub room : place_in packed limit ≤ length out
-
 -- the extent of an entry, of the element around some rows, and of an element that fits a line
 abbrev pub entry_extent : Entry → Extent
 entry_extent new = record { first = new.first; whole = new.whole; content = new.content }
@@ -104,22 +91,13 @@ abbrev pub rows_at : List ℕ → Spot → ℕ → Around → List Row
 rows_at bytes spot end around =
     rows_from spot.state (tree spot.at (slice spot.at end bytes)) spot.row around.up (around_extent around)
 
--- the row that an entry has, and the one that it gives if it has a kind
+-- the row that an entry has, if there is one
 abbrev pub entry_row : Entry → Row
 entry_row new = row_with new.kind (entry_extent new) new.parent
 
-abbrev pub row_of : Entry → List Row
-row_of new = row_if new.kind (entry_extent new) new.parent
-
--- Rows are written, and the number of the next row is the one after theirs.
-pub record Wrote (packed : Bool) (rs : List Row) (row limit : ℕ) (old : List ℕ) (next : ℕ) (new : List ℕ) : Type 0 where
-  pub next_row : next ≡ row + length rs
-  pub kept : new ≡ written_in packed old row limit rs
-
--- The rows of a list of elements are written.
-pub record Listed (bytes : List ℕ) (spot : Spot) (bounds : Bounds) (around : Around) (old : List ℕ) (next : ℕ) (new : List ℕ) : Type 0 where
-  pub wrote : Wrote bounds.packed (rows_at bytes spot bounds.end around) spot.row bounds.limit old next new
-  pub few : next ≤ 2 * bounds.end
+abbrev pub row_of : Option Entry → List Row
+row_of None = []
+row_of (Some new) = entry_row new ∷ []
 
 -- the rows that an element in a line's form gives by itself, and the number of the row above its inside
 abbrev pub own_rows : Line → Extent → ℕ → Around → List Row
@@ -137,22 +115,3 @@ around_inside x fit n = record { up = row_above x n.row n.up; place = fit.first;
 abbrev pub inner_rows : ℕ → List ℕ → ℕ → ℕ → ℕ → Around → List Row
 inner_rows k bytes at end row around =
     elim (eqb (line k).inside 0) [ true ↦ [] | false ↦ rows_at bytes (record { state = (line k).inside; at = at; row = row }) end around ]
-
--- The rows inside an element in a line's form are written.
-abbrev pub Inner : Bool → ℕ → List ℕ → Fit → Numbers → ℕ → List ℕ → ℕ → List ℕ → Type 0
-Inner packed k bytes fit n limit old next new =
-    Wrote packed (inner_rows k bytes fit.content fit.end n.next (around_inside (line k) fit n)) n.next limit old next new
-
--- Some rows of a list of elements are written, and the list goes on after them.
-pub record Going (bytes : List ℕ) (spot : Spot) (bounds : Bounds) (around : Around) (old : List ℕ) (r : Spot) (new : List ℕ) : Type 0 where
-  pub these : List Row
-  pub split : rows_at bytes spot bounds.end around ≡ these ++ rows_at bytes r bounds.end around
-  pub wrote : Wrote bounds.packed these spot.row bounds.limit old r.row new
-  pub past : spot.at ≤ r.at
-  pub within : r.at ≤ bounds.end
-  pub few : r.row ≤ 2 * r.at
-
--- The rows of one element are written.
-pub record Shown (bytes : List ℕ) (spot : Spot) (bounds : Bounds) (around : Around) (old : List ℕ) (r : Spot) (new : List ℕ) : Type 0 where
-  pub going : Going bytes spot bounds around old r new
-  pub forward : spot.at < r.at

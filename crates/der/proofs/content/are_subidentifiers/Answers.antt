@@ -1,10 +1,9 @@
 -- `der::content::are_subidentifiers` meets its contract: the rule for the octets that are left, given the octet before them, answers as that for
--- the whole content. The measure is how many are left. Assumes nothing.
+-- the whole content. Assumes nothing.
 use Prim.Native.Nat.{ℕ, ◌+◌, ◌<◌}
 use mathlib.Core.Bool.{true, false, ◌&&◌}
 use mathlib.Core.List.{List, [], ◌∷◌}
 use mathlib.Core.Path.{◌≡◌, refl, sym, ap, ◌∙◌}
-use borrow.Author.Rules.{rules}
 use native.Mathlib.Numerals.{add-one}
 use native.Mathlib.Omega.{arith}
 use lib.Dec.{ltb, eqb}
@@ -32,15 +31,15 @@ over : (before : ℕ) → rest before [] ≡ ltb before 0x80
 unfolding rest unpadded last_of
 over before = refl
 
-pub loop-i-init : goal.loop-i-init
-loop-i-init c = (search rules, whole _ c.requires)
+pub loop-octet-init : goal.loop-octet-init
+loop-octet-init c = whole _ c.requires
 
 pub returns-then-before-octet : goal.returns-then-before-octet
-returns-then-before-octet c = sym (padded _ _ _ c.loop-i-test.true c.if-before-octet.true) ∙ c.loop-i.invariant.1
+returns-then-before-octet c = sym (padded _ _ _ c.loop-octet-test.true c.if-before-octet.true) ∙ c.loop-octet.invariant
 
-pub loop-i-preserved : goal.loop-i-preserved
-loop-i-preserved c = (search rules, sym (next _ _ _ c.loop-i-test.true c.if-before-octet.false) ∙ c.loop-i.invariant.1)
+pub loop-octet-preserved : goal.loop-octet-preserved
+loop-octet-preserved c = sym (next _ _ _ c.loop-octet-test.true c.if-before-octet.false) ∙ c.loop-octet.invariant
 
 pub returns : goal.returns
 returns c =
-    sym (over _) ∙ sym (ap (rest _) (drop_of_length-le _ c.loop-i-test.false)) ∙ c.loop-i.invariant.1
+    sym (over _) ∙ sym (ap (rest _) (drop_of_length-le _ c.loop-octet-test.false)) ∙ c.loop-octet.invariant

@@ -1,11 +1,11 @@
 -- `der::content::are_subidentifiers` meets its contract: the rule for the octets that are left, given the octet before them, answers as that for
--- the whole content. The measure is how many are left. Assumes nothing.
-use Prim.Native.Nat.{ℕ, ◌-◌, ◌≤◌}
+-- the whole content. Assumes nothing.
+use Prim.Native.Nat.{ℕ}
 use mathlib.Core.Bool.{Bool, ◌&&◌}
 use mathlib.Core.List.{List}
 use mathlib.Core.Path.{◌≡◌}
 use lib.Dec.{ltb}
-use lib.ListN.{length, drop}
+use lib.ListN.{drop}
 use Rattle.der.specs.meaning.Content.{last_of, unpadded, object_identifier}
 use Rattle.der.proofs.content.are_subidentifiers.Given as goal
 
@@ -13,8 +13,5 @@ use Rattle.der.proofs.content.are_subidentifiers.Given as goal
 unfoldable pub rest : ℕ → List ℕ → Bool
 rest before bs = unpadded before bs && ltb (last_of before bs) 0x80
 
-abbrev pub invariant-loop-i : goal.invariant-loop-i
-invariant-loop-i l = (l.i ≤ length l.content) × (rest l.before (drop l.i l.content) ≡ object_identifier l.content)
-
-abbrev pub decreases-loop-i : goal.decreases-loop-i
-decreases-loop-i l = length l.content - l.i
+abbrev pub invariant-loop-octet : goal.invariant-loop-octet
+invariant-loop-octet l = rest l.before (drop l.octet-index l.content) ≡ object_identifier l.content

@@ -29,18 +29,15 @@ long (u ∷ []) o h = absurd (omega arith)
 long (u ∷ b ∷ bs) o h =
     rw (last 0 (u ∷ b ∷ bs) (omega arith)) (after_test (leb u 7) _ _ (λ t. divides u _ (omega (arith, leb-true u 7 t)) (o (length (u ∷ b ∷ bs) - 1))))
 
-pub returns-then-count-eq0 : goal.returns-then-count-eq0
+pub returns-in-empty : goal.returns-in-empty
 unfolding bit_string
-returns-then-count-eq0 c = sym (ap bit_string (none c.args.content.now c.if-count-eq0.true))
+returns-in-empty c = sym (ap bit_string (none c.args.content.now (omega (arith, c.in-empty.len_below))))
 
-pub returns-then-count-eq1 : goal.returns-then-count-eq1
+pub returns-in-len1 : goal.returns-in-len1
 unfolding bit_string
-returns-then-count-eq1 c = sym (ap bit_string (one c.args.content.now c.if-count-eq1.true))
+returns-in-len1 c = sym (ap bit_string (one c.args.content.now (omega (arith, c.in-len1.len_at_least, c.in-len1.len_below))))
 
-pub overflow_cast-result : goal.overflow_cast-result
-overflow_cast-result c = omega (arith, c.type_inv.content 0)
-
-pub returns : goal.returns
-returns c =
+pub returns-in-len2-up : goal.returns-in-len2-up
+returns-in-len2-up c =
     let content = c.args.content.now in
-    long content (octets_each content (λ i. (c.type_inv.content i).fits)) (omega arith)
+    long content (octets_each content (λ i. (c.type_inv.content i).fits)) (omega (arith, c.in-len2-up.len_at_least))

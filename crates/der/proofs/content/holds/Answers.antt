@@ -1,6 +1,6 @@
 -- `der::content::holds` meets its contract: each arm's identifier picks its case of the definition. Assumes nothing.
 use borrow.Author.Tests.{ne_eqb}
-use mathlib.Core.Path.{◌≡◌, refl}
+use mathlib.Core.Path.{◌≡◌, refl, ◌∙◌}
 use mathlib.Core.List.{List, [], ◌∷◌}
 use mathlib.Core.Logic.{inl, inr, ⊎_elim}
 use Prim.Native.Nat.{ℕ}
@@ -30,7 +30,7 @@ returns-in-3 c = rw c.in-3.is c.bit_string.ensures
 
 pub returns-in-5 : goal.returns-in-5
 unfolding holds
-returns-in-5 c = rw c.in-5.is (is_null c.args.content.now)
+returns-in-5 c = rw c.in-5.is (c.is_empty.ensures ∙ is_null c.args.content.now)
 
 pub returns-in-6 : goal.returns-in-6
 unfolding holds

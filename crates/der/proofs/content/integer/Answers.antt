@@ -16,9 +16,9 @@ short [] h = refl
 short (x ∷ []) h = refl
 short (x ∷ y ∷ xs) h = absurd (omega arith)
 
-pub returns-then-content-lt2 : goal.returns-then-content-lt2
-returns-then-content-lt2 c = short _ c.if-content-lt2.true
+pub returns-in_default : goal.returns-in_default
+returns-in_default c = short _ (omega (arith, c.in_default.len_below))
 
 pub returns : goal.returns
 unfolding integer
-returns c = sym (ap integer (two c.args.content.now c.if-content-lt2.false))
+returns c = sym (ap integer (two c.args.content.now (omega (arith, c.in-len2-up.len_at_least))))

@@ -1,17 +1,27 @@
 -- `der::content::object_identifier` meets its contract: without an octet 80 the last octet decides. Assumes nothing.
-use mathlib.Core.Path.{sym, ap}
+use Rattle.std.proofs.Common.{nat_eq}
+use Prim.Native.Nat.{◌-◌}
+use Rattle.std.proofs.lemmas.List.{get_or_default}
+use Rattle.std.proofs.lemmas.List.Folds.{list_any_at}
+use borrow.Author.Tests.{ltb-true}
+use lib.ListN.{length}
+use mathlib.Core.Bool.{false≢true}
+use mathlib.Core.Path.{sym, ap, ◌∙◌}
 use native.Mathlib.Omega.{arith}
 use Rattle.der.specs.meaning.Content.{object_identifier}
 use Rattle.der.proofs.theorems.content.ContentRules.{identifier_without_80}
 use Rattle.der.proofs.theorems.lists.Ends.{none}
 use Rattle.der.proofs.content.object_identifier.Goals as goal
-use Rattle.der.proofs.content.object_identifier.Goals.{After-lacks_80}
 
-pub returns-then-content-eq0 : goal.returns-then-content-eq0
+pub returns-in_default : goal.returns-in_default
 unfolding object_identifier
-returns-then-content-eq0 c = sym (ap object_identifier (none c.args.content.now c.if-content-eq0.true))
+returns-in_default c = sym (ap object_identifier (none c.args.content.now (omega (arith, c.in_default.ensures {u = tt}))))
 
-pub returns-then-lacks_80 : goal.returns-then-lacks_80
-returns-then-lacks_80 c =
-    let p = (goal.at.returns-then-lacks_80 c).After-lacks_80 in
-    identifier_without_80 p.args.content.now (omega arith) (p.lacks_80.ensures c.if-lacks_80.true)
+pub returns-then-not-contains : goal.returns-then-not-contains
+returns-then-not-contains c =
+    let content = c.args.content.now in
+    let item = (c.in-Some.ensures {u = tt}).item in
+    let some = ltb-true 0 (length content) (sym item.0) in
+    rw (item.1 ∙ get_or_default content (length content - 1) c.in-Some.last.now 0 (omega arith))
+    (identifier_without_80 content some
+    (λ i inside e. false≢true (sym c.if-not-contains.true ∙ c.contains.ensures.value ∙ list_any_at (λ y. nat_eq y 0x80) content i 0 inside (ap (λ y. nat_eq y 0x80) e))))

@@ -9,4 +9,4 @@ returns-then-kept c = let a = c.args in sym (rule_kept a.place a.end a.id c.if-k
 
 pub returns : goal.returns
 unfolding tag_number
-returns c = let a = c.args in c.fault.ensures ∙ sym (rule_broken a.place a.end a.id c.if-kept.false)
+returns c = let a = c.args in c.new.ensures ∙ sym (rule_broken a.place a.end a.id c.if-kept.false)

@@ -14,7 +14,7 @@ returns-then-bytes-gt-LONGEST c =
     let start = (goal.at.returns-then-bytes-gt-LONGEST c).Start in
     let a = start.args in
     walk_explained a.bytes.now (octets_each a.bytes.now (λ i. (c.type_inv.bytes i).fits)) a.at a.end _
-    (c.fault.ensures ∙ sym (walk_long a.bytes.now a.at a.end c.if-bytes-gt-LONGEST.true))
+    (c.new.ensures ∙ sym (walk_long a.bytes.now a.at a.end c.if-bytes-gt-LONGEST.true))
 
 pub element-requires : goal.element-requires
 element-requires c =

@@ -1,7 +1,7 @@
 -- `der::recognise::is_list` and `der::recognise::is_element` meet their contracts, by one induction. The measure is twice the count of the octets, and
--- one more for an element: each call of the one by the other lowers it. The list's loop keeps this invariant: the answer from `at` on is the
--- whole list's. Assumes nothing.
-use Prim.Native.Nat.{◌+◌, ◌-◌, ◌*◌, ◌≤◌}
+-- one more for an element: each call of the one by the other lowers it. The list's loop keeps this invariant: the rest, after the element before
+-- it, decides as the whole list does. Assumes nothing.
+use Prim.Native.Nat.{◌+◌, ◌*◌, ◌≤◌}
 use mathlib.Core.Path.{◌≡◌}
 use mathlib.Core.Bool.{not, ◌&&◌, ◌||◌}
 use lib.ListN.{length}
@@ -16,10 +16,11 @@ decreases-is_list l = 2 * length l.bytes.now
 abbrev pub decreases-is_element : goal.decreases-is_element
 decreases-is_element l = 2 * length l.content.now + 1
 
--- the answer from `at` on is the whole list's
-abbrev pub invariant-is_list-loop-at : goal.invariant-is_list-loop-at
-invariant-is_list-loop-at l =
-    (l.before ≤ l.at) × (l.at ≤ length l.bytes) × (Rest l.left l.in_set l.bytes l.before l.at ≡ (is_list l.left l.bytes && (not l.in_set || ascends l.bytes)))
+-- the rest decides as the whole list does
+abbrev pub invariant-is_list-loop-before : goal.invariant-is_list-loop-before
+invariant-is_list-loop-before l =
+    (length l.rest ≤ length l.bytes)
+    × (Rest (length l.bytes) l.left l.in_set l.before l.rest ≡ (is_list l.left l.bytes && (not l.in_set || ascends l.bytes)))
 
-abbrev pub decreases-is_list-loop-at : goal.decreases-is_list-loop-at
-decreases-is_list-loop-at l = length l.bytes - l.at
+abbrev pub decreases-is_list-loop-before : goal.decreases-is_list-loop-before
+decreases-is_list-loop-before l = length l.rest

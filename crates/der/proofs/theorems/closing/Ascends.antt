@@ -10,7 +10,7 @@ use native.Mathlib.Omega.{arith}
 use lib.Dec.{eqb}
 use lib.ListN.{length, take, drop, get_or, length-drop}
 use borrow.Author.Tests.{eqb-true, eqb-false, eq-eqb, ne_eqb, not-true}
-use Rattle.der.specs.declared.element.header.Head.TheVariants.{Stands}
+use Rattle.der.specs.steps.Head.{Stands}
 use Rattle.der.specs.meaning.Bounds.{longest}
 use Rattle.der.specs.meaning.Identifier.{allowed}
 use Rattle.der.specs.meaning.Fault.{Headed, Members}

@@ -5,7 +5,7 @@ use mathlib.Core.List.{List, ◌∷◌, ◌++◌}
 use native.Mathlib.Omega.{arith}
 use lib.ListN.{length, take, drop, length-append}
 use lib.Seq.{take_at, drop_at}
-use Rattle.der.specs.declared.element.header.Head.TheVariants.{Stands}
+use Rattle.der.specs.steps.Head.{Stands}
 use Rattle.der.specs.meaning.Bounds.{longest}
 use Rattle.der.specs.meaning.Fault.{Headed, Members}
 use Rattle.der.specs.meaning.Tree.{Tree, none, element, header, encode, members, WellFormed}

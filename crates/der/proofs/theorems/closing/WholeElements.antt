@@ -10,7 +10,7 @@ use lib.Dec.{eqb, leb}
 use lib.ListN.{length, take, get_or, get_or-eq_default}
 use lib.Seq.{take_all, take-take, length-take-le, get_or-take, ext_get_or}
 use borrow.Author.Tests.{eqb-true, eq-eqb, ne_eqb, lt-ltb, ltb-true, leb-true, leb-false}
-use Rattle.der.specs.declared.element.header.Head.TheVariants.{Stands}
+use Rattle.der.specs.steps.Head.{Stands}
 use Rattle.der.specs.meaning.Fault.{Headed}
 use Rattle.der.specs.meaning.Order.{Precedes}
 use Rattle.der.specs.steps.Order.{descends}

@@ -11,7 +11,8 @@ use lib.Dec.{eqb}
 use lib.ListN.{length, get_or, take, drop, take-append-drop}
 use lib.Ieee.Bits.{is_true}
 use lib.Seq.{take-suc, take_all}
-use Rattle.der.specs.declared.content.utf8.OctetStep.{OctetStep}
+use Rattle.std.specs.Prelude.{Option}
+use Rattle.der.specs.declared.content.utf8.Tails.{Tails}
 use Rattle.der.specs.meaning.Eights.{MayBegin}
 use Rattle.der.specs.steps.Utf8Classes.{class_of, utf8_from, utf8, Classes, after_step}
 use Rattle.der.proofs.theorems.content.Productions.{over_characters, utf8_exact}
@@ -46,7 +47,7 @@ module _ {text : List ℕ} {place : ℕ} where
     checked_end h = ends ∙ ap utf8 (take_all place text h)
 
     -- the octet at the place, its class looked up in a table, and the step that it makes
-    pub turned : (table : List ℕ) (r : OctetStep) → Classes table → place < length text → get_or text place 0 < 256
+    pub turned : (table : List ℕ) (r : Option Tails) → Classes table → place < length text → get_or text place 0 < 256
         → ((b : ℕ) (bs : List ℕ) → class_of b ≡ get_or table (get_or text place 0) 0 → after_step r bs ≡ utf8_from left low high (b ∷ bs))
         → (rest : List ℕ) → after_step r rest ≡ utf8 (take (place + 1) text ++ rest)
     turned table r t h o f rest =

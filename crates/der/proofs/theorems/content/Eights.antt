@@ -1,16 +1,20 @@
 -- Document 02's A2: stepping over eight octets below 80 steps over eight characters, so it changes no answer. An octet below 80 is a
 -- character by itself, and characters one after another are UTF-8. Assumes nothing.
 use Prim.Native.Nat.{ℕ, zero, suc, ◌+◌, ◌-◌, ◌≤◌, ◌<◌, zero-le}
-use mathlib.Core.Bool.{Bool, true, false}
+use Rattle.std.specs.Prelude.{Some, None, cond}
+use Rattle.std.specs.List.{position, position_or_len}
+use Rattle.std.proofs.lemmas.List.Quantifiers.{position-Some}
+use Rattle.std.proofs.lemmas.List.Sums.{prefix_len_passes}
+use mathlib.Core.Bool.{Bool, true, false, not}
 use mathlib.Core.List.{List, [], ◌∷◌, ◌++◌, append_assoc}
 use mathlib.Core.Logic.{◌↔◌}
 use mathlib.Core.Path.{◌≡◌, refl, sym, ap, ◌∙◌}
 use native.Mathlib.Nat.{add-zero, zero-add}
 use native.Mathlib.Numerals.{add-one}
 use native.Mathlib.Omega.{arith}
-use borrow.Author.Tests.{ltb-true, ltb-false}
-use lib.Dec.{ltb}
-use lib.ListN.{length, get_or, drop, take-append-drop}
+use borrow.Author.Tests.{ltb-true, ltb-false, leb-true, leb-false, not-true}
+use lib.Dec.{ltb, leb}
+use lib.ListN.{length, get_or, drop, length-drop, take-append-drop}
 use lib.Seq.{take-suc, get_or-drop}
 use Rattle.der.specs.meaning.Utf8.{Character, utf8_1, Utf8, none, char}
 use Rattle.der.specs.meaning.Eights.{Ascii, NextEightAscii, MayBegin, StepsOver, eight, one, AsciiFirst}
@@ -110,3 +114,43 @@ module _ (text : List ℕ) where
       go true t e d = absurd (first_once f g (ltb-true m n e))
       go false true e d = absurd (first_once g f (ltb-true n m d))
       go false false e d = omega (arith, ltb-false m n e, ltb-false n m d)
+
+-- ASCII before the place, and a search for the first octet from there on that is 80 or above.
+module _ (text : List ℕ) (place : ℕ) (within : place ≤ length text) (a : (k : ℕ) → k < place → Ascii (get_or text k 0)) where
+  -- ASCII further on
+  ascii_on : (n : ℕ) → ((k : ℕ) → k < n → leb 0x80 (get_or (drop place text) k 0) ≡ false) → (k : ℕ) → k < place + n → Ascii (get_or text k 0)
+  ascii_on n below k h = go (ltb k place) refl
+    where
+      go : (t : Bool) → ltb k place ≡ t → Ascii (get_or text k 0)
+      go true e = a k (ltb-true k place e)
+      go false e =
+          let g = ltb-false k place e in
+          let here : place + (k - place) ≡ k = omega arith in
+          rw here at (rw (get_or-drop place text (k - place) 0) at (leb-false 0x80 _ (below (k - place) (omega arith))))
+
+  -- one is found
+  pub ascii_found : (n : ℕ) → position (λ b. leb 0x80 b) (drop place text) ≡ Some n → AsciiFirst text (place + n)
+  ascii_found n found =
+      let first = position-Some (λ b. leb 0x80 b) (drop place text) n 0 found in
+      let size = length-drop place text in
+      record {
+        within = omega (arith, first.0);
+        ascii = ascii_on n first.2;
+        ended = λ more low. let high = leb-true 0x80 _ (rw (get_or-drop place text n 0) at first.1) in omega arith;
+      }
+
+  -- none is found
+  pub ascii_whole : position (λ b. leb 0x80 b) (drop place text) ≡ None → AsciiFirst text (length text)
+  ascii_whole lost =
+      let size = length-drop place text in
+      let all = ltb-false _ _ (go (ltb (position_or_len (λ b. leb 0x80 b) (drop place text)) (length (drop place text))) lost) in
+      let end : place + (length text - place) ≡ length text = omega arith in
+      record {
+        within = omega arith;
+        ascii = rw end at (ascii_on (length text - place) (λ k h. not-true _ (prefix_len_passes (λ b. not (leb 0x80 b)) (drop place text) k 0 (omega arith))));
+        ended = λ more low. omega arith;
+      }
+    where
+      go : (t : Bool) → cond t (Some (position_or_len (λ b. leb 0x80 b) (drop place text))) None ≡ None → t ≡ false
+      go true e = let z : ◌≡◌ {A = ℕ} 0 1 = cc in absurd (omega arith)
+      go false e = refl

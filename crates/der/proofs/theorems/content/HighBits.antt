@@ -3,7 +3,7 @@
 use Prim.Native.Nat.{ℕ, zero, suc, ◌+◌, ◌*◌, ◌<◌, suc-le-suc}
 use mathlib.Core.Bool.{beq}
 use mathlib.Core.Logic.{◌↔◌}
-use mathlib.Core.Path.{◌≡◌, refl, sym, ap, ap₂, ◌∙◌}
+use mathlib.Core.Path.{◌≡◌, refl, sym, ap, ◌∙◌}
 use native.Mathlib.Nat.{not-suc-le-zero, le_of_suc-le-suc, zero-lt-suc}
 use native.Mathlib.Omega.{arith}
 use borrow.Author.Tests.{ltb-true, eqb-true, lt-ltb}
@@ -17,21 +17,6 @@ use Rattle.der.proofs.theorems.lists.Range.{each, same}
 abbrev pub high_bits : ℕ → ℕ
 high_bits zero = 0
 high_bits (suc n) = high_bits n * 0x100 + 0x80
-
--- the same octets, the same number
-same_number : (n : ℕ) (f g : ℕ → ℕ) → ((k : ℕ) → f k ≡ g k) → little_endian n f ≡ little_endian n g
-unfolding little_endian
-same_number zero f g e = refl
-same_number (suc n) f g e = ap₂ (λ (m b : ℕ). m * 0x100 + b) (same_number n (λ k. f (suc k)) (λ k. g (suc k)) (λ k. e (suc k))) (e 0)
-
--- four octets and eight, as code joins them
-pub four_octets : (at : ℕ → ℕ) → little_endian 4 at ≡ ((at 3 * 0x100 + at 2) * 0x100 + at 1) * 0x100 + at 0
-unfolding little_endian
-four_octets at = omega arith
-
-pub eight_octets : (at after : ℕ → ℕ) → ((k : ℕ) → after k ≡ at (4 + k)) → little_endian 8 at ≡ little_endian 4 after * 0x100000000 + little_endian 4 at
-unfolding little_endian
-eight_octets at after e = let back = same_number 4 after (λ k. at (4 + k)) e in omega arith
 
 -- of one octet, computed
 test : (b : ℕ) → b < 0x100 → eqb (bit_and b 0x80) 0 ≡ ltb b 0x80

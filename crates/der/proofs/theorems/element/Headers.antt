@@ -10,8 +10,7 @@ use lib.ListN.{length, take, drop, length-append, take-append-drop}
 use lib.Seq.{drop-drop}
 use borrow.Author.Tests.{leb-true, leb-false}
 use Rattle.der.specs.declared.cause.Cause.{Cause}
-use Rattle.der.specs.declared.element.header.Head.{Head}
-use Rattle.der.specs.declared.element.header.Head.TheVariants.{Stands, Broken}
+use Rattle.der.specs.steps.Head.{Head, Stands, Broken}
 use Rattle.der.specs.meaning.Octets.{Octets}
 use Rattle.der.specs.meaning.Bounds.{longest}
 use Rattle.der.specs.steps.Cause.{cause_number, cause_detail}

@@ -5,17 +5,19 @@ use mathlib.Core.Path.{◌≡◌, refl, sym, ap, ◌∙◌}
 use mathlib.Core.Bool.{Bool, true, false, false≢true}
 use mathlib.Core.List.{List, [], ◌∷◌}
 use native.Mathlib.Omega.{arith}
-use lib.Dec.{leb, ltb}
+use lib.Dec.{leb, ltb, eqb}
+use Rattle.std.specs.Prelude.{Option, None, Some}
 use lib.ListN.{length, take, drop, get_or}
 use lib.Seq.{slice, length-take-le}
-use borrow.Author.Tests.{leb-true, leb-false, ltb-true}
+use borrow.Author.Tests.{leb-true, leb-false, ltb-true, eqb-true, eqb-false}
 use Rattle.der.specs.declared.cause.Cause.TheVariants.{WrongIdentifier}
-use Rattle.der.specs.declared.element.header.Head.TheVariants.{Stands, Broken}
+use Rattle.der.specs.steps.Head.{Stands, Broken}
 use Rattle.der.specs.declared.element.reading.Element.{Element}
 use Rattle.der.specs.meaning.Identifier.{allowed, constructed}
 use Rattle.der.specs.meaning.Length.{Length, missing, wrong, octets, value_from, shortest, length_of}
 use Rattle.der.specs.steps.Header.{sized_by, head_of, cause_by, cause_of}
-use Rattle.der.specs.steps.Span.{no_span, span_by, span_of}
+use Rattle.der.specs.declared.element.length.Span.{Span}
+use Rattle.der.specs.steps.Span.{no_span, span_by, span_of, found_span}
 use Rattle.der.specs.meaning.Tree.{none, element}
 use Rattle.der.specs.meaning.Bounds.{longest}
 use Rattle.der.specs.steps.Reading.{tree}
@@ -174,3 +176,38 @@ span_tree p bs short some known =
     let after : drop (x.end - p) bs ≡ drop (h + n) bs = rw stop in
     rw (stop, same) at
     (tree_parts p bs (slice h (h + n) bs) (drop (h + n) bs) x (omega (arith, span_fits bs some)) (read_stands p bs id h n (span_stands bs some known)) content after)
+
+-- What the code answers for a span: without octets there is none.
+answer_none : (x : Span) → found_span x ≡ None → eqb x.octets 0 ≡ true
+answer_none x e = go (eqb x.octets 0) e
+  where
+    go : (b : Bool) → elim b as (λ _. Option Span) [ true ↦ None | false ↦ Some x ] ≡ None → b ≡ true
+    go true e = refl
+    go false e = cc
+
+-- with some it is the span
+answer_some : (x y : Span) → found_span x ≡ Some y → (eqb x.octets 0 ≡ false) × (y ≡ x)
+answer_some x y e = go (eqb x.octets 0) e
+  where
+    go : (b : Bool) → elim b as (λ _. Option Span) [ true ↦ None | false ↦ Some x ] ≡ Some y → (b ≡ false) × (y ≡ x)
+    go true e = let z : ◌≡◌ {A = ℕ} 0 1 = cc in absurd (omega arith)
+    go false e = (refl, cc)
+
+-- The code's answer for octets.
+module _ (bs : List ℕ) {r : Option Span} (found : r ≡ found_span (span_of bs)) where
+  -- it is none if they have no span
+  pub found_none : r ≡ None → (span_of bs).octets ≡ 0
+  found_none e = eqb-true _ 0 (answer_none (span_of bs) (sym found ∙ e))
+
+  module _ {x : Span} (is : r ≡ Some x) where
+    -- it is their span
+    pub found_some : x ≡ span_of bs
+    found_some = (answer_some (span_of bs) x (sym found ∙ is)).1
+
+    -- which has octets before the content
+    pub found_one : (span_of bs).octets ≡ 0 → ⊥
+    found_one = eqb-false _ 0 (answer_some (span_of bs) x (sym found ∙ is)).0
+
+    -- at least two, and it and its content fit
+    pub found_fits : (2 ≤ x.octets) × (x.octets + x.length ≤ length bs)
+    found_fits = rw found_some (span_fits bs found_one)

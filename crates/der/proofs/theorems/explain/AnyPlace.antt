@@ -7,7 +7,7 @@ use mathlib.Core.List.{List, ◌++◌}
 use native.Mathlib.Omega.{arith}
 use lib.ListN.{length, take}
 use lib.Seq.{slice}
-use Rattle.der.specs.declared.explain.Nest.TheVariants.{End, Fault}
+use Rattle.der.specs.steps.Nest.{End, Fault}
 use Rattle.der.specs.meaning.Bounds.{depth, longest}
 use Rattle.der.specs.meaning.Octets.{Octets}
 use Rattle.der.specs.meaning.Fault.{First}

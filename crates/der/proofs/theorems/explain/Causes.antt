@@ -7,7 +7,7 @@ use mathlib.Core.List.{List}
 use native.Mathlib.Omega.{arith}
 use Rattle.der.specs.declared.cause.Cause.{Cause}
 use Rattle.der.specs.declared.cause.Cause.TheVariants.{TooLong, TooDeep, NoIdentifier, WrongIdentifier, NoLength, WrongLength, PastEnd, WrongContent}
-use Rattle.der.specs.declared.element.header.Head.TheVariants.{Broken}
+use Rattle.der.specs.steps.Head.{Broken}
 use Rattle.der.specs.meaning.Identifier.{tag_number}
 use Rattle.der.specs.meaning.Refusal.{too_long_number, truncated, bad_identifier, bad_length, bad_content, too_deep}
 use Rattle.der.specs.meaning.Fault.{Breaks, Named}

@@ -10,8 +10,8 @@ use mathlib.Core.List.{List, [], ◌++◌, append_assoc, append-nil}
 use lib.Dec.{T}
 use lib.ListN.{length, take, drop, length-append, length-drop, take-append-drop}
 use lib.Seq.{take_at, drop_at, length-take-le}
-use Rattle.der.specs.declared.element.header.Head.TheVariants.{Stands}
-use Rattle.der.specs.declared.explain.Nest.TheVariants.{End}
+use Rattle.der.specs.steps.Head.{Stands}
+use Rattle.der.specs.steps.Nest.{End}
 use Rattle.der.specs.meaning.Octets.{Octets}
 use Rattle.der.specs.meaning.Identifier.{allowed, constructed}
 use Rattle.der.specs.steps.Header.{head_of}

@@ -1,25 +1,26 @@
--- The walk as the code takes it: what an inner function may lend on, an element by its header, and a list's loop with a law for each way on
--- from `at`. The octets that are lent on are written as in the code. Assumes nothing.
+-- The walk as the code takes it: what an inner function may lend on, an element by its header, and a list by its first element. The octets that
+-- are lent on are written as in the code. Assumes nothing.
 use Prim.Native.Nat.{ℕ, suc, ◌+◌, ◌-◌, ◌≤◌, ◌<◌}
-use mathlib.Core.Path.{◌≡◌, refl, sym, ap, ap₂, ◌∙◌}
+use mathlib.Core.Path.{◌≡◌, refl, sym, ap, ◌∙◌}
 use mathlib.Core.Bool.{true, false}
 use mathlib.Core.List.{List}
 use native.Mathlib.Nat.{add_assoc}
 use native.Mathlib.Omega.{arith}
-use lib.ListN.{length, take, drop, length-drop}
-use lib.Seq.{drop-drop, drop-length}
+use Rattle.std.specs.Prelude.{Result, Ok, Err}
+use lib.ListN.{length, take, drop}
 use Rattle.der.specs.declared.cause.Cause.{Cause}
-use Rattle.der.specs.declared.element.header.Head.TheVariants.{Stands, Broken}
-use Rattle.der.specs.declared.explain.Nest.{Nest}
-use Rattle.der.specs.declared.explain.Nest.TheVariants.{End, Fault}
+use Rattle.der.specs.steps.Head.{Stands, Broken}
+use Rattle.der.specs.declared.explain.Fault.{Fault as Found}
+use Rattle.der.specs.steps.Nest.{Fault, nest_of}
 use Rattle.der.specs.meaning.Identifier.{constructed}
 use Rattle.der.specs.steps.Header.{head_of}
 use Rattle.der.specs.steps.ContentTest.{holds}
+use Rattle.der.specs.steps.Order.{closes}
 use Rattle.der.specs.steps.Explain.{Lent, fault_at, list_of, by_rule, after_inside, element_of}
 use Rattle.der.proofs.theorems.element.Headers.{head_fits}
-use Rattle.der.proofs.theorems.lists.Parts.{take_from, middle, length_part}
+use Rattle.der.proofs.theorems.lists.Parts.{middle, length_part}
 use Rattle.der.proofs.theorems.explain.Progress.{element_progress, elements_next}
-use Rattle.der.proofs.theorems.explain.Steps.{element_broken, element_inside, element_value, list_empty, list_stop}
+use Rattle.der.proofs.theorems.explain.Steps.{after_end, after_fault, element_broken, element_inside, element_value, list_stop}
 
 -- a part of what was lent has its length, and is lent at its own place
 pub lent_part : {bytes : List ℕ} {place : ℕ} (h e : ℕ) → h ≤ e → e ≤ length bytes → Lent bytes place
@@ -54,37 +55,25 @@ module _ (left p : ℕ) (bs : List ℕ) (some : left ≡ 0 → ⊥) where
     pub way_value : constructed id ≡ false → by_rule (holds id (take (h + n - h) (drop h bs))) p (p + (h + n)) id ≡ element_of left p bs
     way_value plain = rw (middle bs h n, ← add_assoc p h n) (sym (level ∙ element_value (left - 1) p bs stands plain))
 
--- the list from the place `at` on of a list at p
-abbrev pub From : ℕ → ℕ → List ℕ → ℕ → Nest
-From left p bs at = list_of (element_of left) (length bs) (p + at) (drop at bs)
+-- A constructed element, by the code's answer for its inside.
+module _ (p id : ℕ) (c : List ℕ) {r : Result ℕ Found} where
+  -- a fault there is the element's
+  pub way_fault : {f : Found} → r ≡ Err f → nest_of (Err f) ≡ after_inside p id c (nest_of r)
+  way_fault {f} e = rw e (sym (after_fault p id c _ _ _))
 
--- the element at `at` of a list at p
-abbrev ElementAt : ℕ → ℕ → List ℕ → ℕ → Nest
-ElementAt left p bs at = element_of left (p + at) (take (length bs - at) (drop at bs))
+  -- without one the rule at the end decides
+  pub way_end : {q : ℕ} → r ≡ Ok q → by_rule (closes id c) p q id ≡ after_inside p id c (nest_of r)
+  way_end {q} e = rw e (sym (after_end p id c q))
 
-module _ (left p at : ℕ) (bs : List ℕ) (inside : at < length bs) where
-  -- it ends after `at` and within the list
-  pub from_within : (q : ℕ) → ElementAt left p bs at ≡ End q → (p + at < q) × (q ≤ p + length bs)
-  from_within q ends = omega (arith, element_progress left (p + at) q (drop at bs) (rw take_from at ends), length-drop at bs)
+-- The first of a list's elements is at the place p, and ends at q.
+module _ (left n p : ℕ) (bs : List ℕ) (some : 0 < length bs) (enough : length bs ≤ n) {r : Result ℕ Found} (first : nest_of r ≡ element_of left p bs) where
+  -- it ends after its place and within the list, and the octets after it answer
+  pub list_on : {q : ℕ} → r ≡ Ok q → (p < q) × (q ≤ p + length bs) × (list_of (element_of left) n p bs ≡ list_of (element_of left) n q (drop (q - p) bs))
+  list_on {q} e =
+      let ends = sym first ∙ ap nest_of e in
+      let past = element_progress left p q bs ends in
+      (omega arith, past.1, elements_next left n p bs enough q some ends)
 
-  -- it ends at q
-  pub from_next : (q : ℕ) → ElementAt left p bs at ≡ End q → From left p bs at ≡ From left p bs (q - p)
-  from_next q ends =
-      let size = length-drop at bs in
-      let on = from_within q ends in
-      let place : q ≡ p + (q - p) = omega arith in
-      let further : at + (q - (p + at)) ≡ q - p = omega arith in
-      elements_next left (length bs) (p + at) (drop at bs) (omega arith) q (omega arith) (rw take_from at ends)
-      ∙ ap₂ (list_of (element_of left) (length bs)) place (drop-drop (q - (p + at)) at bs ∙ ap (λ (k : ℕ). drop k bs) further)
-
-  -- it has a fault
-  pub from_stop : {m q k : ℕ} → ElementAt left p bs at ≡ Fault m q k → From left p bs at ≡ Fault m q k
-  from_stop faulty =
-      let size = length-drop at bs in
-      list_stop (element_of left) (length bs) (p + at) (drop at bs) (omega arith) (omega arith) (rw take_from at faulty)
-
--- after the last element the list ends
-pub from_done : (left p at : ℕ) (bs : List ℕ) → at ≡ length bs → From left p bs at ≡ End (p + at)
-from_done left p at bs all =
-    ap (list_of (element_of left) (length bs) (p + at)) (ap (λ (k : ℕ). drop k bs) all ∙ drop-length bs)
-    ∙ list_empty (element_of left) (length bs) (p + at)
+  -- its fault is the list's
+  pub list_fault : {f : Found} → r ≡ Err f → nest_of (Err f) ≡ list_of (element_of left) n p bs
+  list_fault e = sym (list_stop (element_of left) n p bs some enough (sym first ∙ ap nest_of e))

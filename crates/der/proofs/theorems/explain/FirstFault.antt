@@ -12,10 +12,8 @@ use lib.ListN.{length, take, drop, get_or, length-append, length-take, length-dr
 use lib.Seq.{drop_at, get_or-append-add, get_or-take, get_or-drop}
 use borrow.Author.Tests.{leb-true, leb-false}
 use Rattle.der.specs.declared.cause.Cause.{Cause}
-use Rattle.der.specs.declared.element.header.Head.{Head}
-use Rattle.der.specs.declared.element.header.Head.TheVariants.{Stands, Broken}
-use Rattle.der.specs.declared.explain.Nest.{Nest}
-use Rattle.der.specs.declared.explain.Nest.TheVariants.{End, Fault}
+use Rattle.der.specs.steps.Head.{Head, Stands, Broken}
+use Rattle.der.specs.steps.Nest.{Nest, End, Fault}
 use Rattle.der.specs.meaning.Octets.{Octets}
 use Rattle.der.specs.meaning.Identifier.{tag_number, constructed}
 use Rattle.der.specs.steps.Header.{sized_by, head_of}

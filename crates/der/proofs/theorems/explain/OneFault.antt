@@ -9,8 +9,7 @@ use native.Mathlib.Omega.{arith}
 use lib.Dec.{leb}
 use lib.ListN.{length}
 use borrow.Author.Tests.{leb-true, leb-false}
-use Rattle.der.specs.declared.explain.Nest.{Nest}
-use Rattle.der.specs.declared.explain.Nest.TheVariants.{End, Fault}
+use Rattle.der.specs.steps.Nest.{Nest, End, Fault}
 use Rattle.der.specs.meaning.Bounds.{depth, longest}
 use Rattle.der.specs.meaning.Octets.{Octets}
 use Rattle.der.specs.meaning.Fault.{First}

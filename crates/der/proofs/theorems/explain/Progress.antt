@@ -7,10 +7,8 @@ use mathlib.Core.Path.{◌≡◌, refl, sym, ◌∙◌}
 use mathlib.Core.Bool.{Bool, true, false}
 use mathlib.Core.List.{List, [], ◌∷◌}
 use lib.ListN.{length, take, drop, length-drop}
-use Rattle.der.specs.declared.element.header.Head.{Head}
-use Rattle.der.specs.declared.element.header.Head.TheVariants.{Stands, Broken}
-use Rattle.der.specs.declared.explain.Nest.{Nest}
-use Rattle.der.specs.declared.explain.Nest.TheVariants.{End, Fault}
+use Rattle.der.specs.steps.Head.{Head, Stands, Broken}
+use Rattle.der.specs.steps.Nest.{Nest, End, Fault}
 use Rattle.der.specs.meaning.Identifier.{constructed}
 use Rattle.der.specs.steps.Header.{head_of}
 use Rattle.der.specs.steps.ContentTest.{holds}

@@ -10,10 +10,8 @@ use lib.Seq.{slice, take-length}
 use borrow.Author.Tests.{le-leb, lt-leb}
 use Rattle.der.specs.declared.cause.Cause.{Cause}
 use Rattle.der.specs.declared.cause.Cause.TheVariants.{WrongIdentifier, PastEnd}
-use Rattle.der.specs.declared.element.header.Head.{Head}
-use Rattle.der.specs.declared.element.header.Head.TheVariants.{Stands, Broken}
-use Rattle.der.specs.declared.explain.Nest.{Nest}
-use Rattle.der.specs.declared.explain.Nest.TheVariants.{End, Fault}
+use Rattle.der.specs.steps.Head.{Head, Stands, Broken}
+use Rattle.der.specs.steps.Nest.{Nest, End, Fault}
 use Rattle.der.specs.meaning.Identifier.{allowed, constructed, tag_number}
 use Rattle.der.specs.meaning.Length.{Length, octets, length_of}
 use Rattle.der.specs.steps.Header.{fitting, sized_by, head_of}

@@ -1,10 +1,13 @@
 -- The ends of a list: a short list and the first two elements of a longer one, by its length; and the last element, by its place.
 -- Assumes nothing.
 use Prim.Native.Nat.{ℕ, ◌-◌, ◌<◌}
-use mathlib.Core.Path.{◌≡◌, refl, ◌∙◌}
+use mathlib.Core.Path.{◌≡◌, refl, sym, ◌∙◌}
 use mathlib.Core.List.{List, [], ◌∷◌}
 use native.Mathlib.Numerals.{sub-one}
 use native.Mathlib.Omega.{arith}
+use mathlib.Core.Bool.{Bool, true, false}
+use lib.Dec.{eqb}
+use borrow.Author.Tests.{eqb-true, eqb-false}
 use lib.ListN.{length, get_or, drop}
 use Rattle.der.specs.meaning.Content.{last_of}
 
@@ -31,3 +34,11 @@ unfolding last_of
 last b [] h = absurd (omega arith)
 last b (c ∷ []) h = refl
 last b (c ∷ d ∷ xs) h = last c (d ∷ xs) (omega arith) ∙ simp sub-one
+
+-- a list that its test doesn't find empty has an element
+pub filled : (xs : List ℕ) {empty : Bool} → empty ≡ eqb (length xs) 0 → empty ≡ false → 0 < length xs
+filled xs is some = let other = eqb-false (length xs) 0 (sym is ∙ some) in omega arith
+
+-- and one that it finds empty has none
+pub empty : (xs : List ℕ) {empty : Bool} → empty ≡ eqb (length xs) 0 → empty ≡ true → xs ≡ []
+empty xs is all = none xs (eqb-true (length xs) 0 (sym is ∙ all))

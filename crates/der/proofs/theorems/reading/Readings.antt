@@ -12,8 +12,7 @@ use lib.ListN.{length, drop, length-append, length-take, length-drop}
 use lib.Seq.{slice, length-slice, drop_at}
 use borrow.Author.Tests.{le-leb, lt-leb}
 use Rattle.der.specs.declared.cause.Cause.{Cause}
-use Rattle.der.specs.declared.element.header.Head.{Head}
-use Rattle.der.specs.declared.element.header.Head.TheVariants.{Stands, Broken}
+use Rattle.der.specs.steps.Head.{Head, Stands, Broken}
 use Rattle.der.specs.declared.element.reading.Element.{Element}
 use Rattle.der.specs.meaning.Identifier.{allowed, constructed}
 use Rattle.der.specs.steps.Header.{head_of}

@@ -1,21 +1,16 @@
 -- `editions::reader::batch` meets its contract: the walk that reads every form passes or breaks. Assumes nothing.
-use mathlib.Core.Path.{sym, ◌∙◌}
-use Rattle.editions.proofs.theorems.OneWalk.{edition, batch_passed, batch_broken}
+use mathlib.Core.Path.{sym, ap, ◌∙◌}
+use Rattle.crmf.specs.steps.explain.Walk.{walked_of}
+use Rattle.editions.proofs.theorems.OneWalk.{batch_passed, batch_broken}
+use Rattle.editions.proofs.theorems.Results.{is_edition}
 use Rattle.editions.proofs.reader.batch.Goals as goal
-use Rattle.editions.proofs.reader.batch.Goals.{Start}
 
-pub returns-in-Passed : goal.returns-in-Passed
-returns-in-Passed c =
-    let start = (goal.at.returns-in-Passed c).Start in
-    let a = start.args in
-    c.passed.ensures
-    ∙ batch_passed (edition a.edition start.requires.0 start.requires.1) a.bytes.now start.requires.2 _
-    (sym c.count.ensures ∙ c.in-Passed.is)
+pub returns-in-Ok : goal.returns-in-Ok
+returns-in-Ok c =
+    let a = c.args in
+    c.passed.ensures ∙ batch_passed (is_edition a.edition) a.bytes.now c.requires _ (sym c.count.ensures ∙ ap walked_of c.in-Ok.is)
 
-pub returns-in-Broken : goal.returns-in-Broken
-returns-in-Broken c =
-    let start = (goal.at.returns-in-Broken c).Start in
-    let a = start.args in
-    c.broken.ensures
-    ∙ batch_broken (edition a.edition start.requires.0 start.requires.1) a.bytes.now start.requires.2 _ _ _
-    (sym c.count.ensures ∙ c.in-Broken.is)
+pub returns-in-Err : goal.returns-in-Err
+returns-in-Err c =
+    let a = c.args in
+    c.broken.ensures ∙ batch_broken (is_edition a.edition) a.bytes.now c.requires _ _ _ (sym c.count.ensures ∙ ap walked_of c.in-Err.is)

@@ -1,16 +1,18 @@
 -- `editions::reader::broken` meets its contract: a form of the opposite edition before the break, or none. Assumes nothing.
-use mathlib.Core.Path.{◌∙◌}
-use Rattle.editions.proofs.theorems.Answers.{broken_before, broken_there}
+use Prim.Native.Nat.{ℕ}
+use mathlib.Core.Path.{ap, ◌∙◌}
+use Rattle.std.specs.Prelude.{Option, unwrap_or}
+use Rattle.der.specs.meaning.Refusal.{not_in_grammar}
+use Rattle.crmf.specs.steps.explain.Tally.{tally_of}
+use Rattle.editions.specs.steps.OneWalk.{first_form}
+use Rattle.editions.specs.steps.Reading.{refusal}
+use Rattle.editions.specs.steps.Results.{edition_number}
+use Rattle.editions.proofs.theorems.Answers.{broken_at}
 use Rattle.editions.proofs.reader.broken.Goals as goal
-
-pub returns-then-foreign-ne0 : goal.returns-then-foreign-ne0
-returns-then-foreign-ne0 c =
-    let f = c.first_form-foreign in
-    let a = c.args in
-    c.refuse.ensures ∙ broken_before a.edition _ _ a.tally f.ensures.0 f.ensures.1 a.place c.if-foreign-ne0.true
 
 pub returns : goal.returns
 returns c =
-    let f = c.first_form-foreign in
     let a = c.args in
-    c.refuse-2.ensures ∙ broken_there a.edition _ _ a.tally f.ensures.0 f.ensures.1 a.place c.if-foreign-ne0.false
+    ap (refusal not_in_grammar)
+    (c.unwrap_or.ensures ∙ ap (λ (o : Option ℕ). unwrap_or o a.place) (c.first_form.ensures ∙ ap (λ (x : ℕ). first_form x (tally_of a.tally)) c.opposite.ensures))
+    ∙ broken_at (edition_number a.edition) a.place (tally_of a.tally)

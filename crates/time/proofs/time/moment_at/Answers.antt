@@ -1,84 +1,111 @@
 -- `time::time::moment_at` meets its contract: the numbers that it reads are the definition's, and so are its tests. Assumes nothing.
-use Prim.Native.Nat.{◌+◌, ◌≤◌}
-use mathlib.Core.Bool.{true, false, ◌&&◌}
-use mathlib.Core.Path.{◌≡◌, sym, ap, ◌∙◌}
-use lib.Dec.{leb, eqb}
+use Prim.Native.Nat.{◌+◌}
+use mathlib.Core.Bool.{true, false}
+use mathlib.Core.Option.{some, bind}
+use mathlib.Core.Path.{◌≡◌, ◌∙◌}
+use lib.Dec.{eqb}
 use lib.ListN.{get_or}
-use Rattle.time.specs.meaning.Calendar.{days_before, seconds}
+use Rattle.time.specs.meaning.Calendar.{days_in, days_before, seconds, moment}
 use Rattle.time.specs.meaning.Time.{pair_at, date_at}
-use Rattle.time.specs.steps.Moments.{as_moment}
-use Rattle.time.proofs.theorems.Dates.{tests, date_bounds, moment_tested}
+use Rattle.time.specs.steps.Moments.{as_option}
+use Rattle.time.proofs.theorems.Dates.{moment_of, date_bounds, no_month, parts_tested}
+use Rattle.time.proofs.theorems.Telling.{told_some, told_none}
 use Rattle.time.proofs.time.moment_at.Goals as goal
-use Rattle.time.proofs.time.moment_at.Goals.{After-days_in, Then-is_day-hour}
+use Rattle.time.proofs.time.moment_at.Goals.{In_ok-month, In_ok-day, In_ok-hour, In_ok-minute, In_ok-second, In_ok-is_day}
 
--- the tests are the definition's
-tested : (c : After-days_in) →
-    let a = c.args in
-    let s = a.content.now in
-    (leb 1 c.pair_at-day.result && leb c.pair_at-day.result c.days_in.result
-    && leb c.pair_at-hour.result 23
-    && leb c.pair_at-minute.result 59
-    && leb c.pair_at-second.result 59
-    && eqb (get_or s (a.i + 10) 0) 0x5A)
-    ≡ tests a.year (pair_at s a.i) (pair_at s (a.i + 2)) (pair_at s (a.i + 4)) (pair_at s (a.i + 6)) (pair_at s (a.i + 8)) (eqb (get_or s (a.i + 10) 0) 0x5A)
-tested c =
-    rw (
-      c.days_in.ensures,
-      c.pair_at-second.ensures,
-      c.pair_at-minute.ensures,
-      c.pair_at-hour.ensures,
-      c.pair_at-day.ensures,
-      c.pair_at-month.ensures,
+-- the parts are there
+month : (c : In_ok-month) → pair_at c.args.content.now c.args.i ≡ some c.in_ok-month.month
+month c = told_some _ _ _ c.pair_at.ensures c.in_ok-month.was
+
+pub returns-in_err-month : goal.returns-in_err-month
+unfolding as_option date_at bind
+returns-in_err-month c = c.from_residual.ensures ∙ rw (date_at, told_none _ _ c.pair_at.ensures c.in_err-month.was)
+
+day : (c : In_ok-day) → pair_at c.args.content.now (c.args.i + 2) ≡ some c.in_ok-day.day
+day c = told_some _ _ _ c.pair_at-2.ensures c.in_ok-day.was
+
+hour : (c : In_ok-hour) → pair_at c.args.content.now (c.args.i + 4) ≡ some c.in_ok-hour.hour
+hour c = told_some _ _ _ c.pair_at-3.ensures c.in_ok-hour.was
+
+minute : (c : In_ok-minute) → pair_at c.args.content.now (c.args.i + 6) ≡ some c.in_ok-minute.minute
+minute c = told_some _ _ _ c.pair_at-4.ensures c.in_ok-minute.was
+
+second : (c : In_ok-second) → pair_at c.args.content.now (c.args.i + 8) ≡ some c.in_ok-second.second
+second c = told_some _ _ _ c.pair_at-5.ensures c.in_ok-second.was
+
+pub returns-in_err-day : goal.returns-in_err-day
+unfolding as_option date_at bind
+returns-in_err-day c =
+    let at = goal.at.returns-in_err-day c in
+    c.from_residual-in_err-day.ensures ∙ rw (date_at, month at.In_ok-month, told_none _ _ c.pair_at-2.ensures c.in_err-day.was)
+
+pub returns-in_err-hour : goal.returns-in_err-hour
+unfolding as_option date_at bind
+returns-in_err-hour c =
+    let at = goal.at.returns-in_err-hour c in
+    c.from_residual-in_err-hour.ensures ∙ rw (date_at, month at.In_ok-month, day at.In_ok-day, told_none _ _ c.pair_at-3.ensures c.in_err-hour.was)
+
+pub returns-in_err-minute : goal.returns-in_err-minute
+unfolding as_option date_at bind
+returns-in_err-minute c =
+    let at = goal.at.returns-in_err-minute c in
+    c.from_residual-in_err-minute.ensures
+    ∙ rw (date_at, month at.In_ok-month, day at.In_ok-day, hour at.In_ok-hour, told_none _ _ c.pair_at-4.ensures c.in_err-minute.was)
+
+pub returns-in_err-second : goal.returns-in_err-second
+unfolding as_option date_at bind
+returns-in_err-second c =
+    let at = goal.at.returns-in_err-second c in
+    c.from_residual-in_err-second.ensures
+    ∙ rw (
+      date_at,
+      month at.In_ok-month,
+      day at.In_ok-day,
+      hour at.In_ok-hour,
+      minute at.In_ok-minute,
+      told_none _ _ c.pair_at-5.ensures c.in_err-second.was,
     )
 
-bounds : (c : Then-is_day-hour) →
-    let d = (goal.at.Then-is_day-hour c).After-days_in in
-    ((d.pair_at-month.result ≤ 12)
-    × (1 ≤ d.pair_at-day.result)
-    × (d.pair_at-day.result ≤ 31))
-    × (d.pair_at-hour.result ≤ 23)
-    × (d.pair_at-minute.result ≤ 59)
-    × (d.pair_at-second.result ≤ 59)
-bounds c =
-    let d = (goal.at.Then-is_day-hour c).After-days_in in
-    let a = d.args in
-    date_bounds a.year _ _ _ _ _ _ (rw d.days_in.ensures at c.if-is_day-hour.true)
+-- the parts make the date, if Z comes after them
+made : (c : In_ok-second) →
+    let a = c.args in
+    let s = a.content.now in
+    bind (date_at a.year s a.i) moment
+    ≡ moment_of a.year c.in_ok-month.month c.in_ok-day.day c.in_ok-hour.hour c.in_ok-minute.minute c.in_ok-second.second (eqb (get_or s (a.i + 10) 0) 0x5A)
+unfolding date_at bind
+made c =
+    let at = goal.at.In_ok-second c in
+    rw (date_at, month at.In_ok-month, day at.In_ok-day, hour at.In_ok-hour, minute at.In_ok-minute, second c)
+
+pub returns-in_err-is_day : goal.returns-in_err-is_day
+unfolding as_option
+returns-in_err-is_day c =
+    let s = (goal.at.returns-in_err-is_day c).In_ok-second in
+    c.from_residual-in_err-is_day.ensures
+    ∙ rw (made s, no_month c.args.year _ _ _ _ _ _ (told_none _ _ c.days_in.ensures c.in_err-is_day.was))
+
+-- the month has its days
+days : (c : In_ok-is_day) → days_in c.args.year c.in_ok-month.month ≡ some c.in_ok-is_day.field-0
+days c = told_some _ _ _ c.days_in.ensures c.in_ok-is_day.was
 
 pub days_before-days-requires : goal.days_before-days-requires
 days_before-days-requires c =
-    let b = (bounds c).0 in
+    let b = (date_bounds c.args.year _ _ _ _ _ _ _ (days (goal.at.days_before-days-requires c).In_ok-is_day) c.if-is_day-hour.true).0 in
     (c.requires.0, b.0, b.1, b.2)
 
-pub seconds-requires : goal.seconds-requires
-seconds-requires c =
-    let b = bounds (goal.at.seconds-requires c).Then-is_day-hour in
-    (c.days_before-days.ensures.1, b.1, b.2, b.3)
-
 pub returns-then-is_day-hour : goal.returns-then-is_day-hour
-unfolding as_moment date_at seconds days_before
+unfolding as_option seconds days_before
 returns-then-is_day-hour c =
-    let d = (goal.at.returns-then-is_day-hour c).After-days_in in
-    let a = d.args in
-    let s = a.content.now in
-    let i = a.i in
-    sym (ap as_moment (moment_tested a.year (pair_at s i) (pair_at s (i + 2)) (pair_at s (i + 4)) (pair_at s (i + 6)) (pair_at s (i + 8)) (eqb (get_or s (i + 10) 0) 0x5A) true
-    (sym (tested d) ∙ c.if-is_day-hour.true))
-    ∙ rw (
+    let at = goal.at.returns-then-is_day-hour c in
+    rw (
+      made at.In_ok-second,
+      parts_tested c.args.year _ _ _ _ _ _ _ true (days at.In_ok-is_day) c.if-is_day-hour.true,
       c.seconds.ensures,
       c.days_before-days.ensures.0,
-      d.pair_at-second.ensures,
-      d.pair_at-minute.ensures,
-      d.pair_at-hour.ensures,
-      d.pair_at-day.ensures,
-      d.pair_at-month.ensures,
-    ))
+    )
 
 pub returns : goal.returns
-unfolding as_moment date_at
+unfolding as_option
 returns c =
-    let d = (goal.at.returns c).After-days_in in
-    let a = d.args in
-    let s = a.content.now in
-    let i = a.i in
-    sym (ap as_moment (moment_tested a.year (pair_at s i) (pair_at s (i + 2)) (pair_at s (i + 4)) (pair_at s (i + 6)) (pair_at s (i + 8)) (eqb (get_or s (i + 10) 0) 0x5A) false
-    (sym (tested d) ∙ c.if-is_day-hour.false)))
+    let at = goal.at.returns c in
+    rw (made at.In_ok-second, parts_tested c.args.year _ _ _ _ _ _ _ false (days at.In_ok-is_day) c.if-is_day-hour.false)

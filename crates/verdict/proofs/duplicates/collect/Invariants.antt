@@ -6,7 +6,7 @@ use Rattle.verdict.proofs.theorems.duplicates.Collecting.{Walk}
 use Rattle.verdict.proofs.duplicates.collect.Given as goal
 
 abbrev pub invariant-loop-at : goal.invariant-loop-at
-invariant-loop-at l = (length l.slots ≡ length l.initial.slots) × Walk l.bytes l.slots l.at l.count
+invariant-loop-at l = (length l.room ≡ length l.initial.room) × Walk l.bytes l.room l.at l.count
 
 abbrev pub decreases-loop-at : goal.decreases-loop-at
 decreases-loop-at l = length l.bytes - l.at

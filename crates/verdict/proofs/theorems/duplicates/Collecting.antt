@@ -1,11 +1,15 @@
 -- The walk over an accepted batch's messages from place to place. Each step reads a message, whose certReqId has 1 to 8 content octets; if no
--- slot is left for it, there are more messages than slots. There are never more than the largest size has. Assumes nothing.
+-- room is left for it, there are more messages than there is room for. There are never more than the most that there is. Assumes nothing.
 use Prim.Native.Nat.{ℕ, ◌+◌, ◌-◌, ◌≤◌, ◌<◌}
 use native.Mathlib.Numerals.{add-one}
 use native.Mathlib.Omega.{arith}
 use mathlib.Core.Path.{◌≡◌, refl, sym, ap, ◌∙◌}
 use mathlib.Core.Bool.{Bool, true}
 use mathlib.Core.List.{List, [], ◌∷◌, ◌++◌, map, append-nil, append_assoc, Memᴰ}
+use Rattle.std.specs.Prelude.{Option, Some, None}
+use Rattle.std.specs.Option.{IsSome}
+use borrow.Author.Rules.{rules}
+use Rattle.std.proofs.lemmas.List.{map-append}
 use lib.IntN.{ℤ}
 use lib.ListN.{length, length-map, length-append, length-set, take, set}
 use lib.Seq.{slice, length-slice, length-take-le, take-suc-set}
@@ -24,9 +28,11 @@ use Rattle.crmf.specs.meaning.Messages.{Message, message_of, messages}
 use Rattle.crmf.proofs.Laws.{MessageParts, batch_content, message_parts, field_read, fields_end, fields_at, id_read, batch_read, ids_some, ids_eight, messages_few}
 use Rattle.editions.proofs.Laws.{nest_read, accepted_in_lem}
 use Rattle.verdict.specs.meaning.Duplicates.{signed, own_ids}
-use Rattle.verdict.specs.steps.SearchAnswer.{ids}
+use Rattle.verdict.specs.declared.duplicates.Pair.{Pair}
+use Rattle.verdict.specs.declared.duplicates.ReqId.{ReqId}
+use Rattle.verdict.specs.steps.SearchAnswer.{ids, numbers_of}
 use Rattle.verdict.specs.steps.Collecting.{Accepted, Collected, id_in, Short}
-use Rattle.verdict.specs.steps.Sizes.{most_messages}
+use Rattle.verdict.specs.steps.Sizes.{most_messages, Tried}
 
 -- the messages from a place on
 abbrev pub messages_from : List ℕ → ℕ → List Message
@@ -106,57 +112,64 @@ step s p k among some =
       within = omega arith;
     }
 
--- How far the walk is: `count` numbers are collected in the slots, and the messages from a place on are left.
-pub record Walk (s : List ℕ) (slots : List ℤ) (at count : ℕ) : Type 0 where
-  pub counted : count ≤ length slots
-  pub same : take count slots ++ map id_of (messages_from s at) ≡ ids s
+-- How far the walk is: `count` certReqIds are collected in the room, and the messages from a place on are left.
+pub record Walk (s : List ℕ) (room : List ReqId) (at count : ℕ) : Type 0 where
+  pub counted : count ≤ length room
+  pub same : numbers_of (take count room) ++ map id_of (messages_from s at) ≡ ids s
   pub among : Among s at
 
 -- the walk begins
-pub walk_start : (s : List ℕ) (slots : List ℤ) → Known s → Walk s slots (reading_at s 0 (length s)).content 0
+pub walk_start : (s : List ℕ) (room : List ReqId) → Known s → Walk s room (reading_at s 0 (length s)).content 0
 unfolding ids own_ids
-walk_start s slots k =
+walk_start s room k =
     record {
       counted = omega arith;
       same = ap (map id_of) (sym k.start);
       among = λ m at. rw k.start at;
     }
 
-module _ (s : List ℕ) (slots : List ℤ) (at count : ℕ) (w : Walk s slots at count) where
+module _ (s : List ℕ) (room : List ReqId) (at count : ℕ) (w : Walk s room at count) where
   -- the walk ends
-  pub walk_end : length s ≤ at → Collected s slots count
-  walk_end past =
-      let all : take count slots ≡ ids s =
-      sym (append-nil (take count slots)) ∙ ap (λ (ms : List Message). take count slots ++ map id_of ms) (sym (none_from s at past)) ∙ w.same in
-      record { same = λ h. all; more = λ h. absurd (omega (arith, h, w.counted)) }
+  pub walk_end : length s ≤ at → Collected s room (Some count)
+  walk_end past = (
+    w.counted,
+    sym (append-nil (numbers_of (take count room)))
+        ∙ ap (λ (ms : List Message). numbers_of (take count room) ++ map id_of ms) (sym (none_from s at past))
+        ∙ w.same,
+  )
 
   module _ (next : Step s at) where
-    -- no slot is left
-    pub walk_full : count ≡ length slots → Collected s slots (count + 1)
+    -- there is no room left
+    pub walk_full : count ≡ length room → Collected s room None
     walk_full full =
-        let front : length (take count slots) ≡ count = length-take-le count slots w.counted in
-        let all : length (take count slots) + length (map id_of (messages_from s at)) ≡ length (ids s) =
-        sym (length-append (take count slots) (map id_of (messages_from s at))) ∙ ap length w.same in
-        let more : length slots < length (ids s) = omega (arith, length-map (messages_from s at) id_of, ap length next.split) in
-        record { same = λ h. absurd (omega arith); more = λ h. more }
+        let front : length (take count room) ≡ count = length-take-le count room w.counted in
+        let all : length (numbers_of (take count room)) + length (map id_of (messages_from s at)) ≡ length (ids s) =
+        sym (length-append (numbers_of (take count room)) (map id_of (messages_from s at))) ∙ ap length w.same in
+        omega (arith, length-map (take count room) (λ (id : ReqId). id.0), length-map (messages_from s at) id_of, ap length next.split)
 
-    -- the next message's number is collected
-    pub walk_more : count < length slots → (z : ℤ) → z ≡ id_of next.message → Walk s (set slots count z) (reading_at s at (length s)).end (count + 1)
-    walk_more room z is =
+    -- the next message's certReqId is collected
+    pub walk_more : count < length room → (id : ReqId) → id.0 ≡ id_of next.message → Walk s (set room count id) (reading_at s at (length s)).end (count + 1)
+    walk_more within id is =
         let rest = messages_from s (reading_at s at (length s)).end in
-        let front = take count slots in
-        let here : take (count + 1) (set slots count z) ≡ front ++ (z ∷ []) = rw add-one (take-suc-set slots count z room) in
+        let front = take count room in
+        let here : numbers_of (take (count + 1) (set room count id)) ≡ numbers_of front ++ (id.0 ∷ []) =
+        rw (add-one, take-suc-set room count id within) (map-append (λ (y : ReqId). y.0) front (id ∷ [])) in
         record {
-          counted = omega (arith, length-set slots count z);
+          counted = omega (arith, length-set room count id);
           same = ap (λ (l : List ℤ). l ++ map id_of rest) here
-              ∙ append_assoc front (z ∷ []) (map id_of rest)
-              ∙ ap (λ (y : ℤ). front ++ (y ∷ map id_of rest)) is
-              ∙ ap (λ (ms : List Message). front ++ map id_of ms) (sym next.split)
+              ∙ append_assoc (numbers_of front) (id.0 ∷ []) (map id_of rest)
+              ∙ ap (λ (y : ℤ). numbers_of front ++ (y ∷ map id_of rest)) is
+              ∙ ap (λ (ms : List Message). numbers_of front ++ map id_of ms) (sym next.split)
               ∙ w.same;
           among = λ m n. w.among m (rw next.split (mathlib.Core.List.Memᴰ.tail n));
         }
 
--- There are no more messages than the largest size has slots.
+-- There are no more messages than there is room for at last.
 pub accepted_few : (s : List ℕ) → Octets s → Accepted s → length (ids s) ≤ most_messages
 unfolding ids own_ids
 accepted_few s octets a = omega (arith, (accepted_known s octets a).few, length-map (messages (tree 0 s)) id_of)
+
+-- So with room for that many a try always answers.
+pub room_enough : (s : List ℕ) → Octets s → Accepted s → (found : Option (Option Pair)) → Tried most_messages s found → IsSome found
+room_enough s octets a (Some found) tried = search rules
+room_enough s octets a None tried = absurd (omega (arith, tried, accepted_few s octets a))

@@ -7,13 +7,15 @@ use mathlib.Core.Logic.{◌↔◌}
 use mathlib.Core.Path.{◌≡◌, refl, sym, ap, ap₂, ◌∙◌}
 use mathlib.Core.Bool.{Bool, true, false}
 use mathlib.Core.List.{List, [], ◌∷◌}
-use mathlib.Core.Option.{Option, some, none as absent}
+use Rattle.std.specs.Ordering.{int_eq}
+use Rattle.std.specs.Prelude.{Option, Some, None}
+use Rattle.std.proofs.lemmas.Bool.{false≢true}
+use Rattle.std.proofs.lemmas.Bool.Decides.{Decides-int_eq}
 use lib.IntN.{ℤ, pos}
 use lib.ListN.{length, get_or, take}
 use lib.Seq.{length-take-le, get_or-take}
 use Rattle.verdict.specs.meaning.Duplicates.{Equal, FirstEqual}
-use Rattle.verdict.specs.steps.SearchAnswer.{is_same_number, find, pair_from, pair_of}
-use Rattle.verdict.proofs.theorems.duplicates.Numbers.{same_equal, same_differs}
+use Rattle.verdict.specs.steps.SearchAnswer.{find, pair_from, pair_of}
 
 -- the number at a position
 abbrev pub at : List ℤ → ℕ → ℤ
@@ -33,18 +35,18 @@ record FirstAt (k : ℤ) (from : ℕ) (ns : List ℤ) (place : ℕ) : Type 0 whe
 
 -- What an answer says of the numbers.
 abbrev Found : ℤ → ℕ → List ℤ → Option ℕ → Type 0
-Found k from ns absent = Without k (length ns) ns
-Found k from ns (some place) = FirstAt k from ns place
+Found k from ns None = Without k (length ns) ns
+Found k from ns (Some place) = FirstAt k from ns place
 
 -- no position before one more
-without_more : (k n : ℤ) (j : ℕ) (ns : List ℤ) → is_same_number k n ≡ false → Without k j ns → Without k (suc j) (n ∷ ns)
-without_more k n j ns test none zero h e = same_differs k n test (sym e)
+without_more : (k n : ℤ) (j : ℕ) (ns : List ℤ) → int_eq n k ≡ false → Without k j ns → Without k (suc j) (n ∷ ns)
+without_more k n j ns test none zero h e = false≢true (sym test ∙ (Decides-int_eq n k).1 e)
 without_more k n j ns test none (suc i) h e = none i (omega arith) e
 
 -- a number that the first position doesn't have is found after it
-found_after : (k n : ℤ) (from : ℕ) (ns : List ℤ) (o : Option ℕ) → is_same_number k n ≡ false → Found k (suc from) ns o → Found k from (n ∷ ns) o
-found_after k n from ns absent test none = without_more k n (length ns) ns test none
-found_after k n from ns (some place) test f =
+found_after : (k n : ℤ) (from : ℕ) (ns : List ℤ) (o : Option ℕ) → int_eq n k ≡ false → Found k (suc from) ns o → Found k from (n ∷ ns) o
+found_after k n from ns None test none = without_more k n (length ns) ns test none
+found_after k n from ns (Some place) test f =
     record {
       position = suc f.position;
       stands = omega (arith, f.stands);
@@ -57,12 +59,12 @@ found_after k n from ns (some place) test f =
 found : (k : ℤ) (from : ℕ) (ns : List ℤ) → Found k from ns (find k from ns)
 unfolding find
 found k from [] = λ i h e. omega arith
-found k from (n ∷ ns) = by_test (is_same_number k n) refl (found k (suc from) ns)
+found k from (n ∷ ns) = by_test (int_eq n k) refl (found k (suc from) ns)
   where
-    by_test : (b : Bool) → is_same_number k n ≡ b → Found k (suc from) ns (find k (suc from) ns)
-        → Found k from (n ∷ ns) (elim b as (λ x. Option ℕ) [ true ↦ some from | false ↦ find k (suc from) ns ])
+    by_test : (b : Bool) → int_eq n k ≡ b → Found k (suc from) ns (find k (suc from) ns)
+        → Found k from (n ∷ ns) (elim b as (λ x. Option ℕ) [ true ↦ Some from | false ↦ find k (suc from) ns ])
     by_test true test rest =
-        record { position = 0; stands = omega arith; there = omega arith; same = sym (same_equal k n test); before = λ i h e. omega arith }
+        record { position = 0; stands = omega arith; there = omega arith; same = (Decides-int_eq n k).0 test; before = λ i h e. omega arith }
     by_test false test rest = found_after k n from ns (find k (suc from) ns) test rest
 
 -- no pair has its later position before this one
@@ -91,8 +93,8 @@ module _ (ns : List ℤ) (j : ℕ) (there : j < length ns) (none : NoneBefore ns
 
 -- What an answer says of pairs: it is the first, or there is none.
 abbrev pub Told : List ℤ → Option (ℕ × ℕ) → Type 0
-Told ns absent = (i j : ℕ) → Equal ns i j → ⊥
-Told ns (some p) = FirstEqual ns p.0 p.1
+Told ns None = (i j : ℕ) → Equal ns i j → ⊥
+Told ns (Some p) = FirstEqual ns p.0 p.1
 
 -- from a position on
 told_from : (ns : List ℤ) (more j : ℕ) → j + more ≡ length ns → NoneBefore ns j → Told ns (pair_from ns more j)
@@ -108,14 +110,14 @@ told_from ns (suc more) j size none =
     before_here = length-take-le j ns (omega arith)
 
     by_found : (o : Option ℕ) → Found (at ns j) 0 (take j ns) o → (NoneBefore ns (suc j) → Told ns (pair_from ns more (suc j)))
-        → Told ns (elim o as (λ x. Option (ℕ × ℕ)) [ some i ↦ some (i, j) | absent ↦ pair_from ns more (suc j) ])
-    by_found (some i) f further =
+        → Told ns (elim o as (λ x. Option (ℕ × ℕ)) [ Some i ↦ Some (i, j) | None ↦ pair_from ns more (suc j) ])
+    by_found (Some i) f further =
         let here : f.position ≡ i = omega (arith, f.stands) in
         let early : i < j = omega (arith, f.there, before_here) in
         let same : at ns i ≡ at ns j = sym (get_or-take j ns i (pos 0) early) ∙ ap (at (take j ns)) (sym here) ∙ f.same in
         first_equal ns j there none i early same
         (λ x h e. f.before x (omega arith) (get_or-take j ns x (pos 0) (omega arith) ∙ e))
-    by_found absent f further =
+    by_found None f further =
         further (none_here ns j there none (λ i h e. f i (omega (arith, before_here)) (get_or-take j ns i (pos 0) h ∙ e)))
 
 -- What is found is the first pair, and if nothing is found there is none.
@@ -130,19 +132,19 @@ first_alone ns i j x y a b =
     (earlier, later)
 
 -- A pair is found exactly if it is the first.
-pub pair_found : (ns : List ℤ) (i j : ℕ) → (pair_of ns ≡ some (i, j)) ↔ FirstEqual ns i j
+pub pair_found : (ns : List ℤ) (i j : ℕ) → (pair_of ns ≡ Some (i, j)) ↔ FirstEqual ns i j
 pair_found ns i j = (λ e. rw e at (told ns), λ f. back f (pair_of ns) refl (told ns))
   where
-    back : FirstEqual ns i j → (o : Option (ℕ × ℕ)) → pair_of ns ≡ o → Told ns o → pair_of ns ≡ some (i, j)
-    back f absent is none = absurd (none i j f.pair)
-    back f (some p) is g =
+    back : FirstEqual ns i j → (o : Option (ℕ × ℕ)) → pair_of ns ≡ o → Told ns o → pair_of ns ≡ Some (i, j)
+    back f None is none = absurd (none i j f.pair)
+    back f (Some p) is g =
         let same = first_alone ns p.0 p.1 i j g f in
-        is ∙ ap₂ (λ (x y : ℕ). some (x, y)) same.0 same.1
+        is ∙ ap₂ (λ (x y : ℕ). Some (x, y)) same.0 same.1
 
 -- None is found exactly if no two positions have equal numbers.
-pub pair_absent : (ns : List ℤ) → (pair_of ns ≡ absent) ↔ ((i j : ℕ) → Equal ns i j → ⊥)
+pub pair_absent : (ns : List ℤ) → (pair_of ns ≡ None) ↔ ((i j : ℕ) → Equal ns i j → ⊥)
 pair_absent ns = (λ e. rw e at (told ns), λ none. back none (pair_of ns) refl (told ns))
   where
-    back : ((i j : ℕ) → Equal ns i j → ⊥) → (o : Option (ℕ × ℕ)) → pair_of ns ≡ o → Told ns o → pair_of ns ≡ absent
-    back none absent is g = is
-    back none (some p) is g = absurd (none p.0 p.1 g.pair)
+    back : ((i j : ℕ) → Equal ns i j → ⊥) → (o : Option (ℕ × ℕ)) → pair_of ns ≡ o → Told ns o → pair_of ns ≡ None
+    back none None is g = is
+    back none (Some p) is g = absurd (none p.0 p.1 g.pair)

@@ -8,7 +8,10 @@ use mathlib.Core.Path.{◌≡◌, refl, sym, ap, ◌∙◌}
 use mathlib.Core.Bool.{Bool, true, false}
 use mathlib.Core.List.{List, [], ◌∷◌, map, map-append, map-id}
 use lib.Dec.{leb, lit<}
-use lib.IntN.{pos, negsuc, ◌-ℤ◌}
+use Rattle.std.specs.Int.RustNames.{FitsSigned}
+use Rattle.std.proofs.lemmas.Int.{ints}
+use mir.Syntax.{w64}
+use lib.IntN.{ℤ, pos, negsuc, ◌+ℤ◌, ◌*ℤ◌, neg_ℤ}
 use lib.ListN.{length, length-map, length-take, get_or, take}
 use lib.Seq.{take-suc, take_all}
 use borrow.Author.Tests.{leb-true, leb-false, le-ltb, lt-ltb}
@@ -68,21 +71,55 @@ prefix_more c i h = rw (add-one, take-suc c i 0 h, map-append) (sym (value_last 
 pub prefix_all : (c : List ℕ) (i : ℕ) → length c ≤ i → prefix c i ≡ value_from 0 (map (magnitude_octet (negative c)) c)
 prefix_all c i h = ap (λ (l : List ℕ). value_from 0 (map (magnitude_octet (negative c)) l)) (take_all i c h)
 
--- a negative number, by its magnitude
-pub signed_negative : (c : List ℕ) (m : ℕ) → negative c ≡ true → m ≡ value_from 0 (map (magnitude_octet (negative c)) c) → signed c ≡ negsuc m
-unfolding signed
-signed_negative c m n e =
-    let magnitude : m ≡ value_from 0 (map (magnitude_octet true) c) = rw n at e in
-    rw (signed, le-ltb (get_or c 0 0) 0x80 (leb-true 0x80 (get_or c 0 0) n)) (ap negsuc (sym magnitude))
+-- the number of a sign and a magnitude; the complement's magnitude is that of the number one less than nothing
+abbrev pub number : Bool → ℕ → ℤ
+number true m = negsuc m
+number false m = pos m
 
--- a number that is not
-pub signed_positive : (c : List ℕ) (m : ℕ) → negative c ≡ false → m ≡ value_from 0 (map (magnitude_octet (negative c)) c) → signed c ≡ pos m
-unfolding signed
-signed_positive c m n e =
-    let magnitude : m ≡ value_from 0 (map (magnitude_octet false) c) = rw n at e in
-    rw (signed, lt-ltb (get_or c 0 0) 0x80 (leb-false 0x80 (get_or c 0 0) n)) (ap pos (sym (magnitude ∙ ap (value_from 0) (map-id c))))
+-- the number that the first octets give
+abbrev pub number_before : List ℕ → ℕ → ℤ
+number_before c i = number (negative c) (prefix c i)
 
--- what the machine makes of a negative number's magnitude
-pub minus_one : (m : ℕ) → negsuc 0 -ℤ pos m ≡ negsuc m
-minus_one zero = refl
-minus_one (suc m) = ap negsuc (omega arith)
+-- of none of them, by the sign
+pub number_begins : (c : List ℕ) (n : Bool) → negative c ≡ n → number n 0 ≡ number_before c 0
+number_begins c n is = rw (is, value_none 0)
+
+-- one octet more
+number_step : (n : Bool) (m b : ℕ) → b < 256 → number n m *ℤ pos 256 +ℤ pos b ≡ number n (m * 256 + magnitude_octet n b)
+number_step true m b h = omega (arith, ints)
+number_step false m b h = refl
+
+-- a number that is not above nothing has 64 bits, if its opposite is at most 2 ^ 63
+opposite_fits : (n : ℕ) → n ≤ 2 ^ 63 → FitsSigned w64 (neg_ℤ (pos n))
+opposite_fits zero few = record { sfits = lit< tt }
+opposite_fits (suc n) few = record { sfits = few }
+
+module _ (c : List ℕ) (i : ℕ) (octets : Octets c) (short : length c ≤ 8) where
+  -- it has 64 bits,
+  pub before_fits : FitsSigned w64 (number_before c i)
+  before_fits = by_sign (negative c) (prefix_fits c i octets short)
+    where
+      by_sign : (n : Bool) {m : ℕ} → m < 2 ^ 63 → FitsSigned w64 (number n m)
+      by_sign true few = record { sfits = few }
+      by_sign false few = record { sfits = few }
+
+  module _ (there : i < length c) where
+    pub before_more : number_before c i *ℤ pos 256 +ℤ pos (get_or c i 0) ≡ number_before c (i + 1)
+    before_more = number_step (negative c) (prefix c i) (get_or c i 0) (octets_at c octets i) ∙ ap (number (negative c)) (prefix_more c i there)
+
+    -- and so has its product by 256, if an octet is left
+    pub before_shifts : FitsSigned w64 (number_before c i *ℤ pos 256)
+    before_shifts = by_sign (negative c) (prefix c i) (omega (arith, prefix_more c i there, prefix_fits c (i + 1) octets short))
+      where
+        by_sign : (n : Bool) (m : ℕ) → m * 256 < 2 ^ 63 → FitsSigned w64 (number n m *ℤ pos 256)
+        by_sign true m few = opposite_fits (suc m * 256) (omega arith)
+        by_sign false m few = record { sfits = few }
+
+-- of all octets
+pub number_all : (c : List ℕ) (i : ℕ) → length c ≤ i → number_before c i ≡ signed c
+unfolding signed
+number_all c i past = ap (number (negative c)) (prefix_all c i past) ∙ by_sign (negative c) refl
+  where
+    by_sign : (n : Bool) → negative c ≡ n → number n (value_from 0 (map (magnitude_octet n) c)) ≡ signed c
+    by_sign true is = rw (signed, le-ltb (get_or c 0 0) 0x80 (leb-true 0x80 (get_or c 0 0) is))
+    by_sign false is = rw (signed, lt-ltb (get_or c 0 0) 0x80 (leb-false 0x80 (get_or c 0 0) is)) (ap (λ (l : List ℕ). pos (value_from 0 l)) (map-id c))

@@ -2,7 +2,7 @@
 use Prim.Native.Nat.{ℕ, ◌-◌, ◌^◌}
 use mathlib.Core.Path.{◌≡◌, refl}
 use mathlib.Core.List.{List, [], ◌∷◌, ◌++◌}
-use mathlib.Core.Option.{Option, some, none as absent}
+use Rattle.std.specs.Prelude.{Option, Some, None}
 use lib.IntN.{ℤ, pos, negsuc}
 use Rattle.der.specs.examples.Each.{Each, ◌&◌}
 use Rattle.der.specs.meaning.Identifier.{tag_number, constructed, allowed}
@@ -81,10 +81,10 @@ record Case : Type 0 where
 
 cases : List Case
 cases =
-    record { octets = nested; pair = some (1, 2) }
-    ∷ record { octets = thrice; pair = some (0, 1) }
-    ∷ record { octets = signs; pair = absent }
-    ∷ record { octets = carrying; pair = absent }
+    record { octets = nested; pair = Some (1, 2) }
+    ∷ record { octets = thrice; pair = Some (0, 1) }
+    ∷ record { octets = signs; pair = None }
+    ∷ record { octets = carrying; pair = None }
     ∷ []
 
 -- each is accepted in both editions and searched so

@@ -4,15 +4,15 @@ use mathlib.Core.Logic.{◌↔◌}
 use mathlib.Core.Path.{◌≡◌, refl, sym, ap, subst, ◌∙◌}
 use mathlib.Core.Bool.{Bool, true, false}
 use mathlib.Core.List.{List}
-use mathlib.Core.Option.{Option, some, none as absent}
+use Rattle.std.specs.Prelude.{Option, Some, None}
 use lib.Dec.{eqb}
 use borrow.Author.Tests.{eqb-true, eqb-false}
 use Rattle.der.specs.meaning.Refusal.{accepted}
 use Rattle.der.specs.meaning.Octets.{Octets}
-use Rattle.editions.specs.declared.reader.Answer.{Answer}
+use Rattle.editions.specs.meaning.Answer.{Answer}
 use Rattle.editions.specs.steps.Reading.{answer}
 use Rattle.editions.proofs.Laws.{answer_related, related_answer, accepted_related}
-use Rattle.verdict.specs.declared.duplicates.Duplicates.{Duplicates}
+use Rattle.verdict.specs.steps.Answer.{Duplicates}
 use Rattle.verdict.specs.meaning.Searches.{Searches, refused, pair, none}
 use Rattle.verdict.specs.steps.SearchAnswer.{ids, pair_of, position, without_pair, searched, duplicates_answer}
 use Rattle.verdict.proofs.theorems.duplicates.FirstPairs.{pair_found, pair_absent}
@@ -27,13 +27,13 @@ module _ (e : ℕ) (s : List ℕ) (octets : Octets s) where
   to_answer d same = subst (Related e s) same
 
   by_pair : (answer e s).number ≡ accepted → (o : Option (ℕ × ℕ)) → pair_of (ids s) ≡ o → Related e s (duplicates_answer e s)
-  by_pair zero absent is =
+  by_pair zero None is =
       let (g, related) = accepted_related e s octets zero in
-      to_answer (searched absent) (sym (answer_searched e s zero ∙ ap searched is))
+      to_answer (searched None) (sym (answer_searched e s zero ∙ ap searched is))
       (none related g (rw (nest_ids s g) at ((pair_absent (ids s)).0 is)))
-  by_pair zero (some (i, j)) is =
+  by_pair zero (Some (i, j)) is =
       let (g, related) = accepted_related e s octets zero in
-      to_answer (searched (some (i, j))) (sym (answer_searched e s zero ∙ ap searched is))
+      to_answer (searched (Some (i, j))) (sym (answer_searched e s zero ∙ ap searched is))
       (pair related g (rw (nest_ids s g) at ((pair_found (ids s) i j).0 is)))
 
   by_number : (b : Bool) → eqb (answer e s).number accepted ≡ b → Related e s (duplicates_answer e s)

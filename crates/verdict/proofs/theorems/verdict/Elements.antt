@@ -1,46 +1,64 @@
 -- Elements between two places, one by one: what reading the next says of those that are searched for an identifier. Assumes nothing.
 use Prim.Native.Nat.{ℕ, ◌-◌, ◌≤◌, ◌<◌}
 use native.Mathlib.Omega.{arith}
-use mathlib.Core.Path.{◌≡◌, sym, ap, subst, ◌∙◌}
+use mathlib.Core.Path.{◌≡◌, refl, sym, ap, ◌∙◌}
 use mathlib.Core.List.{List, [], ◌∷◌}
-use mathlib.Core.Bool.{true, false, not}
-use mathlib.Core.Option.{Option, some, none as absent, some-ne-none}
-use lib.Dec.{eqb}
-use borrow.Author.Tests.{eq-eqb, ne_eqb}
+use Rattle.std.specs.Prelude.{Some, None}
 use Rattle.der.specs.declared.element.reading.Element.{Element}
 use Rattle.der.specs.steps.Reading.{reading_at}
 use Rattle.crmf.specs.meaning.Fields.{Field, first_with}
 use Rattle.crmf.specs.steps.Fields.{fields_between, Places}
 use Rattle.crmf.proofs.Laws.{field_at, fields_end, next_in_order, next_fields, first_with_none, first_with_here, first_with_next}
-use Rattle.verdict.specs.declared.verdict.Extent.{Extent}
-use Rattle.verdict.specs.steps.Judging.{part_of, FieldFound}
+use Rattle.verdict.specs.declared.elements.Elements.{Elements}
+use Rattle.verdict.specs.steps.Judging.{part_found}
 
--- what is found of equal fields
-pub found_as : {o p : Option Field} {r : Extent} → o ≡ p → FieldFound o r → FieldFound p r
-found_as {o} {p} {r} same found = subst (λ (q : Option Field). FieldFound q r) same found
+-- what some elements are read as, and the first of them
+abbrev pub fields_of : Elements → List Field
+fields_of e = fields_between e.bytes.now e.at e.end
 
--- what is found has a length exactly if it is a field
-pub found_holds : (o : Option Field) (r : Extent) → FieldFound o r → not (eqb r.length 0) ≡ elim o [ absent ↦ false | some x ↦ true ]
-found_holds absent r found = ap not (eq-eqb r.length 0 (ap (λ (p : Extent). p.length) found.part))
-found_holds (some x) r found = ap not (ne_eqb r.length 0 (λ e. some-ne-none x (found.none e)))
+abbrev pub first_of : Elements → Element
+first_of e = reading_at e.bytes.now e.at e.end
 
-module _ (s : List ℕ) (at end : ℕ) (lent : Places s at end) where
+-- they lie in order
+pub lie : (e : Elements) → Places e.bytes.now e.at e.end
+lie e = record { order = e.order; within = e.within; short = e.short }
+
+-- Some elements are those inside the first of others, or those after it.
+abbrev pub InsideFirst : (e i : Elements) → Type 0
+InsideFirst e i = (i.bytes.now ≡ e.bytes.now) × (i.at ≡ (first_of e).content) × (i.end ≡ (first_of e).end)
+
+abbrev pub AfterFirst : (e a : Elements) → Type 0
+AfterFirst e a = (a.bytes.now ≡ e.bytes.now) × (a.at ≡ (first_of e).end) × (a.end ≡ e.end)
+
+pub fields_inside : (e i : Elements) → InsideFirst e i → fields_of i ≡ fields_between e.bytes.now (first_of e).content (first_of e).end
+fields_inside e i is = rw (is.0, is.1, is.2)
+
+pub fields_after : (e a : Elements) → AfterFirst e a → fields_of a ≡ fields_between e.bytes.now (first_of e).end e.end
+fields_after e a is = rw (is.0, is.1, is.2)
+
+module _ (e : Elements) where
   -- from the end on nothing is found
-  pub find_end : (id : ℕ) → end ≤ at → FieldFound (first_with (id ∷ []) (fields_between s at end)) (part_of absent)
-  find_end id past =
-      let none : first_with (id ∷ []) (fields_between s at end) ≡ absent = ap (first_with (id ∷ [])) (fields_end s at end past) ∙ first_with_none (id ∷ []) in
-      record { part = ap part_of (sym none); none = λ e. none }
+  pub find_end : (id : ℕ) → e.end ≤ e.at → None ≡ part_found (first_with (id ∷ []) (fields_of e))
+  find_end id past = ap part_found (sym (ap (first_with (id ∷ [])) (fields_end e.bytes.now e.at e.end past) ∙ first_with_none (id ∷ [])))
 
-  module _ (room : at < end) (x : Element) (read : x ≡ reading_at s at end) where
-    -- the next element is the one that is searched for
-    pub find_here : (id : ℕ) → x.identifier ≡ id → FieldFound (first_with (id ∷ []) (fields_between s at end)) (record { from = at; length = x.end - at })
-    find_here id is =
-        let found : first_with (id ∷ []) (fields_between s at end) ≡ some (field_at s at x) =
-        ap (first_with (id ∷ [])) (next_fields s at end lent room x read) ∙ first_with_here id (field_at s at x) (fields_between s x.end end) is in
-        let o = next_in_order s at end lent room x read in
-        record { part = ap part_of (sym found); none = λ e. absurd (omega arith) }
+  module _ (room : e.at < e.end) (a : Elements) (is : AfterFirst e a) where
+    here : fields_of e ≡ field_at e.bytes.now e.at (first_of e) ∷ fields_of a
+    here =
+        next_fields e.bytes.now e.at e.end (lie e) room (first_of e) refl
+        ∙ ap (λ (fs : List Field). field_at e.bytes.now e.at (first_of e) ∷ fs) (sym (fields_after e a is))
+
+    -- what is after the first element begins after its first place
+    pub find_onward : e.at < a.at
+    find_onward = omega (arith, next_in_order e.bytes.now e.at e.end (lie e) room (first_of e) refl, is.1)
+
+    -- the first element is the one that is searched for
+    pub find_here : (id : ℕ) → (first_of e).identifier ≡ id
+        → Some (record { from = e.at; length = a.at - e.at }) ≡ part_found (first_with (id ∷ []) (fields_of e))
+    find_here id same =
+        rw is.1
+        (ap part_found
+        (sym (ap (first_with (id ∷ [])) here ∙ first_with_here id (field_at e.bytes.now e.at (first_of e)) (fields_of a) same)))
 
     -- or the search goes on after it
-    pub find_next : (id : ℕ) → (x.identifier ≡ id → ⊥) → first_with (id ∷ []) (fields_between s x.end end) ≡ first_with (id ∷ []) (fields_between s at end)
-    find_next id other =
-        sym (ap (first_with (id ∷ [])) (next_fields s at end lent room x read) ∙ first_with_next id (field_at s at x) (fields_between s x.end end) other)
+    pub find_next : (id : ℕ) → ((first_of e).identifier ≡ id → ⊥) → first_with (id ∷ []) (fields_of a) ≡ first_with (id ∷ []) (fields_of e)
+    find_next id other = sym (ap (first_with (id ∷ [])) here ∙ first_with_next id (field_at e.bytes.now e.at (first_of e)) (fields_of a) other)

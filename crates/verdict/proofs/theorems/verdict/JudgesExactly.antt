@@ -14,10 +14,10 @@ use Rattle.der.specs.meaning.Refusal.{accepted, no_such_message}
 use Rattle.der.specs.meaning.Octets.{Octets}
 use Rattle.der.specs.steps.Reading.{tree}
 use Rattle.crmf.specs.meaning.Messages.{Message, messages}
-use Rattle.editions.specs.declared.reader.Answer.{Answer}
+use Rattle.editions.specs.meaning.Answer.{Answer}
 use Rattle.editions.specs.steps.Reading.{answer}
 use Rattle.editions.proofs.Laws.{answer_related, related_answer, accepted_related}
-use Rattle.verdict.specs.declared.verdict.Verdict.{Verdict}
+use Rattle.verdict.specs.steps.Answer.{Verdict}
 use Rattle.verdict.specs.meaning.Judges.{Judges, refused, missing, judged}
 use Rattle.verdict.specs.steps.JudgeAnswer as steps
 use Rattle.verdict.specs.steps.JudgeAnswer.{verdict_on, message_at, verdict_answer}

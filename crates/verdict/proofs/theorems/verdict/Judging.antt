@@ -6,6 +6,8 @@ use mathlib.Core.Logic.{◌⊎◌, inl, inr}
 use mathlib.Core.Bool.{Bool, true, false, not, ◌&&◌}
 use mathlib.Core.List.{List, [], ◌∷◌}
 use mathlib.Core.Option.{Option, some, none as absent}
+use Rattle.std.specs.Prelude.{Some, None}
+use Rattle.std.proofs.lemmas.Option.{same_Some}
 use lib.Dec.{eqb}
 use borrow.Author.Tests.{ne_eqb}
 use Rattle.der.specs.meaning.Identifier.{constructed}
@@ -17,7 +19,7 @@ use Rattle.crmf.proofs.Laws.{proof_cases, child_first}
 use Rattle.verdict.specs.declared.verdict.Extent.{Extent}
 use Rattle.verdict.specs.meaning.Verdict.{key_agreement, misplaced_dh_mac, no_proof, ra_verified, other_signature, signed_poposk_input, signed_cert_req, has, has_subject_and_key, signature_verdict, encipherment_verdict, agreement_verdict, verdict_of, input_of, signed_of}
 use Rattle.verdict.specs.steps.JudgeAnswer.{verdict_on}
-use Rattle.verdict.specs.steps.Judging.{part_of, holds, FieldFound, told, bare, signature_answer, proof_answer}
+use Rattle.verdict.specs.steps.Judging.{part_of, part_found, holds, told, bare, signature_answer, proof_answer}
 
 -- by the identifier of the element after the certReq
 module _ (id : ℕ) (inside : List Field) (both : Bool) (request : Extent) where
@@ -41,30 +43,30 @@ module _ (id : ℕ) (inside : List Field) (both : Bool) (request : Extent) where
   unfolding proof_answer
   answer_none a b c d = rw (proof_answer, ne_eqb id 0x80 a, ne_eqb id 0xA1 b, ne_eqb id 0xA2 c, ne_eqb id 0xA3 d)
 
--- the verdict on a signature, by the poposkInput that was found or not
+-- the verdict on a signature, by the part of the poposkInput that was found or not
 module _ (request : Extent) where
-  pub signature_request : {o : Option Field} {input : Extent} {both : Bool} → FieldFound o input → input.length ≡ 0 → both ≡ true
-      → told signed_cert_req request ≡ signature_answer o both request
+  pub signature_request : (o : Option Field) {both : Bool} → None ≡ part_found o → true ≡ both → told signed_cert_req request ≡ signature_answer o both request
   unfolding signature_answer
-  signature_request found empty has_subject_and_key = sym (ap₂ (λ (o : Option Field) (b : Bool). signature_answer o b request) (found.none empty) has_subject_and_key)
+  signature_request absent is named = ap (λ (b : Bool). signature_answer absent b request) named
+  signature_request (some x) is named = cc
 
-  pub signature_neither : {o : Option Field} {input : Extent} {both : Bool} → FieldFound o input → input.length ≡ 0 → both ≡ false
+  pub signature_input : (o : Option Field) {part : Extent} {both : Bool} → Some part ≡ part_found o → false ≡ both
+      → told signed_poposk_input part ≡ signature_answer o both request
+  unfolding signature_answer
+  signature_input absent is unnamed = cc
+  signature_input (some x) is unnamed =
+      ap (told signed_poposk_input) (same_Some _ _ is) ∙ ap (λ (b : Bool). signature_answer (some x) b request) unnamed
+
+  pub signature_neither : (o : Option Field) {both : Bool} → None ≡ part_found o → false ≡ both → bare other_signature ≡ signature_answer o both request
+  unfolding signature_answer
+  signature_neither absent is unnamed = ap (λ (b : Bool). signature_answer absent b request) unnamed
+  signature_neither (some x) is unnamed = cc
+
+  pub signature_both : (o : Option Field) {part : Extent} {both : Bool} → Some part ≡ part_found o → true ≡ both
       → bare other_signature ≡ signature_answer o both request
   unfolding signature_answer
-  signature_neither found empty unnamed = sym (ap₂ (λ (o : Option Field) (b : Bool). signature_answer o b request) (found.none empty) unnamed)
-
-  pub signature_both : {o : Option Field} {input : Extent} {both : Bool} → FieldFound o input → (input.length ≡ 0 → ⊥) → both ≡ true
-      → bare other_signature ≡ signature_answer o both request
-  unfolding signature_answer
-  signature_both {o = absent} found full has_subject_and_key = absurd (full (ap (λ (p : Extent). p.length) found.part))
-  signature_both {o = some x} found full has_subject_and_key = sym (ap (λ (b : Bool). signature_answer (some x) b request) has_subject_and_key)
-
-  pub signature_input : {o : Option Field} {input : Extent} {both : Bool} → FieldFound o input → (input.length ≡ 0 → ⊥) → both ≡ false
-      → told signed_poposk_input input ≡ signature_answer o both request
-  unfolding signature_answer
-  signature_input {o = absent} found full unnamed = absurd (full (ap (λ (p : Extent). p.length) found.part))
-  signature_input {o = some x} found full unnamed =
-      ap (told signed_poposk_input) found.part ∙ sym (ap (λ (b : Bool). signature_answer (some x) b request) unnamed)
+  signature_both absent is named = cc
+  signature_both (some x) is named = ap (λ (b : Bool). signature_answer (some x) b request) named
 
 -- with verdict 2 the certReq is signed, with 3 the poposkInput, otherwise nothing
 module _ (m : Message) where

@@ -1,5 +1,5 @@
 -- A message read from place to place: what the code reads as its certReq, its template and its proof are the message's own. Assumes nothing.
-use Prim.Native.Nat.{ℕ, ◌<◌}
+use Prim.Native.Nat.{ℕ, ◌-◌, ◌<◌}
 use native.Mathlib.Nat.{eq-or-lt_of_le}
 use native.Mathlib.Omega.{arith}
 use mathlib.Core.Path.{◌≡◌, refl, sym, ap, ap₂, subst, ◌∙◌}
@@ -16,11 +16,14 @@ use Rattle.crmf.specs.meaning.Fields.{Field, fields, listed}
 use Rattle.crmf.specs.steps.Fields.{fields_between, Places}
 use Rattle.crmf.specs.meaning.Notation.{among}
 use Rattle.crmf.specs.meaning.Messages.{proofs, Message}
-use Rattle.crmf.proofs.Laws.{field_at, fields_at, fields_begin, inside_fields, IfAny, MessageParts, listed_none, listed_some, content_places, after_places}
-use Rattle.verdict.specs.declared.verdict.Verdict.{Verdict}
+use Rattle.crmf.proofs.Laws.{field_at, fields_at, fields_begin, inside_fields, IfAny, MessageParts, listed_none, listed_some}
+use Rattle.verdict.specs.declared.elements.Elements.{Elements}
+use Rattle.verdict.specs.declared.verdict.Extent.{Extent}
+use Rattle.verdict.specs.steps.Answer.{Verdict}
 use Rattle.verdict.specs.meaning.Verdict.{has_subject_and_key}
 use Rattle.verdict.specs.steps.JudgeAnswer.{verdict_on}
 use Rattle.verdict.specs.steps.Judging.{part_of, proof_answer}
+use Rattle.verdict.proofs.theorems.verdict.Elements.{fields_of, first_of, lie, InsideFirst, AfterFirst, fields_inside, fields_after}
 use Rattle.verdict.proofs.theorems.verdict.Judging.{judged_none, judged_proof}
 
 -- the fields inside the constructed one that is read at a place
@@ -50,12 +53,6 @@ module _ (s : List ℕ) (at end : ℕ) (lent : Places s at end) (x : Element) (r
       by_room (inr room) =
           absurd (omega (arith, ap length (sym (fields_at s at end lent.within lent.short room) ∙ none)))
 
--- the fields inside the first one, if it is constructed
-pub first_inside : (s : List ℕ) (at end : ℕ) (lent : Places s at end) (x : Element) (read : x ≡ reading_at s at end)
-    → {f : Field} {fs : List Field} → fields_between s at end ≡ f ∷ fs → constructed f.identifier ≡ true
-    → fields_between s x.content x.end ≡ fields f.inside
-first_inside s at end lent x read {f} same made = inside_read s at x f (first_read s at end lent x read same).0 made
-
 -- The verdict by the element after the certReq is the message's.
 module _ (s : List ℕ) (m : Message) (parts : MessageParts m) (at end : ℕ) (lent : Places s at end) (x : Element) (read : x ≡ reading_at s at end) where
   -- what it is by an identifier
@@ -80,23 +77,27 @@ module _ (s : List ℕ) (m : Message) (parts : MessageParts m) (at end : ℕ) (l
   pub proof_read : fields_between s at end ≡ listed m.proof ++ listed m.reg_info → judged_by x.identifier ≡ verdict_on m
   proof_read same = by_fields m.proof m.reg_info refl refl same
 
--- What is read inside a message: its certReq, the fields after that, and those inside the certReq.
-module _ (s : List ℕ) (at end : ℕ) (lent : Places s at end) (x : Element) (read : x ≡ reading_at s at end) (y : Element)
-    (next : y ≡ reading_at s x.content x.end) (m : Message) (more : List Field) (same : fields_between s at end ≡ m.own ∷ more) (parts : MessageParts m) where
-  held : fields_between s x.content x.end ≡ m.cert_req ∷ (listed m.proof ++ listed m.reg_info)
-  held = first_inside s at end lent x read same (thirty_made m.own parts.thirty) ∙ parts.whole.held
+-- What is said of the first of some elements, by the fields that these are read as.
+module _ (e : Elements) {f : Field} {fs : List Field} (same : fields_of e ≡ f ∷ fs) where
+  first_here : (field_at e.bytes.now e.at (first_of e) ≡ f) × (fields_between e.bytes.now (first_of e).end e.end ≡ fs)
+  first_here = first_read e.bytes.now e.at e.end (lie e) (first_of e) refl same
 
-  pub request_read : (field_at s x.content y ≡ m.cert_req) × (fields_between s y.end x.end ≡ listed m.proof ++ listed m.reg_info)
-  request_read = first_read s x.content x.end (content_places s at end lent x read) y next held
+  -- the elements inside it, if it is constructed
+  pub inside_first : (i : Elements) → InsideFirst e i → constructed f.identifier ≡ true → fields_of i ≡ fields f.inside
+  inside_first i is made = fields_inside e i is ∙ inside_read e.bytes.now e.at (first_of e) f first_here.0 made
 
-  pub request_held : fields_between s y.content y.end ≡ m.cert_req_id ∷ m.template ∷ listed m.controls
-  request_held =
-      first_inside s x.content x.end (content_places s at end lent x read) y next held (thirty_made m.cert_req parts.cert_req)
-      ∙ parts.request.held
+  module _ (a : Elements) (is : AfterFirst e a) where
+    -- the elements after it
+    pub after_first : fields_of a ≡ fs
+    after_first = fields_after e a is ∙ first_here.1
 
--- the fields inside the template, the second inside a certReq
-pub template_held : (s : List ℕ) (at end : ℕ) (lent : Places s at end) (x y : Element) (read : x ≡ reading_at s at end) → y ≡ reading_at s x.end end
-    → (m : Message) (more : List Field) → fields_between s at end ≡ m.cert_req_id ∷ m.template ∷ more → m.template.identifier ≡ 0x30
-    → fields_between s y.content y.end ≡ fields m.template.inside
-template_held s at end lent x y read next m more same thirty =
-    first_inside s x.end end (after_places s at end lent x read) y next (first_read s at end lent x read same).1 (thirty_made m.template thirty)
+    -- its own part of the bytes
+    pub first_part : ◌≡◌ {A = Extent} (record { from = e.at; length = a.at - e.at }) (part_of (some f))
+    first_part = rw is.1 (ap (λ (g : Field). part_of (some g)) first_here.0)
+
+-- The verdict by the element after the certReq is the message's.
+pub proof_split : (m : Message) → MessageParts m → (e i : Elements) → InsideFirst e i → fields_of e ≡ listed m.proof ++ listed m.reg_info
+    → (id : ℕ) → id ≡ (first_of e).identifier → proof_answer id (fields_of i) (has_subject_and_key m) (part_of (some m.cert_req)) ≡ verdict_on m
+proof_split m parts e i inside same id is =
+    ap₂ (λ (n : ℕ) (fs : List Field). proof_answer n fs (has_subject_and_key m) (part_of (some m.cert_req))) is (fields_inside e i inside)
+    ∙ proof_read e.bytes.now m parts e.at e.end (lie e) (first_of e) refl same

@@ -11,7 +11,7 @@ use Rattle.der.specs.steps.Reading.{tree}
 use Rattle.crmf.specs.meaning.Messages.{messages}
 use Rattle.editions.specs.steps.Reading.{answer}
 use Rattle.editions.proofs.Laws.{answer_number}
-use Rattle.verdict.specs.declared.verdict.Verdict.{Verdict}
+use Rattle.verdict.specs.steps.Answer.{Verdict}
 use Rattle.verdict.specs.steps.JudgeAnswer.{refused, verdict_on, message_at, verdict_answer}
 
 -- the verdict answers a number of at most 14, the largest of its refusals

@@ -22,7 +22,7 @@ use Rattle.crmf.proofs.Laws.{IfAny, MessageParts, message_parts, messages_stand,
 use Rattle.editions.specs.meaning.Membership.{InGrammar}
 use Rattle.editions.specs.steps.Reading.{answer}
 use Rattle.editions.proofs.Laws.{nest_read}
-use Rattle.verdict.specs.declared.verdict.Verdict.{Verdict}
+use Rattle.verdict.specs.steps.Answer.{Verdict}
 use Rattle.verdict.specs.meaning.Verdict.{signed_poposk_input, signed_cert_req, verdict_of, signed_of, signed_octets}
 use Rattle.verdict.specs.steps.JudgeAnswer.{message_at, refused, verdict_on, verdict_answer}
 use Rattle.verdict.proofs.theorems.verdict.Answers.{answer_refused, answer_missing, answer_judged}

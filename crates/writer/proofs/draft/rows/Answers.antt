@@ -1,7 +1,6 @@
 -- `writer::draft::rows` meets its contract. Assumes nothing.
-use mathlib.Core.Path.{sym}
-use Rattle.crmf.proofs.Laws.{rows_by_width}
+use Rattle.writer.proofs.theorems.DraftRows.{numbered}
 use Rattle.writer.proofs.draft.rows.Goals as goal
 
 pub returns : goal.returns
-returns c = sym (rows_by_width c.args.draft.now)
+returns c = numbered c.args.draft.now c.as_chunks.result.0.now c.as_chunks.ensures.front c.as_chunks.ensures.front_len

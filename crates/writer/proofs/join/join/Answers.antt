@@ -2,73 +2,95 @@
 -- nothing.
 use Prim.Native.Nat.{ℕ, ◌≤◌}
 use native.Mathlib.Omega.{arith}
-use mathlib.Core.Path.{◌≡◌, sym, ap, ap₂, subst, ◌∙◌}
+use mathlib.Core.Bool.{true}
+use mathlib.Core.Path.{◌≡◌, refl, sym, ap, ap₂, ◌∙◌}
 use mathlib.Core.List.{List}
 use lib.ListN.{length, drop, length-drop}
+use Rattle.std.specs.Prelude.{Result, Ok, Err, MatchResult}
+use Rattle.std.specs.Result.{IsErrAnd, is_ok}
+use Rattle.std.proofs.lemmas.Result.{err_from_is_err_and}
+use Rattle.der.specs.declared.refusal.Refused.{Refused}
 use Rattle.der.specs.meaning.Bounds.{longest}
 use Rattle.der.specs.steps.Reading.{reading_at}
+use Rattle.editions.specs.declared.pair.File.TheVariants.{Neither, First, Second}
+use Rattle.editions.specs.declared.pair.PairRefused.{PairRefused}
+use Rattle.editions.specs.meaning.Answers.{Answers}
+use Rattle.editions.specs.meaning.TwoBatches.{Accepted, neither_file}
+use Rattle.editions.specs.steps.Results.{answer_of, pair_answer_of}
 use Rattle.editions.proofs.Laws.{taken}
-use Rattle.editions.specs.declared.pair.PairAnswer.{PairAnswer}
-use Rattle.editions.specs.meaning.TwoBatches.{Accepted}
 use Rattle.writer.specs.meaning.Joins.{Joins, first_refused, second_refused}
 use Rattle.writer.specs.steps.Around.{around_answer, around_output}
 use Rattle.writer.proofs.theorems.JoinsExactly.{join_says}
+use Rattle.der.proofs.Laws.{some_refusal}
 use Rattle.writer.proofs.join.join.Goals as goal
-use Rattle.writer.proofs.join.join.Goals.{After-accept-two, After-content, After-content-2, After-put_around-written, Else-one-ne-ACCEPTED, Else-two-ne-ACCEPTED}
 
--- what a refusal answers, as the relation has it
-refused_as : {e : ℕ} {first second old : List ℕ} {r : PairAnswer} (number place file : ℕ) → r ≡ record { number = number; place = place; file = file; count = 0 }
-    → Joins e first second old number place file 0 old → Joins e first second old r.number r.place r.file r.count old
-refused_as {e} {first} {second} {old} number place file same says =
-    subst (λ (x : PairAnswer). Joins e first second old x.number x.place x.file x.count old) (sym same) says
+-- what is answered of a batch that isn't refused
+accepts : {e : ℕ} {s : List ℕ} (r : Result ℕ Refused) → is_ok r ≡ true → (let a = answer_of r in Answers e s a.number a.place a.count) → Accepted e s
+accepts (Ok n) is answered = taken answered refl
+accepts (Err d) is answered = let z : ◌≡◌ {A = ℕ} 0 1 = cc in absurd (omega arith)
 
-pub returns-then-one-ne-ACCEPTED : goal.returns-then-one-ne-ACCEPTED
-returns-then-one-ne-ACCEPTED c =
-    let found = c.accept-one in
-    refused_as found.result.number found.result.place 1 c.refuse_pair.ensures (first_refused found.ensures c.if-one-ne-ACCEPTED.true)
+-- what the relation says is said of the call's result
+abbrev Says : (e : ℕ) (first second old : List ℕ) → Result ℕ PairRefused → List ℕ → Type 0
+Says e first second old r new = let a = pair_answer_of r in Joins e first second old a.number a.place a.file a.count new
 
--- the first batch is accepted
-one : (c : Else-one-ne-ACCEPTED) → let a = c.args in Accepted a.edition a.first.now
-one c = taken c.accept-one.ensures c.if-one-ne-ACCEPTED.false
+module _ {e : ℕ} {first second old : List ℕ} where
+  first_told : (r : Result ℕ Refused) (why : PairRefused) → MatchResult r (λ n. ◌≡◌ {A = Result ℕ PairRefused} (Err why) (Ok n)) (λ d. why ≡ record { refused = d; file = First })
+      → (let a = answer_of r in Answers e first a.number a.place a.count) → Says e first second old (Err why) old
+  first_told (Ok n) why is answered = let z : ◌≡◌ {A = ℕ} 0 1 = cc in absurd (omega arith)
+  first_told (Err d) why is answered = rw is (first_refused answered (some_refusal d.refusal))
 
--- and so is the second
-two : (c : Else-two-ne-ACCEPTED) → let a = c.args in Accepted a.edition a.second.now
-two c = taken c.accept-two.ensures c.if-two-ne-ACCEPTED.false
+  second_told : Accepted e first → (r : Result ℕ Refused) (why : PairRefused)
+      → MatchResult r (λ n. ◌≡◌ {A = Result ℕ PairRefused} (Err why) (Ok n)) (λ d. why ≡ record { refused = d; file = Second })
+      → (let a = answer_of r in Answers e second a.number a.place a.count) → Says e first second old (Err why) old
+  second_told one (Ok n) why is answered = let z : ◌≡◌ {A = ℕ} 0 1 = cc in absurd (omega arith)
+  second_told one (Err d) why is answered = rw is (second_refused one answered (some_refusal d.refusal))
 
-pub returns-then-two-ne-ACCEPTED : goal.returns-then-two-ne-ACCEPTED
-returns-then-two-ne-ACCEPTED c =
-    let found = (goal.at.returns-then-two-ne-ACCEPTED c).After-accept-two in
-    refused_as found.accept-two.result.number found.accept-two.result.place 2 c.refuse_pair-then-two-ne-ACCEPTED.ensures
-    (second_refused (one (goal.at.After-accept-two found).Else-one-ne-ACCEPTED) found.accept-two.ensures c.if-two-ne-ACCEPTED.true)
+  both_told : {new : List ℕ} (r : Result ℕ Refused) (m : Result ℕ PairRefused)
+      → MatchResult r (λ n. m ≡ Ok n) (λ d. IsErrAnd m (λ why. why ≡ record { refused = d; file = Neither }))
+      → (let a = answer_of r in Joins e first second old a.number a.place neither_file a.count new) → Says e first second old m new
+  both_told (Ok n) m is says = rw is says
+  both_told (Err d) (Ok n) is says = absurd is
+  both_told (Err d) (Err why) is says = rw is says
+
+pub returns-in_err-map_err : goal.returns-in_err-map_err
+returns-in_err-map_err c =
+    let p = err_from_is_err_and c.from_residual.result c.from_residual.ensures.1 in
+    rw (p.1, p.2) (first_told c.accept.result c.in_err-map_err.field-0.0 c.in_err-map_err.ensures.cases c.accept.ensures)
+
+pub returns-in_err-map_err-2 : goal.returns-in_err-map_err-2
+returns-in_err-map_err-2 c =
+    let one = accepts c.accept.result (sym c.in_ok-map_err.ensures.variant) c.accept.ensures in
+    let p = err_from_is_err_and c.from_residual-in_err-map_err-2.result c.from_residual-in_err-map_err-2.ensures.1 in
+    rw (p.1, p.2) (second_told one c.accept-2.result c.in_err-map_err-2.field-0.0 c.in_err-map_err-2.ensures.cases c.accept-2.ensures)
 
 pub content-requires : goal.content-requires
-content-requires c = (one (goal.at.content-requires c).Else-one-ne-ACCEPTED).batch.short
+content-requires c = (accepts c.accept.result (sym c.in_ok-map_err.ensures.variant) c.accept.ensures).batch.short
 
 pub content-requires-2 : goal.content-requires-2
-content-requires-2 c = (two (goal.at.content-requires-2 c).Else-two-ne-ACCEPTED).batch.short
+content-requires-2 c = (accepts c.accept-2.result (sym c.in_ok-map_err-2.ensures.variant) c.accept-2.ensures).batch.short
 
 -- what comes after the first bytes of a batch isn't too long
 part_short : (s : List ℕ) (n : ℕ) {r : List ℕ} → r ≡ drop n s → length s ≤ longest → length r ≤ longest
 part_short s n {r} same short = omega (arith, ap length same, length-drop n s)
 
-pub put_around-written-requires : goal.put_around-written-requires
-put_around-written-requires c =
-    let right = (goal.at.put_around-written-requires c).After-content-2 in
-    let left = (goal.at.After-content-2 right).After-content in
-    let a = left.args in (
-      part_short a.first.now (reading_at a.first.now 0 (length a.first.now)).content left.content.ensures (one (goal.at.After-content left).Else-one-ne-ACCEPTED).batch.short,
-      part_short a.second.now (reading_at a.second.now 0 (length a.second.now)).content right.content-2.ensures (two (goal.at.After-content left).Else-two-ne-ACCEPTED).batch.short,
+pub put_around-requires : goal.put_around-requires
+put_around-requires c =
+    let first = c.args.first.now in
+    let second = c.args.second.now in
+    let one = accepts c.accept.result (sym c.in_ok-map_err.ensures.variant) c.accept.ensures in
+    let two = accepts c.accept-2.result (sym c.in_ok-map_err-2.ensures.variant) c.accept-2.ensures in (
+      part_short first (reading_at first 0 (length first)).content c.content.ensures one.batch.short,
+      part_short second (reading_at second 0 (length second)).content c.content-2.ensures two.batch.short,
     )
 
 pub returns : goal.returns
 returns c =
-    let put = (goal.at.returns c).After-put_around-written in
-    let right = (goal.at.After-put_around-written put).After-content-2 in
-    let left = (goal.at.After-content-2 right).After-content in
-    let a = left.args in
-    let same = left.content.ensures in
-    let also = right.content-2.ensures in
-    let new = put.put_around-written.new.output in
-    join_says (one (goal.at.After-content left).Else-one-ne-ACCEPTED) (two (goal.at.After-content left).Else-two-ne-ACCEPTED) a.output.now new put.put_around-written.result
-    (put.put_around-written.ensures.0 ∙ ap₂ (λ (l r : List ℕ). around_answer l r a.output.now) same also)
-    (put.put_around-written.ensures.1 ∙ ap₂ (λ (l r : List ℕ). around_output l r a.output.now) same also)
+    let one = accepts c.accept.result (sym c.in_ok-map_err.ensures.variant) c.accept.ensures in
+    let two = accepts c.accept-2.result (sym c.in_ok-map_err-2.ensures.variant) c.accept-2.ensures in
+    let old = c.args.output.now in
+    let same = c.content.ensures in
+    let also = c.content-2.ensures in
+    both_told c.put_around.result c.map_err-3.result c.map_err-3.ensures.cases
+    (join_says one two old c.put_around.new.output (answer_of c.put_around.result)
+    (c.put_around.ensures.0 ∙ ap₂ (λ (l r : List ℕ). around_answer l r old) same also)
+    (c.put_around.ensures.1 ∙ ap₂ (λ (l r : List ℕ). around_output l r old) same also))

@@ -4,7 +4,4 @@ use Rattle.writer.proofs.theorems.AddingUp.{Settled}
 use Rattle.writer.proofs.sums.add_up.Given as goal
 
 abbrev pub invariant-loop-i : goal.invariant-loop-i
-invariant-loop-i l = Settled l.bytes (draft_rows l.draft) l.i l.initial.table l.table
-
-abbrev pub decreases-loop-i : goal.decreases-loop-i
-decreases-loop-i l = l.i
+invariant-loop-i l = Settled l.draft.bytes.now (draft_rows l.draft.numbers.now) l.i l.initial.table l.table

@@ -7,6 +7,7 @@ use Rattle.der.proofs.Laws.{take_slice}
 use Rattle.crmf.specs.meaning.Notation.{mark_of}
 use native.Mathlib.Omega.{arith}
 use Rattle.crmf.specs.steps.grammar.Packed.{mark_code, kind_field, item_field}
+use Rattle.crmf.specs.steps.explain.Tally.{tally_of}
 use Rattle.crmf.specs.steps.explain.Walk.{line, with_long_id, rows_of_kind}
 use Rattle.crmf.proofs.theorems.lines.WordFields.{kind_at, item_at}
 use Rattle.crmf.proofs.theorems.explain.Meeting.{met_with}
@@ -30,7 +31,7 @@ returns c =
           let is-kind = kinds.kind_of-kind.ensures ∙ ap kind_field e ∙ kind_at k in
           let item = c.row_of.ensures.0 ∙ ap rows_of_kind (items.item_of.ensures ∙ ap item_field e ∙ item_at k) in
           let kind = c.row_of-2.ensures.0 ∙ ap rows_of_kind is-kind in
-          met_with (line k) octets place whole a.tally form.with_form-marked.result long.with_long_id-after.result _ _ _ (form.with_form-marked.ensures.0 k octets coded)
-          (long.with_long_id-after.ensures.0 ∙ ap (λ (j : ℕ). with_long_id j place whole form.with_form-marked.result) is-kind) c.add_rows.ensures item kind,
+          met_with (line k) octets place whole (tally_of a.tally) (tally_of form.with_form-marked.result) (tally_of long.with_long_id-after.result) _ _ _ (form.with_form-marked.ensures.0 k octets coded)
+          (long.with_long_id-after.ensures.0 ∙ ap (λ (j : ℕ). with_long_id j place whole (tally_of form.with_form-marked.result)) is-kind) c.add_rows.ensures item kind,
       omega (arith, c.add_rows.ensures, c.row_of-2.ensures.1, c.row_of.ensures.1, long.with_long_id-after.ensures.1, form.with_form-marked.ensures.1),
     )

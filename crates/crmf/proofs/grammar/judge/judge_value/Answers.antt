@@ -3,7 +3,7 @@ use Prim.Native.Nat.{ℕ, ◌+◌}
 use mathlib.Core.Path.{◌≡◌, sym, ap, ◌∙◌}
 use mathlib.Core.List.{List}
 use lib.ListN.{get_or}
-use Rattle.crmf.specs.declared.grammar.judge.Onward.TheVariants.{To}
+use Rattle.std.specs.Prelude.{Ok}
 use Rattle.crmf.specs.steps.grammar.Packed.{packed, judge_code, judge_field, next_field}
 use Rattle.crmf.specs.steps.explain.Walk.{line}
 use Rattle.crmf.proofs.theorems.lines.WordFields.{judge_at, next_at}
@@ -29,7 +29,7 @@ module _ (c : After-next_of-next) where
 pub returns-then-keeps : goal.returns-then-keeps
 returns-then-keeps c = λ k e.
     let d = (goal.at.returns-then-keeps c).After-next_of-next in
-    ap To (next d k e)
+    ap Ok (next d k e)
     ∙ kept (line k).next _ (content d) c.if-code-lt-SELECTORS.true (line k).judge (coded d k e) _ c.keeps.ensures c.if-keeps.true
 
 pub returns-then-code-lt-SELECTORS : goal.returns-then-code-lt-SELECTORS
@@ -38,16 +38,16 @@ returns-then-code-lt-SELECTORS c = λ k e.
     lost (line k).next _ (content d) c.if-code-lt-SELECTORS.true (line k).judge (coded d k e) _ c.keeps.ensures c.if-keeps.false
     _ c.rule_detail.ensures
 
-pub returns-then-way-ways : goal.returns-then-way-ways
-returns-then-way-ways c = λ k e.
-    let d = (goal.at.returns-then-way-ways c).After-next_of-next in
-    let way = c.selected-way in
-    ap To (c.next_of.ensures
-    ∙ ap next_field (c.word.ensures ∙ ap (λ (n : ℕ). get_or packed (n + way.result) 0) (next d k e))
-    ∙ next_at ((line k).next + way.result))
-    ∙ selects (line k).next _ (content d) c.if-code-lt-SELECTORS.false _ way.ensures.0 _ c.ways.ensures.0 (line k).judge (coded d k e) c.if-way-ways.true
+pub returns-in_default : goal.returns-in_default
+returns-in_default c = λ k e.
+    let d = (goal.at.returns-in_default c).After-next_of-next in
+    selects_none (line k).next _ (content d) c.if-code-lt-SELECTORS.false c.in_default.ensures.way (line k).judge (coded d k e)
 
 pub returns : goal.returns
 returns c = λ k e.
     let d = (goal.at.returns c).After-next_of-next in
-    selects_none (line k).next _ (content d) c.if-code-lt-SELECTORS.false _ c.selected-way.ensures.0 _ c.ways.ensures.0 (line k).judge (coded d k e) c.if-way-ways.false
+    let way = c.in-Some.way in
+    ap Ok (c.next_of.ensures
+    ∙ ap next_field (c.word.ensures ∙ ap (λ (n : ℕ). get_or packed (n + way) 0) (next d k e))
+    ∙ next_at ((line k).next + way))
+    ∙ selects (line k).next _ (content d) c.if-code-lt-SELECTORS.false way c.in-Some.ensures.way (line k).judge (coded d k e)

@@ -1,13 +1,14 @@
 -- `crmf::grammar::table::word` meets its contract: past the table's end `get_or` answers 0, as the code does. Assumes nothing.
 use Prim.Native.Nat.{ℕ, ◌≤◌}
-use mathlib.Core.Path.{ap, sym, subst}
-use lib.ListN.{get_or, get_or-eq_default}
+use mathlib.Core.Path.{refl, sym, subst}
+use lib.ListN.{get_or-eq_default}
 use Rattle.crmf.specs.steps.grammar.Packed.{packed}
-use Rattle.crmf.proofs.theorems.lines.WordFields.{line_count, words_count}
+use Rattle.crmf.proofs.theorems.lines.WordFields.{line_count, words_count, computed}
 use Rattle.crmf.proofs.grammar.table.word.Goals as goal
 
 pub returns-then-k-lt-LINES : goal.returns-then-k-lt-LINES
-returns-then-k-lt-LINES c = ap (λ t. get_or t c.args.k 0) c.requires
+unfolding computed
+returns-then-k-lt-LINES c = refl
 
 pub returns-else-k-lt-LINES : goal.returns-else-k-lt-LINES
 unfolding line_count

@@ -2,8 +2,12 @@
 use Prim.Native.Nat.{ℕ, ◌≤◌, zero-le, ◌<◌}
 use mathlib.Core.Bool.{not, ◌&&◌}
 use mathlib.Core.Path.{◌≡◌, sym, ap, ap₂, ◌∙◌}
+use mathlib.Core.Option.{Option, some, none}
 use lib.Arith.{lt_of_le-ne}
-use Rattle.crmf.specs.meaning.Value.{always, integer, boolean, bit_string, empty, zero_or_one, true_only, utc_time, generalized_time_from2050, some_forwards, never, keeps}
+use Rattle.std.specs.Prelude.{is_some}
+use Rattle.time.specs.steps.Moments.{as_option}
+use Rattle.time.proofs.Laws.{some_told, none_told}
+use Rattle.crmf.specs.meaning.Value.{is_empty, is_shown, always, integer, boolean, bit_string, empty, zero_or_one, true_only, utc_time, generalized_time_from2050, some_forwards, never, keeps}
 use Rattle.crmf.specs.steps.grammar.Lines.{keep}
 use Rattle.crmf.specs.steps.grammar.Packed.{judge_code}
 use Rattle.crmf.proofs.theorems.lines.JudgeCodes.{same_rule, last_rule}
@@ -27,7 +31,7 @@ unfolding keeps judge_code
 returns-in-3 c x e = rw (same_rule x bit_string (e ∙ c.in-3.is)) c.bit_string.ensures
 
 pub returns-in-4 : goal.returns-in-4
-unfolding keeps judge_code
+unfolding keeps judge_code is_empty
 returns-in-4 c x e = rw (same_rule x empty (e ∙ c.in-4.is)) c.is_empty.ensures
 
 pub returns-in-5 : goal.returns-in-5
@@ -38,16 +42,22 @@ pub returns-in-6 : goal.returns-in-6
 unfolding keeps judge_code
 returns-in-6 c x e = rw (same_rule x true_only (e ∙ c.in-6.is)) c.is_true.ensures
 
+-- what the check of a time answers says whether a moment is shown
+shown : (o : Option ℕ) → is_some (as_option o) ≡ is_shown o
+unfolding is_shown
+shown none = ap is_some none_told
+shown (some n) = ap is_some (some_told n)
+
 pub returns-in-7 : goal.returns-in-7
 unfolding keeps judge_code
-returns-in-7 c x e = rw (same_rule x utc_time (e ∙ c.in-7.is)) (c.is_shown.ensures _ c.utc_time.ensures)
+returns-in-7 c x e = rw (same_rule x utc_time (e ∙ c.in-7.is)) (c.is_some.ensures ∙ ap is_some c.utc_time.ensures ∙ shown _)
 
 pub returns-in-8 : goal.returns-in-8
 unfolding keeps judge_code
-returns-in-8 c x e = rw (same_rule x generalized_time_from2050 (e ∙ c.in-8.is)) (c.is_shown-in-8.ensures _ c.generalized_time.ensures)
+returns-in-8 c x e = rw (same_rule x generalized_time_from2050 (e ∙ c.in-8.is)) (c.is_some-in-8.ensures ∙ ap is_some c.generalized_time.ensures ∙ shown _)
 
 pub returns-in-9 : goal.returns-in-9
-unfolding keeps judge_code
+unfolding keeps judge_code is_empty
 returns-in-9 c x e =
     rw (same_rule x some_forwards (e ∙ c.in-9.is)) (ap₂ ◌&&◌ (ap not c.is_empty-in-9.ensures) c.forwards.ensures)
 

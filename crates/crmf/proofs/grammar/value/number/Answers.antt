@@ -1,26 +1,24 @@
--- `crmf::grammar::value::number` meets its contract: its test is the definition's, and if it passes, there is an octet to read.
--- Assumes nothing.
-use mathlib.Core.Path.{sym, ◌∙◌}
-use borrow.Author.Tests.{eqb-true}
+-- `crmf::grammar::value::number` meets its contract: its test is the definition's. Assumes nothing.
 use native.Mathlib.Omega.{arith}
-use lib.ListN.{length}
-use Rattle.crmf.specs.meaning.Value.{is_up_to, number}
-use Rattle.crmf.proofs.theorems.values.ValueRules.{both}
+use mathlib.Core.Path.{sym, ap, ◌∙◌}
+use Rattle.std.specs.Prelude.{Some}
+use Rattle.time.proofs.Laws.{some_told, none_told}
+use Rattle.crmf.specs.meaning.Value.{number}
+use Rattle.crmf.proofs.theorems.values.ValueRules.{up_to, above, not_one}
 use Rattle.crmf.proofs.grammar.value.number.Goals as goal
 
-pub bounds-content-0 : goal.bounds-content-0
-unfolding is_up_to
-bounds-content-0 c =
-    let e = sym c.is_up_to.ensures ∙ c.if-is_up_to.true in
-    omega (arith, eqb-true (length c.args.content.now) 1 (both _ _ e).0)
-
-pub overflow_cast-result : goal.overflow_cast-result
-overflow_cast-result c = omega (arith, c.type_inv.content 0)
-
-pub returns-then-is_up_to : goal.returns-then-is_up_to
+pub returns-in-len1 : goal.returns-in-len1
 unfolding number
-returns-then-is_up_to c = rw (number, sym c.is_up_to.ensures, c.if-is_up_to.true)
+returns-in-len1 c = rw (number, up_to c.args.most c.args.content.now (omega arith) (omega arith)) (ap Some c.from.ensures ∙ sym (some_told _))
 
-pub returns : goal.returns
+pub returns-in_default : goal.returns-in_default
 unfolding number
-returns c = rw (number, sym c.is_up_to.ensures, c.if-is_up_to.false)
+returns-in_default c = rw (number, not_one c.args.most c.args.content.now (λ e. omega arith)) (sym none_told)
+
+pub returns-in_default-2 : goal.returns-in_default-2
+unfolding number
+returns-in_default-2 c = rw (number, above c.args.most c.args.content.now (omega arith)) (sym none_told)
+
+pub returns-in_default-3 : goal.returns-in_default-3
+unfolding number
+returns-in_default-3 c = rw (number, not_one c.args.most c.args.content.now (λ e. omega arith)) (sym none_told)

@@ -1,26 +1,26 @@
 -- `crmf::grammar::value::rule_detail` meets its contract: an empty validity and a list beside action 0 have details of their own, and all else has the
 -- same. Assumes nothing.
 use mathlib.Core.Path.{sym, ◌∙◌}
-use borrow.Author.Tests.{eqb-true, eq-eqb}
-use Rattle.crmf.specs.meaning.Value.{some_forwards, never, rule_detail}
+use native.Mathlib.Omega.{arith}
+use Rattle.crmf.specs.meaning.Value.{is_empty, some_forwards, never, rule_detail}
 use Rattle.crmf.specs.steps.grammar.Packed.{judge_code}
 use Rattle.crmf.proofs.theorems.lines.JudgeCodes.{same_rule, other_detail}
-use Rattle.crmf.proofs.theorems.values.ValueRules.{both}
 use Rattle.crmf.proofs.grammar.value.rule_detail.Goals as goal
 
-pub returns-then-code-eq-NEVER : goal.returns-then-code-eq-NEVER
+-- the list beside an action that allows none
+pub returns-in-10 : goal.returns-in-10
 unfolding judge_code
-returns-then-code-eq-NEVER c x e = rw (same_rule x never (e ∙ c.if-code-eq-NEVER.true))
+returns-in-10 c x e = rw (same_rule x never (e ∙ c.in-10.is))
 
-pub returns-then-code-is_empty : goal.returns-then-code-is_empty
-unfolding judge_code
-returns-then-code-is_empty c x e =
-    let p = both _ _ c.if-code-is_empty.true in
-    rw (same_rule x some_forwards (e ∙ eqb-true _ _ p.0), rule_detail, sym c.is_empty.ensures ∙ p.1)
+-- a validity, empty or not
+pub returns-in-9 : goal.returns-in-9
+unfolding judge_code is_empty
+returns-in-9 c x e = rw (same_rule x some_forwards (e ∙ c.in-9.is), rule_detail, sym c.is_empty.ensures ∙ c.if-is_empty.true)
 
-pub returns : goal.returns
+pub returns-in_default : goal.returns-in_default
+unfolding judge_code is_empty
+returns-in_default c x e = rw (same_rule x some_forwards (e ∙ c.in-9.is), rule_detail, sym c.is_empty.ensures ∙ c.if-is_empty.false)
+
+pub returns-in_default-2 : goal.returns-in_default-2
 unfolding judge_code
-returns c x e =
-    other_detail x _
-    (λ q. sym c.is_empty.ensures ∙ rw (eq-eqb _ _ (sym e ∙ q)) at c.if-code-is_empty.false)
-    (λ q. c.if-code-eq-NEVER.false (sym e ∙ q))
+returns-in_default-2 c x e = other_detail x _ (λ q. absurd (omega arith)) (λ q. omega arith)

@@ -9,6 +9,7 @@ use lib.Dec.{eqb, ltb, lit≤}
 use lib.ListN.{get_or}
 use Rattle.der.specs.steps.Order.{closes}
 use Rattle.der.proofs.Laws.{holds_integer, holds_bit_string, holds_object_identifier, holds_utf8}
+use Rattle.std.specs.Prelude.{Option, Some}
 use Rattle.crmf.specs.declared.recognise.step.Visit.{Visit}
 use Rattle.crmf.specs.declared.recognise.step.Visit.TheVariants.{Skip, Descend}
 use Rattle.crmf.specs.steps.grammar.Codes as codes
@@ -56,7 +57,7 @@ module _ (c : After-action_of) where
   -- an element that is a container, whose content may have been checked
   passed : (k whole a : ℕ) → word ≡ get_or packed k 0 → c.action_of.result ≡ a → eqb a codes.take_cert_req_id ≡ false → eqb a codes.take_rdn ≡ false
       → named (line k).identifiers id ≡ true → (n : Name) → (action_of (line k) ≡ a → Opens k n) → (levels least : ℕ) → levels ≤ least + 1 → (r : Bool) → (r ≡ true → RowlessFrom (start n) levels content)
-      → (s : Visit) → s ≡ elim (ltb least left && r) [ true ↦ Skip c.next_of-next.result | false ↦ Descend c.next_of-next.result ]
+      → (s : Option Visit) → s ≡ elim (ltb least left && r) [ true ↦ Some (Skip c.next_of-next.result) | false ↦ Some (Descend c.next_of-next.result) ]
       → VisitJustified c.args.edition k whole left id content s
   passed k whole a e is other plain fits n line-opens levels least enough r checked s same =
       let acts = action k a e is in

@@ -1,12 +1,13 @@
--- `crmf::rows::agree::agree` meets its contract: the rows of the list of elements from 0 to the input's end are the input's. Assumes nothing.
-use native.Mathlib.Omega.{arith}
-use Rattle.crmf.proofs.theorems.rows.Comparing.{agree_long, agree_rows}
+-- `crmf::rows::agree::agree` meets its contract: the batch's rows are compared until one differs. Assumes nothing.
+use mathlib.Core.List.{[]}
+use mathlib.Core.Path.{◌∙◌}
+use Rattle.crmf.specs.steps.rows.Agree.{draft_rows}
+use Rattle.crmf.specs.steps.rows.Fill.{rows_of_input}
+use Rattle.crmf.proofs.theorems.rows.Comparing.{took_passed, agree_rows}
 use Rattle.crmf.proofs.rows.agree.agree.Goals as goal
-
-pub returns-then-bytes-gt-LONGEST : goal.returns-then-bytes-gt-LONGEST
-returns-then-bytes-gt-LONGEST c = let a = c.args in agree_long a.in_place a.draft.now a.bytes.now c.if-bytes-gt-LONGEST.true
 
 pub returns : goal.returns
 returns c =
     let a = c.args in
-    agree_rows a.in_place a.draft.now a.bytes.now (omega (arith, c.if-bytes-gt-LONGEST.false)) c.list.result c.list.ensures.same
+    let rows = rows_of_input a.bytes.now in
+    c.eq.ensures ∙ agree_rows a.in_place a.draft.now rows c.walk.result (took_passed a.in_place (draft_rows a.draft.now) 0 rows [] c.walk.result c.walk.new.out c.walk.ensures)

@@ -3,7 +3,8 @@ use Prim.Native.Nat.{ℕ}
 use lib.Dec.{eqb}
 use mathlib.Core.Path.{sym, ap₂, ◌∙◌}
 use mathlib.Core.Bool.{◌&&◌}
-use Rattle.crmf.specs.steps.rows.Agree.{row_from, entry_row}
+use Rattle.crmf.specs.steps.rows.Agree.{row_from}
+use Rattle.crmf.specs.steps.rows.Fill.{entry_row}
 use Rattle.crmf.proofs.theorems.rows.Comparing.{other_kind, other_parent, same_places, same_container, same_leaf}
 use Rattle.crmf.proofs.rows.agree.agrees.Goals as goal
 use Rattle.crmf.proofs.rows.agree.agrees.Goals.{After-container, After-header_length, Else-container, Else-draft-at, Else-draft-at-2, Else-in_place, Then-in_place}

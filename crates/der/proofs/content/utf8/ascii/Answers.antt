@@ -1,17 +1,19 @@
--- `der::content::utf8::ascii` meets its contract. The invariant of both loops: every octet before the place is below 80. Assumes nothing.
-use mathlib.Core.Path.{refl}
+-- `der::content::utf8::ascii` meets its contract. The invariant of the loop: every octet before the place is below 80. Assumes nothing.
+use mathlib.Core.Path.{◌≡◌, refl, sym, ap, ◌∙◌}
 use native.Mathlib.Omega.{arith}
-use borrow.Author.Count.{below_none, below_more}
-use borrow.Author.Rules.{rules}
+use borrow.Author.Count.{below_none}
+use Rattle.std.proofs.Common.{rules, leb, drop}
+use Rattle.std.specs.List.{position}
 use Rattle.der.specs.meaning.Eights.{NextEightAscii}
-use Rattle.der.proofs.theorems.content.Eights.{ascii_begins, ascii_further, eight_exactly}
+use Rattle.der.proofs.theorems.content.Eights.{ascii_begins, ascii_further, eight_exactly, ascii_found, ascii_whole}
+use Rattle.der.proofs.theorems.lists.Parts.{take_from}
 use Rattle.der.proofs.content.utf8.ascii.Goals as goal
-use Rattle.der.proofs.content.utf8.ascii.Goals.{At-loop-i, At-loop-i-2, In-loop-i}
+use Rattle.der.proofs.content.utf8.ascii.Goals.{After-first_high, At-loop-i, In-loop-i}
 
 pub loop-i-init : goal.loop-i-init
 loop-i-init c = (search rules, below_none _)
 
--- a turn of the first loop: the next eight are below 80
+-- a turn of the loop: the next eight are below 80
 next_eight : (c : In-loop-i) →
     let loop = (goal.at.In-loop-i c).At-loop-i in
     NextEightAscii loop.args.content.now loop.loop-i.i
@@ -32,7 +34,16 @@ loop-i-preserved c =
     let content = loop.args.content.now in
     ((next_eight c).stand, ascii_further content loop.loop-i.invariant.1 (next_eight c))
 
-pub loop-i-2-preserved : goal.loop-i-2-preserved
-loop-i-2-preserved c =
-    let loop = (goal.at.loop-i-2-preserved c).At-loop-i-2 in
-    (search rules, below_more _ loop.loop-i-2.i loop.loop-i-2.invariant.1 c.if-content-i-ge128.false)
+-- the octets that are searched are those from the place on
+searched : (c : After-first_high) → c.first_high.result ≡ position (λ b. leb 0x80 b) (drop c.loop-i.i c.args.content.now)
+searched c = c.first_high.ensures ∙ ap (position (λ b. leb 0x80 b)) (take_from c.loop-i.i c.args.content.now)
+
+pub returns-in-Some : goal.returns-in-Some
+returns-in-Some c =
+    let inv = c.loop-i.invariant in
+    ascii_found c.args.content.now c.loop-i.i inv.0 inv.1 c.in-Some.further (sym (searched (goal.at.returns-in-Some c).After-first_high) ∙ c.in-Some.is)
+
+pub returns-in-None : goal.returns-in-None
+returns-in-None c =
+    let inv = c.loop-i.invariant in
+    ascii_whole c.args.content.now c.loop-i.i inv.0 inv.1 (sym (searched (goal.at.returns-in-None c).After-first_high) ∙ c.in-None.is)

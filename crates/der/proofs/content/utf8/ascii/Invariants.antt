@@ -1,4 +1,4 @@
--- `der::content::utf8::ascii` meets its contract. The invariant of both loops: every octet before the place is below 80. Assumes nothing.
+-- `der::content::utf8::ascii` meets its contract. The invariant of the loop: every octet before the place is below 80. Assumes nothing.
 use Prim.Native.Nat.{ℕ, ◌-◌, ◌≤◌, ◌<◌}
 use lib.ListN.{length, get_or}
 use Rattle.der.specs.meaning.Eights.{Ascii}
@@ -9,9 +9,3 @@ invariant-loop-i l = (l.i ≤ length l.content) × ((k : ℕ) → k < l.i → As
 
 abbrev pub decreases-loop-i : goal.decreases-loop-i
 decreases-loop-i l = length l.content - l.i
-
-abbrev pub invariant-loop-i-2 : goal.invariant-loop-i-2
-invariant-loop-i-2 l = (l.i ≤ length l.content) × ((k : ℕ) → k < l.i → Ascii (get_or l.content k 0))
-
-abbrev pub decreases-loop-i-2 : goal.decreases-loop-i-2
-decreases-loop-i-2 l = length l.content - l.i

@@ -10,35 +10,35 @@ use Rattle.der.proofs.content.utf8.lead.Goals.{In_default}
 
 pub returns-in-0 : goal.returns-in-0
 unfolding leads tails lowest highest
-returns-in-0 c b bs e = sym (begin b (e ∙ c.in-0.is) refl 1 3 bs)
+returns-in-0 c b bs e = rw c.new-tails.ensures (sym (begin b (e ∙ c.in-0.is) refl 1 3 bs))
 
 pub returns-in-4 : goal.returns-in-4
 unfolding leads tails lowest highest
-returns-in-4 c b bs e = sym (begin b (e ∙ c.in-4.is) refl 1 3 bs)
+returns-in-4 c b bs e = rw c.new-tails-in-4.ensures (sym (begin b (e ∙ c.in-4.is) refl 1 3 bs))
 
 pub returns-in-5 : goal.returns-in-5
 unfolding leads tails lowest highest
-returns-in-5 c b bs e = sym (begin b (e ∙ c.in-5.is) refl 1 3 bs)
+returns-in-5 c b bs e = rw c.new-tails-in-5.ensures (sym (begin b (e ∙ c.in-5.is) refl 1 3 bs))
 
 pub returns-in-6 : goal.returns-in-6
 unfolding leads tails lowest highest
-returns-in-6 c b bs e = sym (begin b (e ∙ c.in-6.is) refl 1 3 bs)
+returns-in-6 c b bs e = rw c.new-tails-in-6.ensures (sym (begin b (e ∙ c.in-6.is) refl 1 3 bs))
 
 pub returns-in-7 : goal.returns-in-7
 unfolding leads tails lowest highest
-returns-in-7 c b bs e = sym (begin b (e ∙ c.in-7.is) refl 1 3 bs)
+returns-in-7 c b bs e = rw c.new-tails-in-7.ensures (sym (begin b (e ∙ c.in-7.is) refl 1 3 bs))
 
 pub returns-in-8 : goal.returns-in-8
 unfolding leads tails lowest highest
-returns-in-8 c b bs e = sym (begin b (e ∙ c.in-8.is) refl 1 3 bs)
+returns-in-8 c b bs e = rw c.new-tails-in-8.ensures (sym (begin b (e ∙ c.in-8.is) refl 1 3 bs))
 
 pub returns-in-9 : goal.returns-in-9
 unfolding leads tails lowest highest
-returns-in-9 c b bs e = sym (begin b (e ∙ c.in-9.is) refl 1 3 bs)
+returns-in-9 c b bs e = rw c.new-tails-in-9.ensures (sym (begin b (e ∙ c.in-9.is) refl 1 3 bs))
 
 pub returns-in-10 : goal.returns-in-10
 unfolding leads tails lowest highest
-returns-in-10 c b bs e = sym (begin b (e ∙ c.in-10.is) refl 1 3 bs)
+returns-in-10 c b bs e = rw c.new-tails-in-10.ensures (sym (begin b (e ∙ c.in-10.is) refl 1 3 bs))
 
 -- no class from 4 to 10 is left, from the top down
 none : (c : In_default) → InRange 4 10 c.args.class → ⊥

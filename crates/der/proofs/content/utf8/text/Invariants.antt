@@ -6,7 +6,7 @@ use Rattle.der.proofs.theorems.content.Checked.{Checked}
 use Rattle.der.proofs.content.utf8.text.Given as goal
 
 abbrev pub invariant-loop-i : goal.invariant-loop-i
-invariant-loop-i l = Checked l.content l.i l.left l.low l.high
+invariant-loop-i l = Checked l.content l.i l.wanted.left l.wanted.low l.wanted.high
 
 abbrev pub decreases-loop-i : goal.decreases-loop-i
 decreases-loop-i l = length l.content - l.i

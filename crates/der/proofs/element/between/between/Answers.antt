@@ -7,9 +7,9 @@ use Rattle.der.proofs.element.between.between.Goals as goal
 pub returns-then-at-stop : goal.returns-then-at-stop
 returns-then-at-stop c =
     let a = c.args in
-    rw c.lesser-stop.ensures (lent_slice a.at a.end a.bytes.now (omega (arith, c.lesser-stop.ensures)))
+    rw c.min-stop.ensures (lent_slice a.at a.end a.bytes.now (omega (arith, c.min-stop.ensures)))
 
 pub returns-else-at-stop : goal.returns-else-at-stop
 returns-else-at-stop c =
     let a = c.args in
-    sym (slice_none a.at a.end a.bytes.now (omega (arith, c.lesser-stop.ensures)))
+    sym (slice_none a.at a.end a.bytes.now (omega (arith, c.min-stop.ensures)))

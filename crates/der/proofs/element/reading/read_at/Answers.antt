@@ -5,76 +5,63 @@ use mathlib.Core.Bool.{true, false}
 use mathlib.Core.List.{List}
 use native.Mathlib.Omega.{arith}
 use Prim.Native.Nat.{ℕ, ◌+◌, ◌≤◌}
+use Rattle.std.specs.Prelude.{Option, None, Some}
 use lib.ListN.{length, get_or}
 use lib.Seq.{slice}
 use Rattle.der.specs.declared.element.length.Span.{Span}
 use Rattle.der.specs.meaning.Bounds.{longest}
 use Rattle.der.specs.meaning.Identifier.{allowed}
-use Rattle.der.specs.steps.Span.{span_of}
+use Rattle.der.specs.steps.Span.{span_of, found_span}
 use Rattle.der.specs.steps.Reading.{nothing_at, read, reading_at}
-use Rattle.der.proofs.theorems.element.Spans.{head_refused}
 use Rattle.der.proofs.theorems.lists.Parts.{slice_size}
 use Rattle.der.proofs.theorems.reading.Readings.{read_at, read_at_long, read_stands, read_broken}
-use Rattle.der.proofs.theorems.element.Spans.{span_fits, span_stands, span_broken}
+use Rattle.der.proofs.theorems.element.Spans.{head_refused, span_stands, span_broken, found_none, found_some, found_one, found_fits}
 use Rattle.der.proofs.element.reading.read_at.Goals as goal
-use Rattle.der.proofs.element.reading.read_at.Goals.{then-x-ne0+else-is_allowed, else-x-ne0, After-is_allowed, After-measure-x, Start}
+use Rattle.der.proofs.element.reading.read_at.Goals.{in-Some+else-is_allowed, in_default, After-measure}
 
--- The span x of a part of the input, which is the octets bs from the place p on.
-module _ (p : ℕ) (bs part : List ℕ) (x : Span) (same : part ≡ bs) (found : x ≡ span_of part) where
-  -- it is the span of those octets
-  theirs : x ≡ span_of bs
-  theirs = found ∙ ap span_of same
+-- A part of the input, which is measured, and is the octets bs from the place p on.
+module _ (p : ℕ) (bs part : List ℕ) {r : Option Span} (same : part ≡ bs) (found : r ≡ found_span (span_of part)) where
+  -- it has the answer of those octets
+  theirs : r ≡ found_span (span_of bs)
+  theirs = found ∙ ap (λ (l : List ℕ). found_span (span_of l)) same
 
-  -- without it they are read as no element
-  lost : length bs ≤ longest → x.octets ≡ 0 → nothing_at (p + length part) ≡ read p bs
+  -- without a span they are read as no element
+  lost : length bs ≤ longest → r ≡ None → nothing_at (p + length part) ≡ read p bs
   lost short none =
-      let broken = span_broken bs short (ap (λ (y : Span). y.octets) (sym theirs) ∙ none) in
-      ap (λ (l : List ℕ). nothing_at (p + length l)) same ∙ sym (read_broken p bs broken)
+      ap (λ (l : List ℕ). nothing_at (p + length l)) same ∙ sym (read_broken p bs (span_broken bs short (found_none bs theirs none)))
 
-  module _ (one : x.octets ≡ 0 → ⊥) where
-    -- they have a span if the part does
-    some : (span_of bs).octets ≡ 0 → ⊥
-    some none = one (ap (λ (y : Span). y.octets) theirs ∙ none)
-
-    -- it and its content fit
-    fits : (2 ≤ x.octets) × (x.octets + x.length ≤ length bs)
-    fits = rw theirs (span_fits bs some)
-
+  module _ {x : Span} (is : r ≡ Some x) where
     -- after an identifier that is not allowed no element is read
     wrong : allowed (get_or part 0 0) ≡ false → nothing_at (p + length part) ≡ read p bs
     wrong e =
         ap (λ (l : List ℕ). nothing_at (p + length l)) same
-        ∙ sym (read_broken p bs (head_refused bs (omega (arith, fits)) (rw same at e)))
+        ∙ sym (read_broken p bs (head_refused bs (omega (arith, found_fits bs theirs is)) (rw same at e)))
 
-    -- after one that is allowed it gives the element
+    -- after one that is allowed the span gives the element
     right : allowed (get_or part 0 0) ≡ true → record { identifier = get_or part 0 0; content = p + x.octets; end = p + x.octets + x.length } ≡ read p bs
-    right e = rw (theirs, same) (sym (read_stands p bs (get_or bs 0 0) (span_of bs).octets (span_of bs).length (span_stands bs some (rw same at e))))
+    right e =
+        rw (found_some bs theirs is, same)
+        (sym (read_stands p bs (get_or bs 0 0) (span_of bs).octets (span_of bs).length (span_stands bs (found_one bs theirs is) (rw same at e))))
 
--- the octets that the element is read from
-abbrev octets : Start → List ℕ
-octets c = slice c.args.at c.args.end c.args.bytes.now
+-- src/element/reading.rt:25:9
 
 -- The part is measured.
-module _ (c : After-measure-x) where
-  abbrev start : Start
-  start = (goal.at.After-measure-x c).Start
-
-  abbrev lent : List ℕ
-  lent = c.between-inside.result.now
+module _ (c : After-measure) where
+  -- the octets that the element is read from
+  abbrev octets : List ℕ
+  octets = slice c.args.at c.args.end c.args.bytes.now
 
   -- by places the element is read from those octets
-  by_places : reading_at start.args.bytes.now start.args.at start.args.end ≡ read start.args.at (octets start)
-  by_places = read_at start.args.bytes.now start.args.at start.args.end c.if-bytes-gt-LONGEST.false
+  by_places : reading_at c.args.bytes.now c.args.at c.args.end ≡ read c.args.at octets
+  by_places = read_at c.args.bytes.now c.args.at c.args.end c.if-bytes-gt-LONGEST.false
 
   -- a span and its content end within the input, which is not too long
-  within : (c.measure-x.result.octets ≡ 0 → ⊥) → (2 ≤ c.measure-x.result.octets)
-      × (c.measure-x.result.octets + c.measure-x.result.length ≤ length (octets start))
-      × (start.args.at + (c.measure-x.result.octets + c.measure-x.result.length) ≤ longest)
-  within one =
+  within : {x : Span} → c.measure.result ≡ Some x → (2 ≤ x.octets) × (x.octets + x.length ≤ length octets) × (c.args.at + (x.octets + x.length) ≤ longest)
+  within is =
       omega (
         arith,
-        fits start.args.at (octets start) lent c.measure-x.result c.between-inside.ensures c.measure-x.ensures one,
-        slice_size start.args.at start.args.end start.args.bytes.now,
+        found_fits octets (theirs c.args.at octets c.between-inside.result.now c.between-inside.ensures c.measure.ensures) is,
+        slice_size c.args.at c.args.end c.args.bytes.now,
         c.if-bytes-gt-LONGEST.false,
       )
 
@@ -84,47 +71,42 @@ returns-then-bytes-gt-LONGEST c =
     c.nothing_at.ensures ∙ sym (read_at_long a.bytes.now a.at a.end c.if-bytes-gt-LONGEST.true)
 
 pub bounds-inside-0 : goal.bounds-inside-0
-bounds-inside-0 c =
-    let d = (goal.at.bounds-inside-0 c).After-measure-x in
-    omega (arith, within d c.if-x-ne0.true, ap length d.between-inside.ensures)
+bounds-inside-0 c = omega (arith, within (goal.at.bounds-inside-0 c).After-measure c.in-Some.is, ap length c.between-inside.ensures)
 
 pub overflow_add-result : goal.overflow_add-result
-overflow_add-result c = omega (arith, within (goal.at.overflow_add-result c).After-measure-x c.if-x-ne0.true)
+overflow_add-result c = omega (arith, within (goal.at.overflow_add-result c).After-measure c.in-Some.is)
 
 pub overflow_add-result-then-is_allowed : goal.overflow_add-result-then-is_allowed
-overflow_add-result-then-is_allowed c = omega (arith, within (goal.at.overflow_add-result-then-is_allowed c).After-measure-x c.if-x-ne0.true)
+overflow_add-result-then-is_allowed c = omega (arith, within (goal.at.overflow_add-result-then-is_allowed c).After-measure c.in-Some.is)
 
 pub overflow_add-result-then-is_allowed-2 : goal.overflow_add-result-then-is_allowed-2
-overflow_add-result-then-is_allowed-2 c = omega (arith, within (goal.at.overflow_add-result-then-is_allowed-2 c).After-measure-x c.if-x-ne0.true)
+overflow_add-result-then-is_allowed-2 c = omega (arith, within (goal.at.overflow_add-result-then-is_allowed-2 c).After-measure c.in-Some.is)
 
 pub returns-then-is_allowed : goal.returns-then-is_allowed
 returns-then-is_allowed c =
-    let e = (goal.at.returns-then-is_allowed c).After-is_allowed in
-    let d = (goal.at.After-is_allowed e).After-measure-x in
-    right (start d).args.at (octets (start d)) (lent d) d.measure-x.result d.between-inside.ensures d.measure-x.ensures e.if-x-ne0.true
-    (sym e.is_allowed.ensures ∙ c.if-is_allowed.true)
+    let d = (goal.at.returns-then-is_allowed c).After-measure in
+    right c.args.at (octets d) c.between-inside.result.now c.between-inside.ensures c.measure.ensures c.in-Some.is (sym c.is_allowed.ensures ∙ c.if-is_allowed.true)
     ∙ sym (by_places d)
 
 pub overflow_add-at : goal.overflow_add-at
 overflow_add-at c =
-    let d = (goal.at.overflow_add-at c).After-measure-x in
     omega (
       arith,
-      ap length d.between-inside.ensures,
-      slice_size (start d).args.at (start d).args.end (start d).args.bytes.now,
-      (start d).ranges.at,
-      d.if-bytes-gt-LONGEST.false,
+      ap length c.between-inside.ensures,
+      slice_size c.args.at c.args.end c.args.bytes.now,
+      c.ranges.at,
+      c.if-bytes-gt-LONGEST.false,
     )
 
 pub returns : goal.returns
 returns c =
-    let d = (goal.at.returns c).After-measure-x in
-    let a = (start d).args in
+    let d = (goal.at.returns c).After-measure in
+    let a = c.args in
     c.nothing_at-2.ensures
-    ∙ elim c.if-x-ne0.branch [
-      | then-x-ne0+else-is_allowed w ↦ wrong a.at (octets (start d)) (lent d) d.measure-x.result d.between-inside.ensures d.measure-x.ensures w.if-x-ne0.true
+    ∙ elim c.match-measure.branch [
+      | in-Some+else-is_allowed w ↦ wrong a.at (octets d) c.between-inside.result.now c.between-inside.ensures c.measure.ensures w.in-Some.is
           (sym w.is_allowed.ensures ∙ w.if-is_allowed.false)
-      | else-x-ne0 w ↦ lost a.at (octets (start d)) (lent d) d.measure-x.result d.between-inside.ensures d.measure-x.ensures
-          (omega (arith, slice_size a.at a.end a.bytes.now, d.if-bytes-gt-LONGEST.false)) w.if-x-ne0.false
+      | in_default w ↦ lost a.at (octets d) c.between-inside.result.now c.between-inside.ensures c.measure.ensures
+          (omega (arith, slice_size a.at a.end a.bytes.now, c.if-bytes-gt-LONGEST.false)) w.in_default.is
     ]
     ∙ sym (by_places d)

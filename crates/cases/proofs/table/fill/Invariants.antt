@@ -1,6 +1,0 @@
--- What `cases::table::fill` keeps: the numbers that the loop has passed are as beforehand. Assumes nothing.
-use Rattle.cases.specs.Table.{Untouched}
-use Rattle.cases.proofs.table.fill.Given as goal
-
-abbrev pub invariant-loop-i : goal.invariant-loop-i
-invariant-loop-i l = Untouched l.table 0 l.i
