@@ -15,6 +15,7 @@ fn leap(year: usize) -> bool
 const MONTH_DAYS: [u8; 12] = [31, 28, 31, 30, 31, 30, 31, 31, 30, 31, 30, 31];
 
 // The days of a month of a year, if the number is a month's.
+#[inline(always)]
 pub(crate) fn days_in(year: usize, month: usize) -> Option<usize>
     ensures { result ≡ as_option (calendar.days_in year month) }
 {
@@ -49,6 +50,7 @@ fn days_before_month(year: usize, month: usize) -> usize
 }
 
 // The days before a day of a year, from 0000-01-01 on.
+#[inline(always)]
 pub(crate) fn days_before(year: usize, month: usize, day: usize) -> usize
     requires { (year ≤ 9999) × (month ≤ 12) × (1 ≤ day) × (day ≤ 31) }
     ensures { (result ≡ calendar.days_before_year year + calendar.days_before_month year month + (day - 1)) × (result ≤ 3660000) }

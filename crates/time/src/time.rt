@@ -28,11 +28,13 @@ fn moment_at(year: usize, content: &[u8], i: usize) -> Option<usize>
     requires { (year ≤ 9999) × (i + 10 < length content.now) }
     ensures { result ≡ as_option (bind (time.date_at year content.now i) moment) }
 {
-    let month = pair_at(content, i)?;
-    let day = pair_at(content, i + 2)?;
-    let hour = pair_at(content, i + 4)?;
-    let minute = pair_at(content, i + 6)?;
-    let second = pair_at(content, i + 8)?;
+    // All parts are read before the first is asked for, so that one test asks for all.
+    let month = pair_at(content, i);
+    let day = pair_at(content, i + 2);
+    let hour = pair_at(content, i + 4);
+    let minute = pair_at(content, i + 6);
+    let second = pair_at(content, i + 8);
+    let (month, day, hour, minute, second) = (month?, day?, hour?, minute?, second?);
     let is_day = (1 <= day) & (day <= calendar::days_in(year, month)?);
     if is_day & (hour <= 23) & (minute <= 59) & (second <= 59) & (content[i + 10] == b'Z') {
         let days = calendar::days_before(year, month, day);

@@ -15,42 +15,42 @@ use Rattle.time.proofs.time.moment_at.Goals.{In_ok-month, In_ok-day, In_ok-hour,
 
 -- the parts are there
 month : (c : In_ok-month) → pair_at c.args.content.now c.args.i ≡ some c.in_ok-month.month
-month c = told_some _ _ _ c.pair_at.ensures c.in_ok-month.was
+month c = told_some _ _ _ c.pair_at-month.ensures c.in_ok-month.was
 
 pub returns-in_err-month : goal.returns-in_err-month
 unfolding as_option date_at bind
-returns-in_err-month c = c.from_residual.ensures ∙ rw (date_at, told_none _ _ c.pair_at.ensures c.in_err-month.was)
+returns-in_err-month c = c.from_residual.ensures ∙ rw (date_at, told_none _ _ c.pair_at-month.ensures c.in_err-month.was)
 
 day : (c : In_ok-day) → pair_at c.args.content.now (c.args.i + 2) ≡ some c.in_ok-day.day
-day c = told_some _ _ _ c.pair_at-2.ensures c.in_ok-day.was
+day c = told_some _ _ _ c.pair_at-day.ensures c.in_ok-day.was
 
 hour : (c : In_ok-hour) → pair_at c.args.content.now (c.args.i + 4) ≡ some c.in_ok-hour.hour
-hour c = told_some _ _ _ c.pair_at-3.ensures c.in_ok-hour.was
+hour c = told_some _ _ _ c.pair_at-hour.ensures c.in_ok-hour.was
 
 minute : (c : In_ok-minute) → pair_at c.args.content.now (c.args.i + 6) ≡ some c.in_ok-minute.minute
-minute c = told_some _ _ _ c.pair_at-4.ensures c.in_ok-minute.was
+minute c = told_some _ _ _ c.pair_at-minute.ensures c.in_ok-minute.was
 
 second : (c : In_ok-second) → pair_at c.args.content.now (c.args.i + 8) ≡ some c.in_ok-second.second
-second c = told_some _ _ _ c.pair_at-5.ensures c.in_ok-second.was
+second c = told_some _ _ _ c.pair_at-second.ensures c.in_ok-second.was
 
 pub returns-in_err-day : goal.returns-in_err-day
 unfolding as_option date_at bind
 returns-in_err-day c =
     let at = goal.at.returns-in_err-day c in
-    c.from_residual-in_err-day.ensures ∙ rw (date_at, month at.In_ok-month, told_none _ _ c.pair_at-2.ensures c.in_err-day.was)
+    c.from_residual-in_err-day.ensures ∙ rw (date_at, month at.In_ok-month, told_none _ _ c.pair_at-day.ensures c.in_err-day.was)
 
 pub returns-in_err-hour : goal.returns-in_err-hour
 unfolding as_option date_at bind
 returns-in_err-hour c =
     let at = goal.at.returns-in_err-hour c in
-    c.from_residual-in_err-hour.ensures ∙ rw (date_at, month at.In_ok-month, day at.In_ok-day, told_none _ _ c.pair_at-3.ensures c.in_err-hour.was)
+    c.from_residual-in_err-hour.ensures ∙ rw (date_at, month at.In_ok-month, day at.In_ok-day, told_none _ _ c.pair_at-hour.ensures c.in_err-hour.was)
 
 pub returns-in_err-minute : goal.returns-in_err-minute
 unfolding as_option date_at bind
 returns-in_err-minute c =
     let at = goal.at.returns-in_err-minute c in
     c.from_residual-in_err-minute.ensures
-    ∙ rw (date_at, month at.In_ok-month, day at.In_ok-day, hour at.In_ok-hour, told_none _ _ c.pair_at-4.ensures c.in_err-minute.was)
+    ∙ rw (date_at, month at.In_ok-month, day at.In_ok-day, hour at.In_ok-hour, told_none _ _ c.pair_at-minute.ensures c.in_err-minute.was)
 
 pub returns-in_err-second : goal.returns-in_err-second
 unfolding as_option date_at bind
@@ -63,7 +63,7 @@ returns-in_err-second c =
       day at.In_ok-day,
       hour at.In_ok-hour,
       minute at.In_ok-minute,
-      told_none _ _ c.pair_at-5.ensures c.in_err-second.was,
+      told_none _ _ c.pair_at-second.ensures c.in_err-second.was,
     )
 
 -- the parts make the date, if Z comes after them
