@@ -3,7 +3,7 @@ ghost use Rattle.std.specs.Prelude.{ℕ, ◌≡◌, true, IfOk, OnErr, OnOk};
 ghost use Rattle.std.specs.Io.KnownBytes.{Keeps};
 ghost use Rattle.std.specs.List.{fold};
 ghost use Rattle.cases.specs.Input.{opened, taken, Found, Left, Next, AtEnd, IsRun, ReadsRun};
-ghost use Rattle.cases.specs.Lines.{ReadsLine, JudgesLines};
+ghost use Rattle.cases.specs.Lines.{ReadsLine, JudgesLines, ChangesLines};
 
 use std::io;
 use std::io::Read;
@@ -135,6 +135,26 @@ pub fn for_each_line<R: Read, T: Reading, F: FnMut(&T) -> io::Result<()>>(
     let mut input = Input::open();
     for turn in 0..usize::MAX {
         if !input.line(reader, line)? {
+            return Ok(());
+        }
+        judge(line)?;
+    }
+    Ok(())
+}
+
+// The same with a judge that may change what a line is read into, which begins anew before the next line.
+pub fn for_each_line_mut<R: Read, T: Reading, F: FnMut(&mut T) -> io::Result<()>>(
+    reader: &mut R,
+    line: &mut T,
+    mut judge: F,
+) -> io::Result<()>
+    requires { F.IsAlwaysCallable judge }
+    ensures { OnOk result ((last : F) × ChangesLines F.FnMut T.anew T.after judge last) }
+{
+    let mut input = Input::open();
+    for turn in 0..usize::MAX {
+        let whole = input.line(reader, line)?;
+        if !whole {
             return Ok(());
         }
         judge(line)?;

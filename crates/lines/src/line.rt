@@ -12,9 +12,9 @@ use cases::table::NUMBERS;
 #[derive(Clone, Copy)]
 pub struct Line {
     pub heading: Heading,
-    // No Vec: reading a character can't fail.
-    list: [usize; NUMBERS],
-    case: Case,
+    // No Vec: reading a character can't fail. A program that has read the list may use its room as a table.
+    pub list: [usize; NUMBERS],
+    pub case: Case,
 }
 
 impl Line {
