@@ -1,9 +1,9 @@
 // The characters of a program's standard input, one after the other.
-ghost use Rattle.std.specs.Prelude.{ℕ, ◌≡◌, true, IfOk, OnErr, OnOk};
+ghost use Rattle.std.specs.Prelude.{ℕ, ◌≡◌, true, false, IfOk, OnErr, OnOk};
 ghost use Rattle.std.specs.Io.KnownBytes.{Keeps};
 ghost use Rattle.std.specs.List.{fold};
 ghost use Rattle.cases.specs.Input.{opened, taken, Found, Left, Next, AtEnd, IsRun, ReadsRun};
-ghost use Rattle.cases.specs.Lines.{ReadsLine, JudgesLines, ChangesLines};
+ghost use Rattle.cases.specs.Lines.{ReadsOn, ReadsLine, JudgesLines, ChangesLines};
 
 use std::io;
 use std::io::Read;
@@ -67,9 +67,12 @@ impl Input {
         Ok(self.take())
     }
 
-    // Reads the next line, and answers whether there was one; a line that has no end is none.
+    // Reads the next line, and answers whether there was one; a line that has no end is none. Of such a line, and if an error ends it, the characters
+    // before have been read.
     pub fn line<R: Read, T: Reading>(&mut self, reader: &mut R, line: &mut T) -> io::Result<bool>
-        ensures { IfOk result (λ whole. whole ≡ true → ReadsLine T.after (T.anew line.old) line.new) }
+        ensures whole { IfOk result (λ whole. whole ≡ true → ReadsLine T.after (T.anew line.old) line.new) }
+        ensures rest { IfOk result (λ whole. whole ≡ false → ReadsOn T.after (T.anew line.old) line.new) }
+        ensures failed { OnErr result (ReadsOn T.after (T.anew line.old) line.new) }
     {
         line.restart();
         // A count bounds this loop and the one below, since every loop is proved to end; no input has as many characters.

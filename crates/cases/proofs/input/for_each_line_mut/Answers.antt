@@ -10,7 +10,7 @@ loop-turn-preserved g c =
       (
         done.0 ++ (c.line.new.line ∷ []),
         FoldsTo-push _ _ done.0 _ c.line.new.line _ done.1 (
-          (c.loop-turn.line, c.in_ok-whole.ensures (search rules)),
+          (c.loop-turn.line, c.in_ok-whole.ensures.whole (search rules)),
           (_, record { shown = _; shows = refl; left = _; called = c.in_ok-judge.ensures; leaves = refl }),
         ),
       ),
