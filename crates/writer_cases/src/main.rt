@@ -50,8 +50,7 @@ fn prepare(output: &mut [u8; OUTPUT]) {
 
 // Whether the output's octets from a place on are as they were beforehand.
 fn is_untouched(output: &[u8; OUTPUT], from: usize) -> bool {
-    let mut octets = output.iter().enumerate().skip(from);
-    octets.all(|(i, octet)| *octet == before(i))
+    (from..OUTPUT).all(|i| output[i] == before(i))
 }
 
 // The sum of two numbers by the modulus.
