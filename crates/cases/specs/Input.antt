@@ -1,5 +1,6 @@
 -- The characters of a program's standard input, one after the other. Assumes nothing.
 use Rattle.std.specs.Prelude.{ℕ, zero, suc, ◌+◌, ◌≤◌, ◌<◌, ◌≡◌, Option, Some, None, List, length, get_or, replicate}
+use Rattle.std.specs.List.{fold, between}
 use Rattle.cases.specs.declared.input.Input.{Input}
 
 -- how many characters of the input are read at a time
@@ -36,3 +37,15 @@ pub record Next (before after : Input) (c : Option ℕ) : Type 0 where
 -- no character of the text is left, and it stays so
 abbrev pub AtEnd : Input → Input → Type 0
 AtEnd before after = (Left before → ⊥) × (after.read ≡ before.read) × (after.at ≡ before.at)
+
+-- The characters from the next one up to a place are left, and none of them ends a line; if there are none, the place is that of the next one.
+pub record IsRun (input : Input) (end : ℕ) : Type 0 where
+  pub ascends : input.at ≤ end
+  pub inside : input.at < end → (end ≤ input.read) × (end ≤ most)
+  pub no_end : (i : ℕ) → input.at ≤ i → i < end → get_or input.text i 0 ≡ 0x0A → ⊥
+
+-- such characters are read one after the other, and what follows them is next
+pub record ReadsRun {S : Type 0} (after : S → ℕ → S) (before : Input) (start : S) (next : Input) (line : S) : Type 0 where
+  pub run : IsRun before next.at
+  pub read : line ≡ fold after start (between before.at next.at before.text)
+  pub kept : (next.text ≡ before.text) × (next.read ≡ before.read)

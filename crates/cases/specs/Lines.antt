@@ -1,7 +1,7 @@
 -- A line of an input, and what it is read into. Assumes nothing.
 use Rattle.std.specs.Prelude.{ℕ, ◌≡◌, List, Result, Ok}
-use Rattle.std.specs.Borrow.{Bor}
-use Rattle.std.specs.Fn.{Mut, CalledAt}
+use Rattle.std.specs.Borrow.{Bor, MutBor}
+use Rattle.std.specs.Fn.{Mut, CalledAt, CalledAtMut}
 use Rattle.std.specs.List.{All, FoldsTo, fold}
 
 -- what characters that end no line leave of a beginning, read one after the other
@@ -19,3 +19,12 @@ JudgesLine {S} judging anew after judge line next = ((old : S) × ReadsLine afte
 -- and so are lines, one after the other
 abbrev pub JudgesLines : {S F E : Type 0} → Mut F (Bor S × Unit {0}) (Result (Unit {0}) E) → (S → S) → (S → ℕ → S) → F → F → Type 0
 JudgesLines {S} judging anew after judge last = (lines : List S) × FoldsTo (JudgesLine judging anew after) judge lines last
+
+-- The same of a judge that may change what a line is read into: whatever it leaves begins anew before the next line.
+abbrev pub ChangesLine : {S F E : Type 0} → Mut F (MutBor S × Unit {0}) (Result (Unit {0}) E × (MutBor S × Unit {0})) → (S → S) → (S → ℕ → S) → F → S → F
+    → Type 0
+ChangesLine {S} judging anew after judge line next = ((old : S) × ReadsLine after (anew old) line) × ((left : S) × CalledAtMut judging judge line (Ok tt) next left)
+
+abbrev pub ChangesLines : {S F E : Type 0} → Mut F (MutBor S × Unit {0}) (Result (Unit {0}) E × (MutBor S × Unit {0})) → (S → S) → (S → ℕ → S) → F → F
+    → Type 0
+ChangesLines {S} judging anew after judge last = (lines : List S) × FoldsTo (ChangesLine judging anew after) judge lines last

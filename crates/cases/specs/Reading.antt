@@ -3,6 +3,7 @@ use Rattle.std.specs.Prelude.{ℕ, zero, suc, ◌+◌, ◌-◌, ◌*◌, ◌%◌
 use Rattle.std.specs.Option.{unwrap_or}
 use Rattle.cases.specs.declared.case.Filled.{Filled}
 use Rattle.cases.specs.declared.case.Case.{Case}
+use Rattle.cases.specs.declared.case.Progress.{Progress}
 
 -- how many octets the room holds
 abbrev pub size : ℕ
@@ -34,6 +35,10 @@ repeated (suc times) i n k = repeated times i n (pushed_part n i k)
 abbrev pub token_at : Filled → Case
 token_at k = record { filled = k; token = k.octets; high = None; times = None }
 
+-- a case that has been read so far, in a room
+abbrev pub case_of : Progress → List ℕ → Case
+case_of p room = record { filled = filled room p.octets; token = p.token; high = p.high; times = p.times }
+
 -- a case of which nothing is read yet, and one that begins anew in the room of another
 unfoldable pub started : Case
 started = token_at (filled (replicate size 0) 0)
@@ -60,6 +65,9 @@ largest = 18446744073709551615
 -- a case with other octets and another digit that waits for a second; and one with another count
 abbrev pub with_octets : Case → Filled → Option ℕ → Case
 with_octets c k high = record { filled = k; token = c.token; high = high; times = c.times }
+
+abbrev pub with_filled : Case → Filled → Case
+with_filled c k = with_octets c k c.high
 
 abbrev pub with_count : Case → ℕ → Case
 with_count c n = record { filled = c.filled; token = c.token; high = c.high; times = Some n }

@@ -1,8 +1,9 @@
 // The characters of a program's standard input, one after the other.
-ghost use Rattle.std.specs.Prelude.{ℕ, ◌≡◌, true, IfOk, OnErr, OnOk};
+ghost use Rattle.std.specs.Prelude.{ℕ, ◌≡◌, true, false, IfOk, OnErr, OnOk};
 ghost use Rattle.std.specs.Io.KnownBytes.{Keeps};
-ghost use Rattle.cases.specs.Input.{opened, taken, Found, Left, Next, AtEnd};
-ghost use Rattle.cases.specs.Lines.{ReadsLine, JudgesLines};
+ghost use Rattle.std.specs.List.{fold};
+ghost use Rattle.cases.specs.Input.{opened, taken, Found, Left, Next, AtEnd, IsRun, ReadsRun};
+ghost use Rattle.cases.specs.Lines.{ReadsOn, ReadsLine, JudgesLines, ChangesLines};
 
 use std::io;
 use std::io::Read;
@@ -23,11 +24,15 @@ pub trait Reading {
     // Reads the next character; the line's end is one too.
     fn read(&mut self, c: u8)
         ensures { self.new ≡ after self.old c };
+
+    // Reads characters, one after the other.
+    fn read_all(&mut self, text: &[u8])
+        ensures { self.new ≡ fold after self.old text.now };
 }
 
 // The text that was read last, and how far it has been read.
 // No Vec or BufReader: their memory is asked for, and `open` can't fail.
-#[derive(Drop)]
+#[derive(Clone, Copy)]
 pub struct Input {
     text: [u8; TEXT],
     // How many characters the text has, and the place of the next one.
@@ -62,13 +67,17 @@ impl Input {
         Ok(self.take())
     }
 
-    // Reads the next line, and answers whether there was one; a line that has no end is none.
+    // Reads the next line, and answers whether there was one; a line that has no end is none. Of such a line, and if an error ends it, the characters
+    // before have been read.
     pub fn line<R: Read, T: Reading>(&mut self, reader: &mut R, line: &mut T) -> io::Result<bool>
-        ensures { IfOk result (λ whole. whole ≡ true → ReadsLine T.after (T.anew line.old) line.new) }
+        ensures whole { IfOk result (λ whole. whole ≡ true → ReadsLine T.after (T.anew line.old) line.new) }
+        ensures rest { IfOk result (λ whole. whole ≡ false → ReadsOn T.after (T.anew line.old) line.new) }
+        ensures failed { OnErr result (ReadsOn T.after (T.anew line.old) line.new) }
     {
         line.restart();
         // A count bounds this loop and the one below, since every loop is proved to end; no input has as many characters.
         for turn in 0..usize::MAX {
+            self.read_run(line);
             let Some(c) = self.next(reader)? else {
                 return Ok(false);
             };
@@ -78,6 +87,29 @@ impl Input {
             }
         }
         Ok(false)
+    }
+
+    // Reads the characters of the text that are left before a line's end, all in one call.
+    fn read_run<T: Reading>(&mut self, line: &mut T)
+        ensures { ReadsRun T.after self.old line.old self.new line.new }
+    {
+        let end = self.run_end();
+        if self.at < end {
+            line.read_all(&self.text[self.at..end]);
+            self.at = end;
+        }
+    }
+
+    // The place of the next line's end in the text, or of the text's end.
+    fn run_end(&self) -> usize
+        ensures { IsRun self.now result }
+    {
+        let last = self.read.min(TEXT);
+        let mut end = self.at;
+        while end < last && self.text[end] != b'\n' {
+            end += 1;
+        }
+        end
     }
 
     // The next character of the text, if one is left.
@@ -106,6 +138,26 @@ pub fn for_each_line<R: Read, T: Reading, F: FnMut(&T) -> io::Result<()>>(
     let mut input = Input::open();
     for turn in 0..usize::MAX {
         if !input.line(reader, line)? {
+            return Ok(());
+        }
+        judge(line)?;
+    }
+    Ok(())
+}
+
+// The same with a judge that may change what a line is read into, which begins anew before the next line.
+pub fn for_each_line_mut<R: Read, T: Reading, F: FnMut(&mut T) -> io::Result<()>>(
+    reader: &mut R,
+    line: &mut T,
+    mut judge: F,
+) -> io::Result<()>
+    requires { F.IsAlwaysCallable judge }
+    ensures { OnOk result ((last : F) × ChangesLines F.FnMut T.anew T.after judge last) }
+{
+    let mut input = Input::open();
+    for turn in 0..usize::MAX {
+        let whole = input.line(reader, line)?;
+        if !whole {
             return Ok(());
         }
         judge(line)?;

@@ -21,6 +21,5 @@ pub fn prepare(table: &mut [usize; NUMBERS])
 pub fn is_untouched(table: &[usize; NUMBERS], from: usize) -> bool
     ensures { (result ≡ true → Untouched table.now from numbers) × (Untouched table.now from numbers → result ≡ true) }
 {
-    let mut numbers = table.iter().enumerate().skip(from);
-    numbers.all(|(i, number)| *number == UNTOUCHED + i)
+    (from..NUMBERS).all(|i| table[i] == UNTOUCHED + i)
 }

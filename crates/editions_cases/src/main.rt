@@ -2,7 +2,7 @@
 //
 //     EDITION/NUMBERS:OCTETS
 //
-// as the crate `lines` says, and has no list: the table, which is prepared for each reading, stands for one. If no edition is named, the batch
+// as the crate `lines` says, and has no list: the room of one is the table, which is prepared for each reading. If no edition is named, the batch
 // is read in edition 1 and then in edition 2. NUMBERS numbers of the table are lent, and without `/NUMBERS` all of them. The answer is one of
 //
 //     0 COUNT         accepted; below it a line for each row, if there are at most 60: kind, first byte, whole length, parent's row, content's
@@ -13,7 +13,7 @@
 // refusal, and one after the rows at an acceptance.
 #![tactic(auto)]
 
-use cases::input::for_each_line;
+use cases::input::for_each_line_mut;
 use cases::table::{NUMBERS, is_untouched, prepare};
 use crmf::rows::WIDTH;
 use der::refusal::Refused;
@@ -53,32 +53,28 @@ fn write_table(page: &mut Page, table: &[usize; NUMBERS], count: usize) {
 }
 
 // Judges a line in one edition, with as many numbers of the table lent as the line says, or all of them.
-fn judge(page: &mut Page, edition: usize, line: &Line, table: &mut [usize; NUMBERS]) {
-    prepare(table);
+fn judge(page: &mut Page, edition: usize, line: &mut Line) {
+    prepare(&mut line.list);
     let lent = line.heading.number.unwrap_or(NUMBERS).min(NUMBERS);
-    let found = read(edition, line.octets(), &mut table[..lent]);
+    let table = &mut line.list[..];
+    let found = read(edition, line.case.octets(), &mut table[..lent]);
     write_answers(page, found, accept(edition, line.octets()));
-    write_table(page, table, found.unwrap_or(0));
+    write_table(page, &line.list, found.unwrap_or(0));
 }
 
 // Judges a line in the edition that it names, or in both.
-fn judge_line(
-    rt: &impl Print,
-    line: &Line,
-    table: &mut [usize; NUMBERS],
-    octets: &mut [u8; PAGE],
-) -> io::Result<()> {
-    line.heading.in_editions(RFC2511, RFC4211, |edition| {
+fn judge_line(rt: &impl Print, line: &mut Line, octets: &mut [u8; PAGE]) -> io::Result<()> {
+    let heading = line.heading;
+    heading.in_editions(RFC2511, RFC4211, |edition| {
         let mut page = Page::new(octets);
-        judge(&mut page, edition, line, table);
+        judge(&mut page, edition, line);
         rt.write_all(page.written())
     })
 }
 
 fn main(rt: HostRuntime) -> io::Result<()> {
-    let mut table = [0usize; NUMBERS];
     let mut page = [0u8; PAGE];
-    for_each_line(&mut rt.stdin(), &mut Line::start(), |line| {
-        judge_line(&rt, line, &mut table, &mut page)
+    for_each_line_mut(&mut rt.stdin(), &mut Line::start(), |line| {
+        judge_line(&rt, line, &mut page)
     })
 }

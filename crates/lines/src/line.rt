@@ -1,5 +1,6 @@
 // A line: a heading, the numbers of its list, and the octets of a case.
 ghost use Rattle.std.specs.Prelude.{◌≡◌, take};
+ghost use Rattle.std.specs.List.{fold};
 ghost use Rattle.lines.specs.Line.{blank_line, fresh_line, line_next};
 
 use crate::heading::{Heading, Part};
@@ -8,12 +9,12 @@ use cases::input::Reading;
 use cases::table::NUMBERS;
 
 // A line as far as it has been read.
-#[derive(Drop)]
+#[derive(Clone, Copy)]
 pub struct Line {
     pub heading: Heading,
-    // No Vec: reading a character can't fail.
-    list: [usize; NUMBERS],
-    case: Case,
+    // No Vec: reading a character can't fail. A program that has read the list may use its room as a table.
+    pub list: [usize; NUMBERS],
+    pub case: Case,
 }
 
 impl Line {
@@ -65,5 +66,19 @@ impl Reading for Line {
             return self.case.read(c);
         }
         self.heading.read(c, &mut self.list);
+    }
+
+    // Reads characters, one after the other: those of the octets all in one call.
+    fn read_all(&mut self, text: &[u8])
+        ensures { self.new ≡ fold line_next self.old text.now }
+    {
+        let mut rest = text;
+        while let Some((c, more)) = rest.split_first() {
+            if self.heading.part == Part::Octets {
+                return self.case.read_all(rest);
+            }
+            self.read(*c);
+            rest = more;
+        }
     }
 }

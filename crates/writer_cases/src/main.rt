@@ -13,7 +13,7 @@
 #![tactic(auto)]
 
 use cases::case::octets;
-use cases::input::for_each_line;
+use cases::input::for_each_line_mut;
 use cases::table::NUMBERS;
 use crmf::rows::WIDTH;
 use editions::edition::{RFC2511, RFC4211};
@@ -50,8 +50,7 @@ fn prepare(output: &mut [u8; OUTPUT]) {
 
 // Whether the output's octets from a place on are as they were beforehand.
 fn is_untouched(output: &[u8; OUTPUT], from: usize) -> bool {
-    let mut octets = output.iter().enumerate().skip(from);
-    octets.all(|(i, octet)| *octet == before(i))
+    (from..OUTPUT).all(|i| output[i] == before(i))
 }
 
 // The sum of two numbers by the modulus.
@@ -91,46 +90,43 @@ fn judge_draft(
     }
 }
 
-// Judges a line in one edition: its draft, or the rows that a reading of its octets shows, unless they are refused.
-fn judge(
-    page: &mut Page,
-    edition: usize,
-    line: &Line,
-    rows: &mut [usize; NUMBERS],
-    output: &mut [u8; OUTPUT],
-) {
+// Judges a line in one edition: its draft, or the rows that a reading of its octets shows, unless they are refused. The rows are written where
+// the draft would be.
+fn judge(page: &mut Page, edition: usize, line: &mut Line, output: &mut [u8; OUTPUT]) {
     if line.heading.listed {
-        return judge_draft(page, edition, line.numbers(), line, output);
+        let drafted: &Line = line;
+        return judge_draft(page, edition, drafted.numbers(), drafted, output);
     }
-    let found = read(edition, line.octets(), rows);
+    let rows = &mut line.list[..];
+    let found = read(edition, line.case.octets(), rows);
     let Ok(count) = found else {
         return page.outcome(found);
     };
+    let shown: &Line = line;
     let numbers = WIDTH * count.min(ROWS);
-    judge_draft(page, edition, &rows[..numbers], line, output);
+    judge_draft(page, edition, &shown.list[..numbers], shown, output);
 }
 
 // Judges a line in the edition that it names, or in both.
 fn judge_line(
     rt: &impl Print,
-    line: &Line,
-    rows: &mut [usize; NUMBERS],
+    line: &mut Line,
     output: &mut [u8; OUTPUT],
     octets: &mut [u8; PAGE],
 ) -> io::Result<()> {
-    line.heading.in_editions(RFC2511, RFC4211, |edition| {
+    let heading = line.heading;
+    heading.in_editions(RFC2511, RFC4211, |edition| {
         let mut page = Page::new(octets);
-        judge(&mut page, edition, line, rows, output);
+        judge(&mut page, edition, line, output);
         page.character(b'\n');
         rt.write_all(page.written())
     })
 }
 
 fn main(rt: HostRuntime) -> io::Result<()> {
-    let mut rows = [0usize; NUMBERS];
     let mut output = [0u8; OUTPUT];
     let mut page = [0u8; PAGE];
-    for_each_line(&mut rt.stdin(), &mut Line::start(), |line| {
-        judge_line(&rt, line, &mut rows, &mut output, &mut page)
+    for_each_line_mut(&mut rt.stdin(), &mut Line::start(), |line| {
+        judge_line(&rt, line, &mut output, &mut page)
     })
 }

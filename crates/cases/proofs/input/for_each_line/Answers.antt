@@ -10,6 +10,6 @@ loop-turn-preserved g c =
       (
         done.0 ++ (c.line.new.line ∷ []),
         FoldsTo-push _ _ done.0 _ c.line.new.line _ done.1
-            ((c.loop-turn.line, c.in_ok-line.ensures (search rules)), record { shown = _; shows = refl; called = c.in_ok-judge.ensures }),
+            ((c.loop-turn.line, c.in_ok-line.ensures.whole (search rules)), record { shown = _; shows = refl; called = c.in_ok-judge.ensures }),
       ),
     )
