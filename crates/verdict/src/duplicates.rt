@@ -1,5 +1,5 @@
 // The search for two messages with the same certReqId (SPECIFICATION 8).
-ghost use Rattle.std.specs.Prelude.{◌≤◌, ◌≡◌, false, length, option_map, take};
+ghost use Rattle.std.specs.Prelude.{◌-◌, ◌≤◌, ◌≡◌, true, false, length, option_map, take, drop};
 ghost use Rattle.std.proofs.Math.Seq.{slice};
 ghost use Rattle.verdict.specs.meaning.Duplicates.{signed};
 ghost use Rattle.verdict.specs.meaning.Searches.{Searches};
@@ -136,9 +136,10 @@ fn first_pair(ids: &[ReqId]) -> Option<Pair>
     pair
 }
 
-// How many positions at the front are passed over, eight at once, since none of them has this certReqId.
+// How many positions at the front are passed over: eight at once, as long as eight are left and none of them has this certReqId.
 fn passed(id: ReqId, ids: &[ReqId]) -> usize
-    ensures { (result ≤ length ids.now) × (is_among id.0 (numbers_of (take result ids.now)) ≡ false) }
+    ensures without { (result ≤ length ids.now) × (is_among id.0 (numbers_of (take result ids.now)) ≡ false) }
+    ensures most { EIGHT ≤ length ids.now - result → is_among id.0 (numbers_of (take EIGHT (drop result ids.now))) ≡ true }
 {
     let mut rest = ids;
     while let Some((eight, more)) = rest.split_first_chunk::<EIGHT>() {

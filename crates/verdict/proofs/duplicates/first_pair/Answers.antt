@@ -13,10 +13,10 @@ loop-earlier-init c =
     let ids = c.args.ids.now in
     let p = c.passed-earlier in
     let later = c.pair.later in
-    let within : p.result ≤ later = omega (arith, p.ensures.0, length-take-le later ids (omega (arith, c.pair-test.true))) in (
+    let within : p.result ≤ later = omega (arith, p.ensures.without.0, length-take-le later ids (omega (arith, c.pair-test.true))) in (
       c.pair.invariant.0,
       within,
-      ap (λ (l : List ReqId). is_among (at ids later) (numbers_of l)) (sym (take-take p.result later ids within)) ∙ p.ensures.1,
+      ap (λ (l : List ReqId). is_among (at ids later) (numbers_of l)) (sym (take-take p.result later ids within)) ∙ p.ensures.without.1,
     )
 
 pub loop-earlier-preserved : goal.loop-earlier-preserved

@@ -27,6 +27,3 @@ loop-eight-smaller c = omega (arith, c.in-Some.ensures.cases)
 
 pub overflow_sub-result : goal.overflow_sub-result
 overflow_sub-result c = c.loop-eight.invariant.0
-
-pub returns : goal.returns
-returns c = (omega arith, c.loop-eight.invariant.2)
