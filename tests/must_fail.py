@@ -106,7 +106,7 @@ def parted(proof):
 def refusal(log, proof):
     """What a proof says to refuse a wrong program for a fact, or None."""
     if proof.startswith("fn "):
-        said = re.search(rf"^{re.escape(proof)}: no proof: (.*`search` did not prove .*`(?:\w+-)?(?:returns|loop-\w+-(?:init|preserved))[^`]*`.*)", log, re.MULTILINE)
+        said = re.search(rf"^{re.escape(proof)}: no proof: (.*`search` did not prove .*`(?:\w+-)?returns[^`]*`.*)", log, re.MULTILINE)
         return said and said[1]
     file, declared = parted(proof)
     return next((f"`{by}`: {words}" for where, by, words in facts(log) if where == file and declared in ("", by)), None)

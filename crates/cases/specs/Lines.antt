@@ -20,7 +20,7 @@ JudgesLine {S} judging anew after judge line next = ((old : S) × ReadsLine afte
 abbrev pub JudgesLines : {S F E : Type 0} → Mut F (Bor S × Unit {0}) (Result (Unit {0}) E) → (S → S) → (S → ℕ → S) → F → F → Type 0
 JudgesLines {S} judging anew after judge last = (lines : List S) × FoldsTo (JudgesLine judging anew after) judge lines last
 
--- The same of a judge that may change what a line is read into: whatever it leaves begins anew before the next line.
+-- the same of a judge that may change what a line is read into; nothing is said of what it leaves
 abbrev pub ChangesLine : {S F E : Type 0} → Mut F (MutBor S × Unit {0}) (Result (Unit {0}) E × (MutBor S × Unit {0})) → (S → S) → (S → ℕ → S) → F → S → F
     → Type 0
 ChangesLine {S} judging anew after judge line next = ((old : S) × ReadsLine after (anew old) line) × ((left : S) × CalledAtMut judging judge line (Ok tt) next left)
