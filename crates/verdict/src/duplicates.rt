@@ -1,5 +1,5 @@
 // The search for two messages with the same certReqId (SPECIFICATION 8).
-ghost use Rattle.std.specs.Prelude.{◌-◌, ◌≤◌, ◌≡◌, true, false, length, option_map, take, drop};
+ghost use Rattle.std.specs.Prelude.{◌-◌, ◌%◌, ◌≤◌, ◌≡◌, true, false, length, option_map, take, drop};
 ghost use Rattle.std.proofs.Math.Seq.{slice};
 ghost use Rattle.verdict.specs.meaning.Duplicates.{signed};
 ghost use Rattle.verdict.specs.meaning.Searches.{Searches};
@@ -139,6 +139,7 @@ fn first_pair(ids: &[ReqId]) -> Option<Pair>
 // How many positions at the front are passed over: eight at once, as long as eight are left and none of them has this certReqId.
 fn passed(id: ReqId, ids: &[ReqId]) -> usize
     ensures without { (result ≤ length ids.now) × (is_among id.0 (numbers_of (take result ids.now)) ≡ false) }
+    ensures eights { result % EIGHT ≡ 0 }
     ensures most { EIGHT ≤ length ids.now - result → is_among id.0 (numbers_of (take EIGHT (drop result ids.now))) ≡ true }
 {
     let mut rest = ids;
