@@ -37,6 +37,6 @@ pub reads_run : {S : Type 0} (after : S → ℕ → S) (start before end : S) (i
 reads_run after start before end input next read run =
     let text = between input.at next.at input.text in (
       read.0 ++ text,
-      All-append (λ b. b ≡ 0x0A → ⊥) read.0 text read.1 (part_plain input.text input.at next.at run.run.no_end),
+      All-append (λ b. b ≡ 0x0A → ⊥) read.0 text read.1 (part_plain input.text input.at next.at run.run.0.no_end),
       run.read ∙ ap (λ s. fold after s text) read.2 ∙ sym (fold-append after start read.0 text),
     )

@@ -44,8 +44,12 @@ pub record IsRun (input : Input) (end : ℕ) : Type 0 where
   pub inside : input.at < end → (end ≤ input.read) × (end ≤ most)
   pub no_end : (i : ℕ) → input.at ≤ i → i < end → get_or input.text i 0 ≡ 0x0A → ⊥
 
--- such characters are read one after the other, and what follows them is next
+-- the longest such run: a line ends at the place, or no character is left there
+abbrev pub LongestRun : Input → ℕ → Type 0
+LongestRun input end = IsRun input end × (end < input.read → end < most → get_or input.text end 0 ≡ 0x0A)
+
+-- the characters of it are read one after the other, and what follows them is next
 pub record ReadsRun {S : Type 0} (after : S → ℕ → S) (before : Input) (start : S) (next : Input) (line : S) : Type 0 where
-  pub run : IsRun before next.at
+  pub run : LongestRun before next.at
   pub read : line ≡ fold after start (between before.at next.at before.text)
   pub kept : (next.text ≡ before.text) × (next.read ≡ before.read)

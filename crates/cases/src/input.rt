@@ -2,7 +2,7 @@
 ghost use Rattle.std.specs.Prelude.{ℕ, ◌≡◌, true, false, IfOk, OnErr, OnOk};
 ghost use Rattle.std.specs.Io.KnownBytes.{Keeps};
 ghost use Rattle.std.specs.List.{fold};
-ghost use Rattle.cases.specs.Input.{opened, taken, Found, Left, Next, AtEnd, IsRun, ReadsRun};
+ghost use Rattle.cases.specs.Input.{opened, taken, Found, Left, Next, AtEnd, LongestRun, ReadsRun};
 ghost use Rattle.cases.specs.Lines.{ReadsOn, ReadsLine, JudgesLines, ChangesLines};
 
 use std::io;
@@ -102,7 +102,7 @@ impl Input {
 
     // The place of the next line's end in the text, or of the text's end.
     fn run_end(&self) -> usize
-        ensures { IsRun self.now result }
+        ensures { LongestRun self.now result }
     {
         let last = self.read.min(TEXT);
         let mut end = self.at;
